@@ -1,0 +1,151 @@
+-- The room of document 01's limits: every graph of simplification and of cleanup has at most 10,240 vertices and 16,384 edges.
+-- Assumes nothing.
+use Prim.Native.Nat.{ℕ, zero, suc, _≤_, _<_}
+use native.Mathlib.Omega.{arith}
+use mathlib.Core.Path.{_≡_, refl, ap, _∙_}
+use mathlib.Core.Bool.{Bool, true}
+use mathlib.Core.Option.{Option, none, some}
+use mathlib.Core.List.{List, [], _∷_, List·Memᴰ·not-nil, List·Memᴰ·eq-of-singleton}
+use lib.ListN.{length}
+use Rattle.defs.specs.Lists.{keepAt, bit}
+use Rattle.defs.specs.SeqGraph.{Edge, Graph, nodeCount, compactVertices}
+use Rattle.defs.specs.Zip.{Work, zipLinearChains}
+use Rattle.defs.specs.Simplify.{sequenceBytes, emptyVertices, simplifyGraphFull}
+use Rattle.defs.specs.Cleanup.{beforeChoice, removeSingletonOrphanVertices, referenceSourceVertex, referenceSinkVertex, removeOrphans, removeVerticesNotConnectedToRef, choiceGraph, removePathsNotConnectedToRef, withDummyVertex, afterChoice, cleanupSeqGraph}
+use Rattle.laws.proofs.Walks.{byTest}
+use Rattle.laws.proofs.ListLaws.{keepAt-yes, keepAt-no}
+use Rattle.laws.proofs.Counts.{total, heft, bit-le}
+use Rattle.laws.proofs.Fuel.{Good}
+use Rattle.laws.proofs.Whole.{byList}
+use Rattle.laws.proofs.Branching.{sumTo, sum-le, sinks, ends, branching, branching-is, branching-restrict, surplus-branching}
+use Rattle.laws.proofs.Measures.{weight, load, bytes-is, weight-is, Tame}
+use Rattle.laws.proofs.Bound.{begun, zip-paid, simplify-tame, simplify-fits, Small, Fits, small-fits}
+use Rattle.laws.proofs.Cleaned.{restrict-good, orphans-keep, connected-keeps, sink-nil, sink-one, sink-more}
+
+-- a graph known by S, bytes and N: what is left when vertices go
+pub record Narrow (g : Graph) : Type 0 where
+  pub good : Good g
+  pub branches : branching g ≤ 4096
+  pub few : sequenceBytes (g .verts) ≤ 8192
+  pub size : weight g ≤ 10240
+
+pub narrow-small : (g : Graph) → Narrow g → Small g
+unfolding load
+narrow-small g h = record { surplus = omega (arith, surplus-branching g (h .good .0 .bounded), h .branches, h .few); size = h .size }
+
+pub narrow-fits : (g : Graph) → Narrow g → Fits g
+narrow-fits g h = small-fits g (h .good) (narrow-small g h)
+
+pub narrow-tame : {g g′ : Graph} → Narrow g → Tame g g′ → Narrow g′
+narrow-tame h t = record { good = t .good; branches = omega (arith, h .branches, t .branches); few = omega (arith, h .few, t .fewer); size = omega (arith, h .size, t .light) }
+
+total-keepAt : (f : List ℕ → ℕ) (p : ℕ → Bool) (i : ℕ) (xs : List (List ℕ)) → total f (keepAt p i xs) ≤ total f xs
+unfolding total keepAt
+total-keepAt f p i [] = omega arith
+total-keepAt f p i (x ∷ xs) = byTest (p i)
+    (λ t. rw (keepAt-yes p i x xs t) (omega (arith, total-keepAt f p (suc i) xs)))
+    (λ t. rw (keepAt-no p i x xs t) (omega (arith, total-keepAt f p (suc i) xs)))
+
+pub narrow-restrict : (p : ℕ → Bool) (g : Graph) → Narrow g → Narrow (compactVertices p g)
+narrow-restrict p g h = record {
+  good = restrict-good p g (h .good);
+  branches = omega (arith, h .branches, branching-restrict p g);
+  few = omega (arith, h .few, bytes-is (g .verts), bytes-is ((compactVertices p g) .verts), less length);
+  size = omega (arith, h .size, weight-is g, weight-is (compactVertices p g), less heft);
+}
+  where
+    less : (f : List ℕ → ℕ) → total f ((compactVertices p g) .verts) ≤ total f (g .verts)
+    less f = unfold compactVertices in (total-keepAt f p 0 (g .verts))
+
+-- cleanup, step by step
+pub zip-narrow : (g : Graph) → Narrow g → Narrow ((zipLinearChains (begun g)) .graph)
+zip-narrow g h = narrow-tame h ((zip-paid (begun g) (h .good)) .tame)
+
+pub orphans-narrow : (fuel : ℕ) (g : Graph) → Narrow g → Narrow (removeOrphans fuel g)
+orphans-narrow = orphans-keep Narrow narrow-restrict
+
+pub connected-narrow : (g : Graph) → Narrow g → Narrow (removeVerticesNotConnectedToRef g)
+connected-narrow = connected-keeps Narrow narrow-restrict
+
+pub simplify-narrow : (g : Graph) → Narrow g → Narrow ((simplifyGraphFull 10 g) .graph)
+simplify-narrow g h = narrow-tame h (simplify-tame 10 (omega arith) g (h .good))
+
+pub choice-narrow : (g : Graph) → Narrow g → Narrow (choiceGraph g)
+unfolding choiceGraph beforeChoice removeSingletonOrphanVertices
+choice-narrow g h =
+    let g₁ = (zipLinearChains (begun g)) .graph in
+    let g₂ = removeOrphans (suc (nodeCount g₁)) g₁ in
+    simplify-narrow (removeVerticesNotConnectedToRef g₂) (connected-narrow g₂ (orphans-narrow (suc (nodeCount g₁)) g₁ (zip-narrow g h)))
+
+pub between-narrow : (h : Graph) (s t : ℕ) → Narrow h → Narrow (removePathsNotConnectedToRef h s t)
+unfolding removePathsNotConnectedToRef
+between-narrow h s t k = narrow-restrict _ h k
+
+-- the empty second vertex
+two-fit : (k : ℕ) (v : List ℕ) → Fits record { k = k; verts = v ∷ [] ∷ []; edges = record { from = 0; to = 1; support = 0; isRef = true } ∷ [] }
+unfolding nodeCount
+two-fit k v = record {
+  vertices = omega arith;
+  edges = omega arith;
+  single = (record { bounded = λ e m. bound e (List·Memᴰ·eq-of-singleton m); rank = λ v. v; ranks = λ a b l. rise a b (List·Memᴰ·eq-of-singleton (l .1)) (l .2) (l .3) }, (λ l. List·Memᴰ·not-nil (l .1), tt));
+}
+  where
+    bound : (e : Edge) → e ≡ record { from = 0; to = 1; support = 0; isRef = true } → (e .from < 2) × (e .to < 2)
+    bound e i = (omega (arith, ap (λ (x : Edge). x .from) i), omega (arith, ap (λ (x : Edge). x .to) i))
+
+    rise : (a b : ℕ) {e : Edge} → e ≡ record { from = 0; to = 1; support = 0; isRef = true } → e .from ≡ a → e .to ≡ b → a < b
+    rise a b {e} i p q = omega (arith, ap (λ (x : Edge). x .from) i, ap (λ (x : Edge). x .to) i)
+
+pub withSink-fits : (g : Graph) → Fits g → Fits (withDummyVertex g)
+withSink-fits g h = byList (g .verts)
+    (λ t. rw (sink-nil g t) h)
+    (λ v vs t. byList vs
+    (λ u. rw (sink-one g v (t ∙ ap (λ l. v ∷ l) u)) (two-fit (g .k) v))
+    (λ w ws u. rw (sink-more g v w ws (t ∙ ap (λ l. v ∷ l) u)) h))
+
+finish-fits : (h : Work) (a b : Option ℕ) → Narrow (h .graph) → Fits ((afterChoice h a b) .graph)
+unfolding afterChoice
+finish-fits h none b k = narrow-fits (h .graph) k
+finish-fits h (some s) none k = narrow-fits (h .graph) k
+finish-fits h (some s) (some t) k = withSink-fits ((simplifyGraphFull 10 (removePathsNotConnectedToRef (h .graph) s t)) .graph) (narrow-fits _ (simplify-narrow (removePathsNotConnectedToRef (h .graph) s t) (between-narrow (h .graph) s t k)))
+
+pub cleanup-fits : (g : Graph) → Narrow g → Fits ((cleanupSeqGraph g) .graph)
+unfolding cleanupSeqGraph choiceGraph
+cleanup-fits g h = finish-fits (beforeChoice g) (referenceSourceVertex (choiceGraph g)) (referenceSinkVertex (choiceGraph g)) (choice-narrow g h)
+
+-- document 01's limits on a record
+pub record Limits (g : Graph) : Type 0 where
+  pub vertices : nodeCount g ≤ 2048
+  pub edges : length (g .edges) ≤ 4096
+  pub few : sequenceBytes (g .verts) ≤ 8192
+
+empties-le : (vs : List (List ℕ)) → emptyVertices vs ≤ length vs
+unfolding emptyVertices
+empties-le [] = omega arith
+empties-le ([] ∷ vs) = omega (arith, empties-le vs)
+empties-le ((x ∷ xs) ∷ vs) = omega (arith, empties-le vs)
+
+sum-ones : (n : ℕ) → sumTo (λ _. 1) n ≡ n
+unfolding sumTo
+sum-ones zero = refl
+sum-ones (suc n) = omega (arith, sum-ones n)
+
+sinks-le : (g : Graph) → sinks g ≤ nodeCount g
+unfolding sinks
+sinks-le g = omega (arith, sum-le (λ v. bit (ends g v)) (λ _. 1) (nodeCount g) (λ v _. bit-le (ends g v)), sum-ones (nodeCount g))
+
+pub limits-narrow : (g : Graph) → Good g → Limits g → Narrow g
+unfolding weight nodeCount
+limits-narrow g h l = record {
+  good = h;
+  branches = omega (arith, branching-is g (h .0 .bounded), sinks-le g, l .edges);
+  few = l .few;
+  size = omega (arith, empties-le (g .verts), l .vertices, l .few);
+}
+
+-- both calls, from the limits
+pub simplify-room : (g : Graph) → Good g → Limits g → Fits ((simplifyGraphFull 10 g) .graph)
+simplify-room g h l = simplify-fits 10 (omega arith) g h (narrow-small g (limits-narrow g h l))
+
+pub cleanup-room : (g : Graph) → Good g → Limits g → Fits ((cleanupSeqGraph g) .graph)
+cleanup-room g h l = cleanup-fits g (limits-narrow g h l)
