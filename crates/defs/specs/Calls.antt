@@ -1,0 +1,157 @@
+-- The public calls: of each its whole answer and the lent output at exit, from the record, the arguments, the room and the tally.
+-- Assumes nothing.
+use Prim.Native.Nat.{ℕ, zero, suc}
+use mathlib.Core.Bool.{Bool, true, false, cond, not}
+use mathlib.Core.Option.{Option, none, some}
+use mathlib.Core.List.{List, [], _∷_, _++_}
+use lib.Dec.{eqb, ltb, leb}
+use lib.ListN.{length, drop}
+use Rattle.defs.specs.SeqGraph.{Graph, vertexSequence, saturatingAdd}
+use Rattle.defs.specs.Simplify.{sequenceBytes, simplifyGraphFull, minTailSuffixLen, endNumber}
+use Rattle.defs.specs.Cleanup.{Cleaned, statusNumber, cleanupSeqGraph, cleanNonRefPaths}
+use Rattle.defs.specs.Record.{sequenceGraph, verticesOf, encode, decode}
+use Rattle.defs.specs.Refusals.{Cause, refusalOf, Takes, kmerOnly, sequenceOnly, bothKinds, recordCauses}
+use Rattle.defs.specs.Assembly.{fromAssemblyGraph}
+use Rattle.defs.specs.Paths.{isPathOf, pathBasesBytes, referencePathBytes}
+
+-- What a call makes of its input: a refusal, or the bytes of its result.
+pub data Response : Type 0 where
+  refused : ℕ → Response
+  accepted : List ℕ → Response
+
+unfoldable pub numberOf : Response → ℕ
+numberOf (refused n) = n
+numberOf (accepted r) = 0
+
+-- the length, and any other result field, is 0 when refused
+unfoldable pub lengthOf : Response → ℕ
+lengthOf (refused n) = 0
+lengthOf (accepted r) = length r
+
+unfoldable pub fieldOf : Response → ℕ → ℕ
+fieldOf (refused n) x = 0
+fieldOf (accepted r) x = x
+
+-- the lent output at exit: as it was when refused; its first bytes replaced by the result when accepted
+unfoldable pub writtenOf : Response → List ℕ → List ℕ
+writtenOf (refused n) out = out
+writtenOf (accepted r) out = r ++ drop (length r) out
+
+-- The tally.
+pub record Tally : Type 0 where
+  pub answered : ℕ
+  pub refused : ℕ
+  pub rewrites : ℕ
+
+unfoldable pub tallied : Response → ℕ → Tally → Tally
+tallied (refused n) rewrites t = record { answered = t .answered; refused = saturatingAdd (t .refused) 1; rewrites = t .rewrites }
+tallied (accepted r) rewrites t = record { answered = saturatingAdd (t .answered) 1; refused = t .refused; rewrites = saturatingAdd (t .rewrites) rewrites }
+
+-- The first cause present refuses; then 11, the output is shorter than the result.
+unfoldable pub fits : ℕ → List ℕ → Response
+fits room result = elim (ltb room (length result)) [ true ↦ refused 11 | false ↦ accepted result ]
+
+unfoldable pub respond : List Cause → ℕ → List ℕ → Response
+respond causes room result = elim (refusalOf causes) [ zero ↦ fits room result | suc n ↦ refused (suc n) ]
+
+-- number, length and tally: the answer of conversion, of clean_non_ref_paths and of the two string calls
+pub record Answer : Type 0 where
+  pub number : ℕ
+  pub length : ℕ
+  pub tally : Tally
+
+unfoldable pub answer : Response → Tally → Answer
+answer r t = record { number = numberOf r; length = lengthOf r; tally = tallied r 0 t }
+
+-- vertex_sequence: the number for the lent cell, and the part handed back
+unfoldable pub vertexSequenceNumber : List ℕ → ℕ → ℕ
+vertexSequenceNumber bs v = refusalOf (recordCauses bothKinds bs ++ (record { number = 9; present = leb (verticesOf bs) v } ∷ []))
+
+unfoldable pub vertexSequencePart : List ℕ → ℕ → List ℕ
+vertexSequencePart bs v = cond (eqb (vertexSequenceNumber bs v) 0) (vertexSequence (decode bs) v) []
+
+-- from_assembly_graph
+unfoldable pub fromAssemblyGraphResponse : List ℕ → ℕ → Response
+fromAssemblyGraphResponse bs room =
+    let g = fromAssemblyGraph (decode bs) in
+    respond (recordCauses kmerOnly bs ++ (record { number = 8; present = ltb 8192 (sequenceBytes (g .verts)) } ∷ [])) room (encode sequenceGraph 0 g)
+
+unfoldable pub fromAssemblyGraphAnswer : List ℕ → ℕ → Tally → Answer
+fromAssemblyGraphAnswer bs room t = answer (fromAssemblyGraphResponse bs room) t
+
+-- simplify_graph
+unfoldable pub simplifyGraphResponse : List ℕ → ℕ → Response
+simplifyGraphResponse bs room =
+    respond (recordCauses sequenceOnly bs) room (encode sequenceGraph 0 ((simplifyGraphFull minTailSuffixLen (decode bs)) .graph))
+
+pub record SimplifyAnswer : Type 0 where
+  pub number : ℕ
+  pub length : ℕ
+  pub rewrites : ℕ
+  pub rounds : ℕ
+  pub end : ℕ
+  pub tally : Tally
+
+unfoldable pub simplifyGraphAnswer : List ℕ → ℕ → Tally → SimplifyAnswer
+simplifyGraphAnswer bs room t =
+    let s = simplifyGraphFull minTailSuffixLen (decode bs) in
+    let r = simplifyGraphResponse bs room in
+    record {
+      number = numberOf r;
+      length = lengthOf r;
+      rewrites = fieldOf r (s .rewrites);
+      rounds = fieldOf r (s .rounds);
+      end = fieldOf r (endNumber (s .end));
+      tally = tallied r (s .rewrites) t;
+    }
+
+-- cleanup_seq_graph
+unfoldable pub cleanupSeqGraphResponse : List ℕ → ℕ → Response
+cleanupSeqGraphResponse bs room =
+    let c = cleanupSeqGraph (decode bs) in
+    respond (recordCauses sequenceOnly bs) room (encode sequenceGraph (statusNumber (c .status)) (c .graph))
+
+pub record CleanupAnswer : Type 0 where
+  pub number : ℕ
+  pub length : ℕ
+  pub status : ℕ
+  pub tally : Tally
+
+unfoldable pub cleanupSeqGraphAnswer : List ℕ → ℕ → Tally → CleanupAnswer
+cleanupSeqGraphAnswer bs room t =
+    let c = cleanupSeqGraph (decode bs) in
+    let r = cleanupSeqGraphResponse bs room in
+    record { number = numberOf r; length = lengthOf r; status = fieldOf r (statusNumber (c .status)); tally = tallied r (c .rewrites) t }
+
+-- clean_non_ref_paths
+unfoldable pub cleanNonRefPathsResponse : List ℕ → ℕ → Response
+cleanNonRefPathsResponse bs room = respond (recordCauses sequenceOnly bs) room (encode sequenceGraph 0 (cleanNonRefPaths (decode bs)))
+
+unfoldable pub cleanNonRefPathsAnswer : List ℕ → ℕ → Tally → Answer
+cleanNonRefPathsAnswer bs room t = answer (cleanNonRefPathsResponse bs room) t
+
+-- reference_path_bytes: 10 where there is no reference path
+unfoldable pub isNothing : Option (List ℕ) → Bool
+isNothing none = true
+isNothing (some s) = false
+
+unfoldable pub bytesOrNone : Option (List ℕ) → List ℕ
+bytesOrNone none = []
+bytesOrNone (some s) = s
+
+unfoldable pub referencePathBytesResponse : List ℕ → ℕ → Response
+referencePathBytesResponse bs room =
+    let p = referencePathBytes (decode bs) in
+    respond (recordCauses sequenceOnly bs ++ (record { number = 10; present = isNothing p } ∷ [])) room (bytesOrNone p)
+
+unfoldable pub referencePathBytesAnswer : List ℕ → ℕ → Tally → Answer
+referencePathBytesAnswer bs room t = answer (referencePathBytesResponse bs room) t
+
+-- path_bases_bytes: 9 where the start or the list of edges is no path
+unfoldable pub pathBasesBytesResponse : List ℕ → ℕ → List ℕ → ℕ → Response
+pathBasesBytesResponse bs start edges room =
+    let g = decode bs in
+    respond (recordCauses sequenceOnly bs ++ (record { number = 9; present = not (isPathOf g start edges) } ∷ [])) room (pathBasesBytes g start edges)
+
+unfoldable pub pathBasesBytesAnswer : List ℕ → ℕ → List ℕ → ℕ → Tally → Answer
+pathBasesBytesAnswer bs start edges room t = answer (pathBasesBytesResponse bs start edges room) t

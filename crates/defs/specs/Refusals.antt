@@ -1,0 +1,92 @@
+-- The refusals that lie in the record, 1 to 7. A number is given when its cause is present and no lower one's is.
+-- Assumes nothing.
+use Prim.Native.Nat.{ℕ, _+_, _*_}
+use mathlib.Core.Bool.{Bool, true, false, _&&_, _||_, not}
+use mathlib.Core.List.{List, [], _∷_}
+use lib.Dec.{eqb, ltb, leb}
+use lib.ListN.{length, take}
+use Rattle.defs.specs.Lists.{anyOf, elemOf, sameList, upFrom, tab, sum}
+use Rattle.defs.specs.SeqGraph.{Edge, Graph, nodeCount, outgoingNodes, hasEnds}
+use Rattle.defs.specs.Cleanup.{forward, reached}
+use Rattle.defs.specs.Record.{mark, kindOf, statusOf, kOf, verticesOf, edgesOf, bytesOf, u32At, lengthsAt, edgesAt, bytesAt, wholeLength, lengthAt, edgeAt, flagAt, decode}
+
+pub record Cause : Type 0 where
+  pub number : ℕ
+  pub present : Bool
+
+-- the first cause that is present gives the number; 0 where none is
+unfoldable pub refusalOf : List Cause → ℕ
+refusalOf [] = 0
+refusalOf (c ∷ cs) = elim (c .present) [ true ↦ c .number | false ↦ refusalOf cs ]
+
+-- 1: under 32 bytes, or not the length it states
+unfoldable pub otherLength : List ℕ → Bool
+otherLength bs = ltb (length bs) 32 || not (eqb (u32At bs 28) (length bs))
+
+-- which kinds a call takes
+pub data Takes : Type 0 where
+  kmerOnly sequenceOnly bothKinds : Takes
+
+unfoldable pub takesKind : Takes → ℕ → Bool
+takesKind kmerOnly n = eqb n 0
+takesKind sequenceOnly n = eqb n 1
+takesKind bothKinds n = leb n 1
+
+-- 2: mark, kind for this call, or status (0 not cleaned, 1 just reference, 2 some variation; always 0 in kind 0)
+unfoldable pub wrongMark : Takes → List ℕ → Bool
+wrongMark t bs =
+    not (sameList (take 4 bs) mark) || (not (takesKind t (kindOf bs))
+    || (ltb 2 (statusOf bs) || (eqb (kindOf bs) 0 && not (eqb (statusOf bs) 0))))
+
+-- 3: a count or k past a limit
+unfoldable pub pastLimit : List ℕ → Bool
+pastLimit bs =
+    ltb (kOf bs) 2 || (ltb 128 (kOf bs) || (ltb 2048 (verticesOf bs) || (ltb 4096 (edgesOf bs)
+    || (eqb (kindOf bs) 1 && ltb 8192 (bytesOf bs)))))
+
+-- 4: offsets, whole length, lengths or byte count disagree
+unfoldable pub layoutDisagrees : List ℕ → Bool
+layoutDisagrees bs =
+    let v = verticesOf bs in
+    let e = edgesOf bs in
+    not (eqb (u32At bs 16) lengthsAt) || (not (eqb (u32At bs 20) (edgesAt v)) || (not (eqb (u32At bs 24) (bytesAt v e))
+    || (not (eqb (length bs) (wholeLength v e (bytesOf bs))) || (not (eqb (sum (tab v (lengthAt bs))) (bytesOf bs))
+    || (eqb (kindOf bs) 0 && anyOf (λ i. not (eqb (lengthAt bs i) (kOf bs))) (upFrom 0 v))))))
+
+-- 5: an edge end not below V, or a flag other than 0 and 1
+unfoldable pub badEdge : List ℕ → ℕ → Bool
+badEdge bs i = leb (verticesOf bs) ((edgeAt bs i) .from) || (leb (verticesOf bs) ((edgeAt bs i) .to) || ltb 1 (flagAt bs i))
+
+unfoldable pub anyBadEdge : List ℕ → Bool
+anyBadEdge bs = anyOf (badEdge bs) (upFrom 0 (edgesOf bs))
+
+-- 6: two edges with the same ends, or in kind 0 two equal k-mers
+unfoldable pub doubledEdge : List Edge → Bool
+doubledEdge [] = false
+doubledEdge (e ∷ es) = anyOf (hasEnds (e .from) (e .to)) es || doubledEdge es
+
+unfoldable pub equalKmers : List (List ℕ) → Bool
+equalKmers [] = false
+equalKmers (s ∷ ss) = anyOf (sameList s) ss || equalKmers ss
+
+unfoldable pub doubled : List ℕ → Bool
+doubled bs = doubledEdge (decode bs .edges) || (eqb (kindOf bs) 0 && equalKmers (decode bs .verts))
+
+-- 7: a cycle, a self edge included: a vertex that one of its followers reaches
+unfoldable pub hasCycle : Graph → Bool
+hasCycle g = anyOf (λ v. anyOf (λ w. elemOf v (reached forward g w)) (outgoingNodes g v)) (upFrom 0 (nodeCount g))
+
+-- the causes that lie in the record, in rising order
+unfoldable pub recordCauses : Takes → List ℕ → List Cause
+recordCauses t bs =
+    record { number = 1; present = otherLength bs }
+    ∷ record { number = 2; present = wrongMark t bs }
+    ∷ record { number = 3; present = pastLimit bs }
+    ∷ record { number = 4; present = layoutDisagrees bs }
+    ∷ record { number = 5; present = anyBadEdge bs }
+    ∷ record { number = 6; present = doubled bs }
+    ∷ record { number = 7; present = hasCycle (decode bs) }
+    ∷ []
+
+unfoldable pub recordRefusal : Takes → List ℕ → ℕ
+recordRefusal t bs = refusalOf (recordCauses t bs)
