@@ -1,0 +1,2 @@
+pub mod AdjLaws
+pub mod IndexLaws

@@ -1,0 +1,16 @@
+use native.Mathlib.Omega.{arith}
+use Prim.Native.Nat.{_+_, _*_}
+use borrow.Author.Needs.{needs}
+use Rattle.store.proofs.vertex_len.Statement.{statement}
+use Rattle.store.proofs.vertex_len.Tie as tie
+
+pub vertex-len-spec : {M : Type 1} → statement M
+vertex-len-spec =
+    tie.close
+    (tie.spec
+    (λ c. search needs)
+    (λ c. search needs)
+    (λ c. search needs)
+    (λ c. search needs)
+    (λ c. omega (arith, c .shared-slice-known .given (2 * c .before .args .v + 1)))
+    (λ c. search needs))

@@ -1,0 +1,106 @@
+// The graph in slices. Edges: four numbers each, from, to, support, flag. Vertices: two numbers each, where the sequence starts in the
+// pool and how long it is. The pool: the sequences' bytes. Only the functions here know where each number stands.
+ghost use mathlib.Core.Path.{_≡_};
+ghost use Prim.Native.Nat.{ℕ, _+_, _*_, _<_, _≤_, max};
+ghost use lib.ListN.{length, getD};
+ghost use Rattle.defs.specs.SeqGraph.{Edge, hasEnds, addOrUpdateEdge, saturatingAdd};
+ghost use Rattle.store.specs.Store.{edgeIn, edgesIn, putEdge, putVertex, Joinable, isSet};
+
+pub fn edge_from(es: &[u32], i: usize) -> u32
+    requires { ⌜ 4 * i + 4 ≤ length (now es) ⌝ }
+    ensures { λ r. ⌜ r ≡ getD (now (es .entry)) (4 * i) 0 ⌝ }
+{
+    es[4 * i]
+}
+
+pub fn edge_to(es: &[u32], i: usize) -> u32
+    requires { ⌜ 4 * i + 4 ≤ length (now es) ⌝ }
+    ensures { λ r. ⌜ r ≡ getD (now (es .entry)) (4 * i + 1) 0 ⌝ }
+{
+    es[4 * i + 1]
+}
+
+pub fn edge_support(es: &[u32], i: usize) -> u32
+    requires { ⌜ 4 * i + 4 ≤ length (now es) ⌝ }
+    ensures { λ r. ⌜ r ≡ getD (now (es .entry)) (4 * i + 2) 0 ⌝ }
+{
+    es[4 * i + 2]
+}
+
+pub fn edge_flag(es: &[u32], i: usize) -> u32
+    requires { ⌜ 4 * i + 4 ≤ length (now es) ⌝ }
+    ensures { λ r. ⌜ r ≡ getD (now (es .entry)) (4 * i + 3) 0 ⌝ }
+{
+    es[4 * i + 3]
+}
+
+pub fn put_edge(es: &mut [u32], i: usize, a: u32, b: u32, s: u32, r: u32)
+    requires { ⌜ 4 * i + 4 ≤ length (now es) ⌝ }
+    ensures { λ _. ⌜ now (es .exit) ≡ putEdge (now (es .entry)) i a b s r ⌝ }
+{
+    es[4 * i] = a;
+    es[4 * i + 1] = b;
+    es[4 * i + 2] = s;
+    es[4 * i + 3] = r;
+}
+
+pub fn vertex_start(vs: &[u32], v: u32) -> usize
+    requires { ⌜ 2 * v + 2 ≤ length (now vs) ⌝ }
+    ensures { λ r. ⌜ r ≡ getD (now (vs .entry)) (2 * v) 0 ⌝ }
+{
+    vs[2 * (v as usize)] as usize
+}
+
+pub fn vertex_len(vs: &[u32], v: u32) -> usize
+    requires { ⌜ 2 * v + 2 ≤ length (now vs) ⌝ }
+    ensures { λ r. ⌜ r ≡ getD (now (vs .entry)) (2 * v + 1) 0 ⌝ }
+{
+    vs[2 * (v as usize) + 1] as usize
+}
+
+pub fn put_vertex(vs: &mut [u32], v: usize, start: u32, len: u32)
+    requires { ⌜ 2 * v + 2 ≤ length (now vs) ⌝ }
+    ensures { λ _. ⌜ now (vs .exit) ≡ putVertex (now (vs .entry)) v start len ⌝ }
+{
+    vs[2 * v] = start;
+    vs[2 * v + 1] = len;
+}
+
+pub fn saturating_add(x: u32, y: u32) -> u32
+    ensures { λ r. ⌜ r ≡ saturatingAdd x y ⌝ }
+{
+    if 4294967295 - x < y {
+        4294967295
+    } else {
+        x + y
+    }
+}
+
+pub fn larger(x: u32, y: u32) -> u32
+    ensures { λ r. ⌜ r ≡ max x y ⌝ }
+{
+    if x < y { y } else { x }
+}
+
+// The edge from a to b stands at `at` and gains s and r; where `at` is m there is none, and one is added at the end. The number of edges.
+pub fn add_or_update_edge(
+    es: &mut [u32],
+    m: usize,
+    at: usize,
+    a: u32,
+    b: u32,
+    s: u32,
+    r: u32,
+) -> usize
+    requires { ⌜ Joinable m (now es) at a b ⌝ }
+    ensures { λ k. ⌜ (k ≤ m + 1) × (edgesIn k (now (es .exit)) ≡ addOrUpdateEdge a b s (isSet r) (edgesIn m (now (es .entry)))) ⌝ }
+{
+    if at < m {
+        let t = saturating_add(edge_support(es, at), s);
+        let f = larger(edge_flag(es, at), r);
+        put_edge(es, at, edge_from(es, at), edge_to(es, at), t, f);
+        return m;
+    }
+    put_edge(es, m, a, b, s, r);
+    m + 1
+}

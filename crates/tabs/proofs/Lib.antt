@@ -1,0 +1,2 @@
+pub mod Tabs
+pub mod ListTabs

@@ -1,0 +1,1 @@
+// Laws of lists by index alone: proofs/.
