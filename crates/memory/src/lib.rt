@@ -1,0 +1,15 @@
+// A graph held in slices, and the room that its rewrites need.
+
+// What stands beside the slices: the k-mer size, the numbers of vertices and edges, and how many bytes of the pool are in use.
+pub struct Held {
+    pub k: u32,
+    pub n: usize,
+    pub m: usize,
+    pub used: usize,
+}
+
+// A rewrite that was tried at a vertex: whether it was done, and the graph then.
+pub struct Tried {
+    pub done: bool,
+    pub held: Held,
+}
