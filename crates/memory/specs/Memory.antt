@@ -24,11 +24,12 @@ vertexRoom heads = length heads / 2
 abbrev pub edgeRoom : List ℕ → ℕ
 edgeRoom nexts = length nexts / 2
 
--- Twice as many vertices and edges while a rewrite has added its own and nothing has gone yet; the pool likewise.
+-- Twice as many vertices and edges while a rewrite has added its own and nothing has gone yet. The pool holds the sequences three times:
+-- as they are, a new one behind them, and the copy that packs them.
 pub record Room (es vs p heads nexts nodes map : List ℕ) : Type 0 where
   pub es-room : 8 * edgeRoom nexts ≤ length es
   pub vs-room : 4 * vertexRoom heads ≤ length vs
-  pub p-room : 2 * vertexRoom heads ≤ length p
+  pub p-room : 3 * vertexRoom heads ≤ length p
   pub nodes-room : edgeRoom nexts ≤ length nodes
   pub map-room : 2 * vertexRoom heads ≤ length map
   pub vertices-edges : vertexRoom heads ≤ edgeRoom nexts

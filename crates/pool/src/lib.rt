@@ -1,0 +1,44 @@
+// The bytes of the sequences: copying within the pool, and packing it.
+ghost use Prim.Native.Nat.{ℕ, _+_, _*_, _<_, _≤_};
+ghost use lib.ListN.{length, getD};
+ghost use Rattle.pool.specs.Pool.{Apart, Moved, Packable, Packed};
+
+// Copies n bytes from `from` on to `to` on. The two parts do not overlap.
+pub fn copy_within(p: &mut [u8], to: usize, from: usize, n: usize)
+    requires { ⌜ Apart (now p) to from n ⌝ }
+    ensures { λ _. ⌜ Moved (now (p .entry)) to from n (now (p .exit)) ⌝ }
+{
+    let mut i = 0;
+    while i < n {
+        p[to + i] = p[from + i];
+        i += 1;
+    }
+}
+
+// Copies the sequences of n vertices, in order, to `base` on, and notes where each then starts behind `base`; how many bytes they are.
+fn gather(vs: &mut [u32], n: usize, p: &mut [u8], base: usize) -> usize
+    requires { ⌜ Packable n (now vs) (now p) base ⌝ }
+    ensures { λ r. ⌜ Packed base n (now (vs .entry)) (now (p .entry)) r (now (vs .exit)) (now (p .exit)) ⌝ }
+{
+    let mut used = 0;
+    let mut v = 0;
+    while v < n {
+        let start = vs[2 * v] as usize;
+        let len = vs[2 * v + 1] as usize;
+        copy_within(p, base + used, start, len);
+        vs[2 * v] = used as u32;
+        used += len;
+        v += 1;
+    }
+    used
+}
+
+// Packs the sequences of n vertices to the front of the pool; how many bytes they are. The bytes from `base` on are scratch.
+pub fn pack(vs: &mut [u32], n: usize, p: &mut [u8], base: usize) -> usize
+    requires { ⌜ Packable n (now vs) (now p) base ⌝ }
+    ensures { λ r. ⌜ Packed 0 n (now (vs .entry)) (now (p .entry)) r (now (vs .exit)) (now (p .exit)) ⌝ }
+{
+    let used = gather(vs, n, p, base);
+    copy_within(p, 0, base, used);
+    used
+}

@@ -1,0 +1,130 @@
+"""Cases: a call's whole input with the model's whole answer, and the inputs to make them from.
+
+The layout of a case is set out in tools/make_vectors.py.
+"""
+import struct
+from collections import namedtuple
+
+import graphs
+from model import Tally, finish, outcome_of, vertex_sequence
+from sgr1 import CALLS, FROM_ASSEMBLY_GRAPH, MAX_U32, PATH_BASES_BYTES, SEQUENCE, VERTEX_SEQUENCE, encode
+
+LABEL = 7
+SEQUENCE_CALLS = [c for c in CALLS if c not in (VERTEX_SEQUENCE, FROM_ASSEMBLY_GRAPH)]
+
+Case = namedtuple("Case", "call start room tally record numbers answer")
+
+
+def frame(case):
+    a = case.answer
+    head = (case.call, case.start, case.room, *case.tally, a.number, a.length, *a.fields, *a.tally,
+            len(case.record), len(case.numbers), len(a.output))
+    body = struct.pack("<17I", *head) + case.record
+    body += struct.pack("<%dI" % len(case.numbers), *case.numbers) + a.output
+    return struct.pack("<I", len(body)) + body
+
+
+def label_frame(text):
+    body = struct.pack("<I", LABEL) + text.encode()
+    return struct.pack("<I", len(body)) + body
+
+
+# Rooms and tallies
+
+
+def random_tally(rng):
+    if rng.random() < 0.7:
+        return Tally(*(rng.randrange(1000) for _ in range(3)))
+    return Tally(*(rng.choice([0, MAX_U32, MAX_U32 - 1, MAX_U32 - 7]) for _ in range(3)))
+
+
+def rooms_for(rng, outcome, all_rooms):
+    """Of an accepted outcome: as long as the result, one shorter, longer, none; of a refused one any."""
+    if isinstance(outcome, int):
+        return [rng.choice([0, 1, 64, 1000])]
+    exact = len(outcome[0])
+    rooms = [exact, exact + rng.randint(1, 40)] + ([exact - 1, 0] if exact else [])
+    return rooms if all_rooms else [exact] if rng.random() < 0.7 else [rng.choice(rooms)]
+
+
+def cases_of(rng, call, record, start=0, numbers=(), all_rooms=False):
+    """The cases of one input: one, or one for each room."""
+    if call == VERTEX_SEQUENCE:
+        tally = Tally(0, 0, 0)
+        return [Case(call, start, 0, tally, record, (), vertex_sequence(record, start, tally))]
+    outcome = outcome_of(call, record, start, numbers)
+    found = []
+    for room in rooms_for(rng, outcome, all_rooms):
+        tally = random_tally(rng)
+        found.append(Case(call, start, room, tally, record, tuple(numbers), finish(outcome, room, tally)))
+    return found
+
+
+# Inputs of a graph's record
+
+
+def sequence_record(rng, graph):
+    return encode(SEQUENCE, rng.randrange(3), rng.choice([2, 10, 25, 128]), *graph)
+
+
+def random_walk(rng, graph):
+    """A start and the list of a path from it."""
+    sequences, edges = graph
+    followers = {}
+    for a, b, _, _ in edges:
+        followers.setdefault(a, []).append(b)
+    start = v = rng.randrange(len(sequences)) if sequences else 0
+    numbers = []
+    while v in followers and rng.random() < 0.85:
+        w = rng.choice(followers[v])
+        numbers += [v, w]
+        v = w
+    return start, numbers
+
+
+def spoiled_walk(rng, graph):
+    """A start and list near a path's; mostly no path."""
+    start, numbers = random_walk(rng, graph)
+    how = rng.randrange(6)
+    if how == 0:
+        start = rng.choice([len(graph[0]), MAX_U32, start + 65536])
+    elif how == 1:
+        numbers.append(rng.randrange(4))
+    elif how == 2:
+        numbers += [rng.randrange(max(1, len(graph[0]))) for _ in range(2)]
+    elif numbers:
+        at = rng.randrange(len(numbers))
+        if how == 3:
+            del numbers[at]
+        else:
+            numbers[at] = (numbers[at] + rng.choice([1, 2, 65536, MAX_U32])) & MAX_U32
+    return start, numbers
+
+
+def vertex_for(rng, graph):
+    last = len(graph[0])
+    return rng.choice([rng.randrange(last) if last else 0, last, max(0, last - 1), MAX_U32, last + 65536])
+
+
+def cases_of_graph(rng, graph, calls=CALLS, all_rooms=False):
+    """Every call that takes a sequence graph, with arguments that fit and that do not."""
+    record = sequence_record(rng, graph)
+    for call in calls:
+        if call == VERTEX_SEQUENCE:
+            yield from cases_of(rng, call, record, vertex_for(rng, graph))
+        elif call == PATH_BASES_BYTES:
+            yield from cases_of(rng, call, record, *random_walk(rng, graph), all_rooms)
+            yield from cases_of(rng, call, record, *spoiled_walk(rng, graph))
+        elif call != FROM_ASSEMBLY_GRAPH:
+            yield from cases_of(rng, call, record, all_rooms=all_rooms)
+
+
+def cases_of_kmers(rng, k, graph, all_rooms=False):
+    """Conversion and the sequence call; the other calls on what conversion makes."""
+    record = graphs.kmer_record(k, graph)
+    yield from cases_of(rng, VERTEX_SEQUENCE, record, vertex_for(rng, graph))
+    yield from cases_of(rng, FROM_ASSEMBLY_GRAPH, record, all_rooms=all_rooms)
+    outcome = outcome_of(FROM_ASSEMBLY_GRAPH, record, 0, ())
+    if not isinstance(outcome, int):
+        for call in SEQUENCE_CALLS:
+            yield from cases_of(rng, call, outcome[0], all_rooms=all_rooms)

@@ -1,0 +1,172 @@
+"""Records with faults: each field, each byte and each length of a good one, and several faults at once."""
+import struct
+
+from sgr1 import HEADER, KMER, MAX_BYTES, MAX_EDGES, MAX_K, MAX_VERTICES, MIN_K, SEQUENCE, layout
+
+HEADER_FIELDS = [(0, 4), (4, 1), (5, 1), (6, 2), (8, 2), (10, 2), (12, 4), (16, 4), (20, 4), (24, 4), (28, 4)]
+WHOLE = 28
+
+
+def with_number(record, at, size, value):
+    return record[:at] + (value % 256**size).to_bytes(size, "little") + record[at + size :]
+
+
+def with_whole_length(record):
+    """The same bytes, stating their own length."""
+    return with_number(record, WHOLE, 4, len(record)) if len(record) >= HEADER else record
+
+
+def damaged_fields(record):
+    """Each header field: its neighbours, the ends of its range and the limits."""
+    limits = [0, 1, MIN_K - 1, MAX_K, MAX_K + 1, MAX_VERTICES + 1, MAX_EDGES + 1, MAX_BYTES + 1]
+    for at, size in HEADER_FIELDS:
+        value = int.from_bytes(record[at : at + size], "little")
+        near = {value - 1, value + 1, value + 65536, 256**size - 1, *limits}
+        for other in sorted({n % 256**size for n in near} - {value}):
+            yield with_number(record, at, size, other)
+
+
+def damaged_bytes(record):
+    for at, value in enumerate(record):
+        for other in sorted({0, 1, 2, 255, value ^ 1, value ^ 128, (value + 1) % 256} - {value}):
+            yield record[:at] + bytes([other]) + record[at + 1 :]
+
+
+def damaged_lengths(record):
+    for n in range(len(record)):
+        yield record[:n]
+        if n >= HEADER:
+            yield with_whole_length(record[:n])
+    for more in (b"\0", b"A", record):
+        yield record + more
+        yield with_whole_length(record + more)
+
+
+def damaged(record):
+    yield from damaged_fields(record)
+    yield from damaged_bytes(record)
+    yield from damaged_lengths(record)
+
+
+class Draft:
+    """A record field by field, so that it can be wrong in one of them and right in the others."""
+
+    def __init__(self, kind, k, graph):
+        self.mark, self.kind, self.status, self.k = b"SGR1", kind, 0, k
+        self.lengths = [len(s) for s in graph[0]]
+        self.edges = [list(e) for e in graph[1]]
+        self.data = b"".join(graph[0])
+        self.settle()
+
+    def settle(self):
+        """Counts, offsets and whole length as the contents have them."""
+        self.counts = [len(self.lengths), len(self.edges), len(self.data)]
+        *self.offsets, self.whole = layout(*self.counts)
+
+    def record(self):
+        v, e, b = self.counts
+        numbers = [self.kind, self.status, self.k, v, e, b, *self.offsets, self.whole]
+        head = struct.pack("<4sBBHHHIIIII", self.mark, *numbers)
+        lengths = struct.pack("<%dH" % len(self.lengths), *self.lengths)
+        return head + lengths + b"".join(struct.pack("<HHIB", *e) for e in self.edges) + self.data
+
+
+# Faults in the contents; counts and offsets follow them.
+
+
+def double_edge(rng, d):
+    if d.edges and d.counts[1] < MAX_EDGES:
+        a, b, _, _ = rng.choice(d.edges)
+        d.edges.insert(rng.randint(0, len(d.edges)), [a, b, rng.randrange(9), rng.randint(0, 1)])
+
+
+def self_edge(rng, d):
+    if d.lengths:
+        v = rng.randrange(len(d.lengths))
+        d.edges.insert(rng.randint(0, len(d.edges)), [v, v, 1, 0])
+
+
+def back_edge(rng, d):
+    if d.edges:
+        a, b, _, _ = rng.choice(d.edges)
+        d.edges.append([b, a, 1, 0])
+
+
+def edge_end(rng, d):
+    if d.edges:
+        v = len(d.lengths)
+        rng.choice(d.edges)[rng.randint(0, 1)] = rng.choice([v, v + 1, 65535])
+
+
+def edge_flag(rng, d):
+    if d.edges:
+        rng.choice(d.edges)[3] = rng.choice([2, 3, 128, 255])
+
+
+def equal_vertices(rng, d):
+    """The last vertex gets the first one's bytes: a fault among k-mers only."""
+    n = d.lengths[-1] if d.lengths else 0
+    if len(d.lengths) > 1 and d.lengths[0] == n:
+        d.data = d.data[: len(d.data) - n] + d.data[:n]
+
+
+def one_length(rng, d):
+    """A length of another size; the byte count follows or not."""
+    if d.lengths:
+        d.lengths[rng.randrange(len(d.lengths))] += 1
+        d.data += b"A" * rng.randint(0, 1)
+
+
+CONTENT_FAULTS = [double_edge, self_edge, back_edge, edge_end, edge_flag, equal_vertices, one_length]
+
+
+# Faults in the fields of the header.
+
+
+def mark(rng, d):
+    at = rng.randrange(4)
+    d.mark = d.mark[:at] + bytes([d.mark[at] ^ rng.choice([1, 32, 128])]) + d.mark[at + 1 :]
+
+
+def kind(rng, d):
+    d.kind = rng.choice([KMER, SEQUENCE, 2, 255])
+
+
+def status(rng, d):
+    d.status = rng.choice([1, 2, 3, 255])
+
+
+def k(rng, d):
+    d.k = rng.choice([0, MIN_K - 1, MAX_K + 1, 256, 65535])
+
+
+def count(rng, d):
+    at = rng.randrange(3)
+    limit = (MAX_VERTICES, MAX_EDGES, MAX_BYTES)[at]
+    d.counts[at] = rng.choice([d.counts[at] + 1, max(0, d.counts[at] - 1), limit, limit + 1, 65535])
+
+
+def offset(rng, d):
+    at = rng.randrange(3)
+    d.offsets[at] = (d.offsets[at] + rng.choice([1, -1, 2**31, 9])) % 2**32
+
+
+def whole(rng, d):
+    d.whole = (d.whole + rng.choice([1, -1, 2**31])) % 2**32
+
+
+FIELD_FAULTS = [mark, kind, status, k, count, offset, whole]
+
+
+def random_faults(rng, draft):
+    """One to three faults, of which the lowest number counts."""
+    chosen = rng.sample(CONTENT_FAULTS + FIELD_FAULTS, rng.choice([1, 1, 2, 3]))
+    for fault in chosen:
+        if fault in CONTENT_FAULTS:
+            fault(rng, draft)
+    draft.settle()
+    for fault in chosen:
+        if fault in FIELD_FAULTS:
+            fault(rng, draft)
+    record = draft.record()
+    return with_whole_length(record + b"A") if rng.random() < 0.05 else record

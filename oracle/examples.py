@@ -1,0 +1,103 @@
+"""Graphs by hand: document 01's nine examples, and the smallest ones for each rule."""
+from sgr1 import MAX_U32
+
+BUBBLE = [(0, 1, 5, 1), (1, 3, 5, 1), (0, 2, 2, 0), (2, 3, 2, 0)]
+BUBBLE_OF_5 = [(a, b, 5, r) for a, b, _, r in BUBBLE]
+FORK = [(0, 1, 1, 1), (0, 2, 1, 0)]
+TOP = MAX_U32
+
+# Document 01, "Proved examples", in its order.
+NINE = [
+    ([b"AA", b"CTG", b"CAG", b"TT"], BUBBLE),
+    ([b"CC", b"T" + b"A" * 10, b"G" + b"A" * 10], FORK),
+    ([b"CC", b"T" + b"A" * 9, b"G" + b"A" * 9], FORK),
+    ([b"CC", b"A" * 12, b"A" * 12], FORK),
+    ([b"A", b"C", b"G"], [(0, 1, 1, 1), (1, 2, 1, 0)]),
+    ([b"AA", b"CG", b"CTG", b"TT"], BUBBLE_OF_5),
+    ([], []),
+    ([b"ACGT"], []),
+    ([b"A", b"C", b"G", b"T"], [(0, 3, 1, 1), (2, 1, 1, 1), (2, 3, 1, 0)]),
+]
+
+REWRITES = [
+    # Zip: whole chain; stopped by a change of reference; from a branch; the last one's edges in their place.
+    ([b"A", b"C", b"G"], [(0, 1, 1, 0), (1, 2, 1, 0)]),
+    ([b"A", b"C", b"G", b"T"], [(0, 1, 1, 1), (1, 2, 1, 0), (2, 3, 1, 1)]),
+    ([b"A", b"C", b"G", b"T"], [(0, 1, 1, 1), (0, 2, 1, 0), (2, 3, 1, 0)]),
+    ([b"A", b"C", b"G", b"T", b"A"], [(1, 2, 9, 0), (3, 2, 8, 0), (0, 1, 7, 0), (1, 4, 6, 0)]),
+    # Diamonds: prefix only, suffix only, three middles, one consumed, all equal, nothing shared.
+    ([b"A", b"CT", b"CA", b"G"], BUBBLE),
+    ([b"A", b"TC", b"AC", b"G"], BUBBLE),
+    (
+        [b"A", b"CTG", b"CAG", b"CG", b"T"],
+        [(0, 1, 5, 1), (1, 4, 5, 1), (0, 2, 2, 0), (2, 4, 3, 0), (0, 3, 1, 0), (3, 4, 4, 0)],
+    ),
+    ([b"A", b"C", b"CC", b"G"], BUBBLE),
+    ([b"A", b"CG", b"CG", b"G"], BUBBLE),
+    ([b"A", b"C", b"G", b"T"], BUBBLE),
+    ([b"A", b"", b"", b"T"], BUBBLE),
+    ([b"A", b"", b"C", b"T"], BUBBLE),
+    # A bottom with a further predecessor, a middle with a further follower: no diamond.
+    ([b"A", b"CT", b"CA", b"G", b"T"], BUBBLE + [(4, 3, 1, 0)]),
+    ([b"A", b"CT", b"CA", b"G", b"T"], BUBBLE + [(1, 4, 1, 0)]),
+    # Tails: with prefix, one consumed by prefix and suffix, a tail with another predecessor.
+    ([b"C", b"G" + b"A" * 10, b"GT" + b"A" * 10], FORK),
+    ([b"C", b"G" + b"AC" * 5, b"GT" + b"AC" * 5, b"GTT" + b"AC" * 5], FORK + [(0, 3, 7, 0)]),
+    ([b"C", b"T" + b"A" * 10, b"G" + b"A" * 10, b"G"], FORK + [(3, 2, 1, 0)]),
+    # Splits: one source only the suffix, a reference source that long, one that is longer, all only the suffix.
+    ([b"G", b"A", b"CA"], [(1, 0, 1, 0), (2, 0, 1, 0)]),
+    ([b"G", b"A", b"CA"], [(1, 0, 1, 1), (2, 0, 1, 0)]),
+    ([b"G", b"A", b"CA"], [(1, 0, 1, 0), (2, 0, 1, 1)]),
+    ([b"G", b"TA", b"CA"], [(1, 0, 4, 1), (2, 0, 3, 0)]),
+    ([b"G", b"A", b"A"], [(1, 0, 1, 0), (2, 0, 1, 0)]),
+    ([b"G", b"CCA", b"CA", b"T", b"T"], [(1, 0, 4, 1), (2, 0, 3, 0), (3, 1, 2, 1), (4, 2, 1, 0), (3, 2, 6, 0)]),
+    # Merges: several equal sources, one source, one without an incoming edge, joined edges.
+    ([b"G", b"A", b"A", b"T", b"C"], [(1, 0, 4, 1), (2, 0, 3, 0), (3, 1, 2, 1), (3, 2, 1, 0), (0, 4, 5, 1)]),
+    ([b"G", b"A", b"T", b"C"], [(1, 0, 4, 1), (2, 1, 3, 0), (3, 1, 2, 1)]),
+    ([b"G", b"A", b"A", b"T"], [(1, 0, 4, 1), (2, 0, 3, 0), (3, 1, 2, 1)]),
+]
+
+# Supports that stop at 2^32 - 1: in the consumed path, in joined edges, exactly at it.
+HIGH = [
+    ([b"AA", b"CG", b"CTG", b"TT"], [(a, b, TOP, r) for a, b, _, r in BUBBLE]),
+    ([b"AA", b"CG", b"CTG", b"TT"], [(a, b, 2**30, r) for a, b, _, r in BUBBLE]),
+    ([b"AA", b"CG", b"CTG", b"TT"], [(a, b, 2**30 - 1, r) for a, b, _, r in BUBBLE]),
+    ([b"A", b"C", b"C", b"G"], [(a, b, TOP, r) for a, b, _, r in BUBBLE]),
+    ([b"G", b"A", b"A", b"T"], [(1, 0, 4, 0), (2, 0, 3, 0), (3, 1, TOP, 0), (3, 2, 1, 0)]),
+    ([b"G", b"A", b"A", b"T"], [(1, 0, 4, 0), (2, 0, 3, 0), (3, 1, TOP - 1, 0), (3, 2, 1, 0)]),
+    ([b"A", b"C"], [(0, 1, TOP, 1)]),
+]
+
+CLEANED = [
+    # No reference; two references; a sink that cannot be reached; a lone vertex beside others; two lone ones.
+    ([b"A", b"C", b"G"], [(0, 2, 1, 0), (1, 2, 1, 0)]),
+    ([b"A", b"C", b"G", b"T"], [(0, 1, 1, 1), (2, 3, 1, 1)]),
+    ([b"A", b"C", b"G", b"T"], [(2, 3, 1, 1), (0, 1, 1, 1), (0, 3, 1, 0)]),
+    ([b"A", b"C", b"G"], [(0, 2, 1, 1)]),
+    ([b"A", b"C"], []),
+    ([b""], []),
+    ([b"", b""], [(0, 1, 1, 1)]),
+    # Ways into the source and out of the sink, along edges that are reference edges and that are not.
+    ([b"A", b"C", b"G", b"T", b"A"], [(0, 1, 1, 0), (1, 2, 1, 1), (2, 3, 1, 1), (3, 4, 1, 0)]),
+    (
+        [b"A", b"C", b"G", b"T", b"A", b"C"],
+        [(0, 1, 1, 0), (1, 2, 1, 1), (2, 3, 1, 1), (3, 4, 1, 0), (4, 5, 1, 0), (2, 4, 1, 0)],
+    ),
+    ([b"A", b"C", b"G", b"T", b"A"], [(0, 1, 1, 1), (1, 4, 1, 0), (4, 2, 1, 0), (2, 3, 1, 1)]),
+    # The walk from the sink does not go on through an edge that the walk from the source took: 4 to 5 stays.
+    ([b"A", b"C", b"G", b"T", b"A", b"C"], [(0, 3, 1, 1), (2, 1, 1, 1), (1, 4, 1, 0), (4, 0, 1, 0), (4, 5, 1, 0)]),
+]
+
+SEQUENCE_GRAPHS = NINE + REWRITES + HIGH + CLEANED
+
+KMER_GRAPHS = [
+    (2, ([], [])),
+    (2, ([b"AC"], [])),
+    (3, ([b"ACG", b"CGT", b"CGA"], [(0, 1, 5, 1), (0, 2, 2, 0)])),
+    (3, ([b"CGT", b"ACG", b"CGA", b"TCG"], [(3, 0, 1, 0), (1, 0, 5, 1), (3, 2, TOP, 1), (1, 2, 2, 0)])),
+    (
+        2,
+        ([b"\xff\x00", b"\x00\xff", b"\x00\x00", b"\x7f\x80"], [(0, 1, 1, 1), (2, 1, 2, 0), (2, 3, 3, 1), (3, 1, 4, 0)]),
+    ),
+    (128, ([b"A" * 128, b"A" * 127 + b"C"], [(0, 1, 1, 1)])),
+]

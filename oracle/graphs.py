@@ -1,0 +1,234 @@
+"""Graphs to try the calls on: a graph is (sequences, edges), an edge (from, to, support, flag).
+
+Every function takes a random.Random and gives the same graph for the same seed.
+"""
+import itertools
+
+from sgr1 import KMER, MAX_U32, encode
+
+SUPPORTS = [0, 1, 1, 2, 3, 5, 9, 1000]
+HIGH_SUPPORTS = [MAX_U32, MAX_U32 - 1, 2**31, 2**31 - 1, 1, 0]
+
+
+def word(rng, low, high, letters=b"ACGT"):
+    return bytes(rng.choice(letters) for _ in range(rng.randint(low, high)))
+
+
+def support(rng, high=False):
+    return rng.choice(HIGH_SUPPORTS if high else SUPPORTS)
+
+
+def renumbered(rng, sequences, edges, shuffle_edges=True):
+    """The same graph with its vertices, and its edges, in another order."""
+    order = list(range(len(sequences)))
+    rng.shuffle(order)
+    place = {old: new for new, old in enumerate(order)}
+    moved = [(place[a], place[b], s, r) for a, b, s, r in edges]
+    if shuffle_edges:
+        rng.shuffle(moved)
+    return [sequences[v] for v in order], moved
+
+
+def random_path(rng, vertices, pairs):
+    """Pairs of a walk along rising numbers, as far as it goes."""
+    followers = {}
+    for a, b in pairs:
+        followers.setdefault(a, []).append(b)
+    starts = [v for v in range(vertices) if v in followers]
+    path, v = set(), rng.choice(starts) if starts else None
+    while v in followers:
+        w = rng.choice(followers[v])
+        path.add((v, w))
+        v = w
+    return path
+
+
+def flagged(rng, vertices, pairs):
+    """Edges of these pairs with a reference of one of several shapes."""
+    shape = rng.choice(["path", "path", "path", "none", "all", "random", "two"])
+    paths = random_path(rng, vertices, pairs)
+    if shape == "two":
+        paths |= random_path(rng, vertices, pairs)
+    high = rng.random() < 0.1
+    is_ref = {
+        "path": lambda p: p in paths,
+        "two": lambda p: p in paths,
+        "none": lambda p: False,
+        "all": lambda p: True,
+        "random": lambda p: rng.random() < 0.4,
+    }[shape]
+    return [(a, b, support(rng, high), int(is_ref((a, b)))) for a, b in pairs]
+
+
+def small_shapes(rng, vertices):
+    """All graphs of so many vertices up to numbering, each with random sequences and flags."""
+    pairs = list(itertools.combinations(range(vertices), 2))
+    for chosen in itertools.product([False, True], repeat=len(pairs)):
+        kept = [p for p, c in zip(pairs, chosen) if c]
+        letters = rng.choice([b"A", b"AC", b"ACGT"])
+        sequences = [word(rng, 0, rng.choice([1, 2, 4]), letters) for _ in range(vertices)]
+        yield renumbered(rng, sequences, flagged(rng, vertices, kept))
+
+
+def random_graph(rng, vertices):
+    letters = rng.choice([b"A", b"AC", b"AC", b"ACGT", bytes(range(256))])
+    longest = rng.choice([1, 2, 3, 6, 14])
+    degree = rng.choice([0.5, 0.9, 1.2, 1.6, 2.5])
+    reach = rng.choice([2, 3, 5, vertices])
+    pairs = set()
+    for _ in range(int(degree * vertices)):
+        a = rng.randrange(vertices)
+        b = a + rng.randint(1, reach)
+        if b < vertices:
+            pairs.add((a, b))
+    pairs = sorted(pairs)
+    rng.shuffle(pairs)
+    sequences = [word(rng, rng.choice([0, 1, 1]), longest, letters) for _ in range(vertices)]
+    return renumbered(rng, sequences, flagged(rng, vertices, pairs))
+
+
+def chain(rng, vertices):
+    pairs = [(v, v + 1) for v in range(vertices - 1)]
+    start, end = sorted((rng.randint(0, vertices), rng.randint(0, vertices)))
+    edges = [(a, b, support(rng), int(start <= a < end)) for a, b in pairs]
+    return renumbered(rng, [word(rng, 0, 3) for _ in range(vertices)], edges)
+
+
+def middles(rng, count):
+    """Sequences that share a prefix, a suffix, both or nothing; some are only those, some are equal."""
+    prefix, suffix = word(rng, 0, 3, b"AC"), word(rng, 0, 3, b"AC")
+    rest = [word(rng, 0, 3, b"AC") for _ in range(rng.randint(1, count))]
+    return [prefix + rng.choice(rest) + suffix for _ in range(count)]
+
+
+class Builder:
+    """A graph that grows; flags are those of one path through it and of chance."""
+
+    def __init__(self, rng):
+        self.rng, self.sequences, self.edges = rng, [], []
+
+    def vertex(self, sequence):
+        self.sequences.append(sequence)
+        return len(self.sequences) - 1
+
+    def edge(self, a, b, is_ref=0, high=False):
+        self.edges.append((a, b, support(self.rng, high), is_ref))
+
+    def done(self):
+        return renumbered(self.rng, self.sequences, self.edges)
+
+
+def stacked_diamonds(rng, count):
+    b, high = Builder(rng), rng.random() < 0.3
+    top = b.vertex(word(rng, 0, 3))
+    for _ in range(count):
+        bottom = b.vertex(word(rng, 0, 3))
+        width = rng.randint(2, 4)
+        ref = rng.randrange(width + 1)
+        for i, s in enumerate(middles(rng, width)):
+            m = b.vertex(s)
+            b.edge(top, m, int(i == ref), high)
+            b.edge(m, bottom, int(i == ref), high)
+        top = bottom
+    return b.done()
+
+
+def nested_diamonds(rng, depth):
+    """A middle of each diamond is itself a diamond between two vertices."""
+    b = Builder(rng)
+    top, bottom = b.vertex(word(rng, 1, 3)), b.vertex(word(rng, 1, 3))
+    for level in range(depth):
+        plain, inner_top, inner_bottom = (b.vertex(s) for s in middles(rng, 3))
+        b.edge(top, plain, int(level == depth - 1))
+        b.edge(plain, bottom, int(level == depth - 1))
+        b.edge(top, inner_top, int(level < depth - 1))
+        b.edge(inner_bottom, bottom, int(level < depth - 1))
+        top, bottom = inner_top, inner_bottom
+    b.edge(top, bottom)
+    return b.done()
+
+
+def tails(rng, count):
+    """Tails whose shared ends are around the minimum of 10."""
+    b, top = Builder(rng), None
+    suffix = word(rng, 7, 13, rng.choice([b"A", b"AC"]))
+    prefix = word(rng, 0, 2, b"A")
+    root = b.vertex(word(rng, 1, 3))
+    for _ in range(rng.randint(1, 3)):
+        top = b.vertex(word(rng, 0, 3))
+        b.edge(root, top, rng.randint(0, 1))
+        ref = rng.randrange(count + 1)
+        for i in range(count):
+            rest = word(rng, 0, 2)
+            b.edge(top, b.vertex(prefix + rest + suffix), int(i == ref))
+    return b.done()
+
+
+def shared_suffixes(rng, count):
+    """A bottom of many sources that share a suffix; some are only that, some are reference sources."""
+    b = Builder(rng)
+    suffix = word(rng, 0, 3, b"AC")
+    bottom = b.vertex(word(rng, 0, 2))
+    root = b.vertex(word(rng, 1, 2))
+    for _ in range(count):
+        s = b.vertex(word(rng, 0, 2, b"AC") + suffix)
+        b.edge(s, bottom, int(rng.random() < 0.3))
+        if rng.random() < 0.6:
+            b.edge(root, s, int(rng.random() < 0.3))
+    if rng.random() < 0.5:
+        b.edge(bottom, b.vertex(word(rng, 0, 2)), rng.randint(0, 1))
+    return b.done()
+
+
+def ladder(rng, rungs):
+    """Each vertex is the bottom of a source that is just the shared suffix and of the next rung.
+
+    Every round splits and zips each rung again, so that the order of the vertices moves on: about a hundred
+    rungs keep it from coming back within a hundred rounds.
+    """
+    b = Builder(rng)
+    below = b.vertex(b"G")
+    for _ in range(rungs):
+        leaf, rung = b.vertex(b"A"), b.vertex(b"CA")
+        b.edge(leaf, below)
+        b.edge(rung, below)
+        below = rung
+    return b.sequences, b.edges
+
+
+def haplotypes(rng, length, count):
+    """A reference and relatives of it with changed, added and dropped bytes."""
+    reference = word(rng, length, length)
+    found = [reference]
+    for _ in range(count):
+        s = bytearray(reference)
+        for _ in range(rng.randint(1, 3)):
+            at, size = rng.randrange(1, len(s) - 1), rng.randint(0, 2)
+            s[at : at + rng.randint(0, 2)] = word(rng, size, size)
+        found.append(bytes(s))
+    return found
+
+
+def kmer_graph(rng, k, length, count):
+    """The k-mers of related haplotypes, with the first one's edges as the reference."""
+    found = haplotypes(rng, length, count)
+    number, edges = {}, {}
+    for i, s in enumerate(found):
+        kmers = [s[at : at + k] for at in range(len(s) - k + 1)]
+        ids = [number.setdefault(x, len(number)) for x in kmers]
+        for pair in zip(ids, ids[1:]):
+            seen, is_ref = edges.get(pair, (0, 0))
+            edges[pair] = (seen + rng.randint(1, 9), int(is_ref or i == 0))
+    return renumbered(rng, list(number), [(a, b, s, r) for (a, b), (s, r) in edges.items()])
+
+
+def scattered_kmers(rng, k, vertices):
+    """Random k-mers with edges that need not overlap."""
+    found = sorted({word(rng, k, k, b"AC" if k > 4 else bytes(range(256))) for _ in range(vertices)})
+    rng.shuffle(found)
+    pairs = {tuple(sorted(rng.sample(range(len(found)), 2))) for _ in range(vertices) if len(found) > 1}
+    return renumbered(rng, found, flagged(rng, len(found), sorted(pairs)))
+
+
+def kmer_record(k, graph):
+    return encode(KMER, 0, k, *graph)

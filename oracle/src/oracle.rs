@@ -1,0 +1,124 @@
+//! What the Rust makes of a record that the model accepts, for each call that has a counterpart.
+use crate::record::{assembly_graph, seq_graph, write};
+use crate::seq_graph::{SeqGraph, SeqGraphCleanupStatus};
+use crate::seq_graph_simplify::{simplify_graph_full, traced_simplify_graph_full};
+
+pub const VERTEX_SEQUENCE: u32 = 0;
+pub const FROM_ASSEMBLY_GRAPH: u32 = 1;
+pub const SIMPLIFY_GRAPH: u32 = 2;
+pub const CLEANUP_SEQ_GRAPH: u32 = 3;
+pub const CLEAN_NON_REF_PATHS: u32 = 4;
+pub const REFERENCE_PATH_BYTES: u32 = 5;
+pub const PATH_BASES_BYTES: u32 = 6;
+
+pub const QUIET: u32 = 1;
+pub const REPEATED: u32 = 2;
+pub const FULL: u32 = 3;
+
+/// `bytes` is none where the Rust gives None. Fields that a call does not have are 0.
+#[derive(Default, Clone)]
+pub struct Made {
+    pub bytes: Option<Vec<u8>>,
+    pub status: u32,
+    pub rounds: u32,
+    pub end: u32,
+}
+
+impl Made {
+    fn of(bytes: Vec<u8>) -> Self {
+        Made { bytes: Some(bytes), ..Made::default() }
+    }
+}
+
+/// A call on a record of its kind.
+pub fn run(call: u32, record: &[u8], start: u32, list: &[u32]) -> Made {
+    match call {
+        FROM_ASSEMBLY_GRAPH => converted(record),
+        _ => run_on(call, &seq_graph(record), start, list),
+    }
+}
+
+pub fn converted(kmer_record: &[u8]) -> Made {
+    Made::of(write(&SeqGraph::from_assembly_graph(&assembly_graph(kmer_record)), 0))
+}
+
+/// The calls that take a sequence graph.
+pub fn run_on(call: u32, graph: &SeqGraph, start: u32, list: &[u32]) -> Made {
+    match call {
+        SIMPLIFY_GRAPH => simplified(graph.clone()),
+        CLEANUP_SEQ_GRAPH => cleaned(graph.clone()),
+        CLEAN_NON_REF_PATHS => {
+            let mut graph = graph.clone();
+            graph.clean_non_ref_paths();
+            Made::of(write(&graph, 0))
+        }
+        REFERENCE_PATH_BYTES => Made { bytes: graph.reference_path_bytes(), ..Made::default() },
+        PATH_BASES_BYTES => {
+            let pairs: Vec<(usize, usize)> = list.chunks(2).map(|p| (p[0] as usize, p[1] as usize)).collect();
+            Made::of(graph.path_bases_bytes(start as usize, &pairs))
+        }
+        _ => panic!("the Rust has no call {call}"),
+    }
+}
+
+fn cleaned(mut graph: SeqGraph) -> Made {
+    let status = match graph.cleanup_seq_graph() {
+        SeqGraphCleanupStatus::JustAssembledReference => 1,
+        SeqGraphCleanupStatus::AssembledSomeVariation => 2,
+    };
+    Made { status, ..Made::of(write(&graph, status as u8)) }
+}
+
+/// Rounds and end come from the Rust's own snapshots of a second run on a copy.
+fn simplified(mut graph: SeqGraph) -> Made {
+    let mut copy = graph.clone();
+    simplify_graph_full(&mut graph);
+    let mut watch = Watch::default();
+    traced_simplify_graph_full(&mut copy, |stage, g| watch.see(stage, g));
+    let bytes = write(&graph, 0);
+    assert!(bytes == write(&copy, 0), "the traced run made another graph");
+    Made { rounds: watch.rounds, end: watch.end(), ..Made::of(bytes) }
+}
+
+/// Follows the stages of the rounds. A stage that worked has changed the number of vertices or of
+/// bytes: diamonds and tails take bytes away, splits add vertices, merges and zips take them away.
+#[derive(Default)]
+struct Watch {
+    size: (usize, usize),
+    working: bool,
+    worked: bool,
+    rounds: u32,
+    signature: Vec<Vec<u8>>,
+    same: bool,
+}
+
+impl Watch {
+    fn see(&mut self, stage: &str, graph: &SeqGraph) {
+        let bytes = graph.vertices().iter().map(|v| v.sequence.len()).sum();
+        let size = (graph.node_count(), bytes);
+        if !stage.starts_with("simplify_") {
+            self.working |= size != self.size;
+        }
+        self.size = size;
+        if stage == "after_simplify_zip" {
+            self.close_round(graph);
+        }
+    }
+
+    fn close_round(&mut self, graph: &SeqGraph) {
+        let mut signature: Vec<Vec<u8>> = graph.vertices().iter().map(|v| v.sequence.clone()).collect();
+        signature.push((graph.edge_count() as u32).to_le_bytes().to_vec());
+        self.same = signature == self.signature;
+        self.signature = signature;
+        self.worked = std::mem::take(&mut self.working);
+        self.rounds += 1;
+    }
+
+    fn end(&self) -> u32 {
+        match (self.worked, self.same) {
+            (false, _) => QUIET,
+            (true, true) => REPEATED,
+            (true, false) => FULL,
+        }
+    }
+}

@@ -1,0 +1,151 @@
+#!/usr/bin/env python3
+"""Writes seeded cases with the model's answers to standard output, for oracle's program `compare`.
+
+    tools/make_cases.py short|long [SEED]
+
+The layout of a case is the one of tools/make_vectors.py; a frame of number 7 names the cases after it,
+and the last one says "end".
+"""
+import os
+import random
+import sys
+
+ROOT = os.path.dirname(os.path.dirname(os.path.abspath(__file__)))
+sys.path.insert(0, os.path.join(ROOT, "oracle"))
+sys.dont_write_bytecode = True
+
+import cases  # noqa: E402
+import damage  # noqa: E402
+import examples  # noqa: E402
+import graphs  # noqa: E402
+import limits  # noqa: E402
+import sgr1  # noqa: E402
+
+# How often the parts by chance are repeated.
+TIMES = {"short": 1, "long": 30}
+KS = [2, 3, 5, 8, 11, 25, 40]
+
+
+def many(count, make):
+    return (make() for _ in range(count))
+
+
+def sequence_graphs(rng):
+    """(label, graphs)"""
+    pick = rng.randint
+    yield "all shapes of 3 vertices", graphs.small_shapes(rng, 3)
+    yield "all shapes of 4 vertices", graphs.small_shapes(rng, 4)
+    yield "all shapes of 5 vertices", graphs.small_shapes(rng, 5)
+    yield "random", many(2500, lambda: graphs.random_graph(rng, pick(1, 30)))
+    yield "random, larger", many(40, lambda: graphs.random_graph(rng, pick(100, 300)))
+    yield "chains", many(500, lambda: graphs.chain(rng, pick(1, 30)))
+    yield "stacked diamonds", many(1000, lambda: graphs.stacked_diamonds(rng, pick(1, 8)))
+    yield "stacked diamonds, many", many(5, lambda: graphs.stacked_diamonds(rng, pick(40, 80)))
+    yield "nested diamonds", many(700, lambda: graphs.nested_diamonds(rng, pick(1, 8)))
+    yield "tails", many(1000, lambda: graphs.tails(rng, pick(1, 5)))
+    yield "shared suffixes", many(1500, lambda: graphs.shared_suffixes(rng, pick(1, 6)))
+    yield "ladders", many(20, lambda: graphs.ladder(rng, pick(1, 20)))
+
+
+def kmer_graphs(rng):
+    """(label, (k, graph)s)"""
+
+    def related(low, high, size):
+        k = rng.choice(KS[low:high])
+        return k, graphs.kmer_graph(rng, k, rng.randint(k + 4, size), rng.randint(1, 5))
+
+    def scattered():
+        k = rng.choice(KS)
+        return k, graphs.scattered_kmers(rng, k, rng.randint(0, 20))
+
+    yield "k-mers of haplotypes", many(800, lambda: related(2, 5, 80))
+    yield "k-mers of haplotypes, many cycles", many(200, lambda: related(0, 3, 60))
+    yield "k-mers of haplotypes, larger", many(6, lambda: related(5, 7, 600))
+    yield "scattered k-mers", many(600, scattered)
+
+
+def emit(label, found):
+    sys.stdout.buffer.write(cases.label_frame(label))
+    for case in found:
+        sys.stdout.buffer.write(cases.frame(case))
+
+
+def emit_by_chance(rng):
+    for label, found in sequence_graphs(rng):
+        for graph in found:
+            emit(label, cases.cases_of_graph(rng, graph))
+    for label, found in kmer_graphs(rng):
+        for k, graph in found:
+            emit(label, cases.cases_of_kmers(rng, k, graph))
+
+
+def small_drafts(rng):
+    k = rng.choice(KS[:4])
+    yield damage.Draft(sgr1.SEQUENCE, k, graphs.random_graph(rng, rng.randint(1, 6)))
+    yield damage.Draft(sgr1.KMER, k, graphs.scattered_kmers(rng, k, rng.randint(1, 6)))
+
+
+def emit_damage(rng):
+    for draft in small_drafts(rng):
+        for record in damage.damaged(draft.record()):
+            for call in sgr1.CALLS:
+                emit("every field, byte and length", cases.cases_of(rng, call, record, rng.randint(0, 1)))
+    for _ in range(1500):
+        for draft in small_drafts(rng):
+            record = damage.random_faults(rng, draft)
+            for call in sgr1.CALLS:
+                emit("up to three faults", cases.cases_of(rng, call, record, rng.randint(0, 1)))
+
+
+def emit_by_hand(rng):
+    for graph in examples.SEQUENCE_GRAPHS:
+        emit("by hand", cases.cases_of_graph(rng, graph, all_rooms=True))
+    for k, graph in examples.KMER_GRAPHS:
+        emit("by hand", cases.cases_of_kmers(rng, k, graph, all_rooms=True))
+
+
+def emit_limits(rng):
+    for _, graph in limits.at_limits():
+        emit("limits", cases.cases_of_graph(rng, graph, all_rooms=True))
+    for _, k, graph in limits.kmers_at_limits():
+        emit("limits of k-mers", cases.cases_of_kmers(rng, k, graph, all_rooms=True))
+    for k in (8, 33, 64, 127):
+        for total in range(sgr1.MAX_BYTES - 1, sgr1.MAX_BYTES + 3):
+            found = limits.kmers_of_bytes(total, k)
+            emit("limits of k-mers", cases.cases_of_kmers(rng, k, found))
+
+
+def emit_large(rng, mode):
+    for graph in limits.large(150 if mode == "short" else 700):
+        emit("large", cases.cases_of_graph(rng, graph))
+    for graph in limits.large_with_fault():
+        emit("large with a fault", cases.cases_of_graph(rng, graph))
+    emit("large with a fault", cases.cases_of_kmers(rng, 8, limits.equal_last_kmers()))
+
+
+def emit_full(rng, mode):
+    """Ladders around the length from which no round repeats within a hundred."""
+    for rungs in (102,) if mode == "short" else (99, 100, 101, 102, 103, 110, 150, 200, 300):
+        emit("ladders, long", cases.cases_of_graph(rng, graphs.ladder(rng, rungs)))
+
+
+def main():
+    if len(sys.argv) not in (2, 3) or sys.argv[1] not in TIMES:
+        sys.exit(__doc__)
+    mode, seed = sys.argv[1], sys.argv[2] if len(sys.argv) == 3 else "1"
+    rng = random.Random("cases, seed " + seed)
+    emit_by_hand(rng)
+    emit_limits(rng)
+    emit_large(rng, mode)
+    emit_full(rng, mode)
+    for _ in range(TIMES[mode]):
+        emit_by_chance(rng)
+        emit_damage(rng)
+    emit("end", [])
+
+
+if __name__ == "__main__":
+    try:
+        main()
+    except BrokenPipeError:
+        sys.exit("the reader stopped")

@@ -1,0 +1,224 @@
+#!/usr/bin/env python3
+"""Writes the stored list of cases, one file for each call.
+
+    tools/make_vectors.py FOLDER
+
+The list is the same on every run. Each graph and string in it was made by the Rust (oracle/), and the model's
+(oracle/model.py) was equal to it; numbers, counts of rewrites and tallies are the model's.
+
+A file is a row of cases. All numbers have four bytes and are little-endian. A case has at most 65,536 bytes:
+
+    the length of the rest of the case
+    call          0 vertex_sequence, 1 from_assembly_graph, 2 simplify_graph, 3 cleanup_seq_graph,
+                  4 clean_non_ref_paths, 5 reference_path_bytes, 6 path_bases_bytes
+    start         the start of call 6, the vertex of call 0, else 0
+    room          length of the lent output, at most 65,536; 0 in call 0
+    answered, refused, rewrites      the tally handed in; 0 in call 0
+    number, length                   the answer
+    field 1, field 2, field 3        rewrites, rounds, end of call 2; status, 0, 0 of call 3;
+                                     offset in the record, 0, 0 of call 0; else 0
+    answered, refused, rewrites      the tally handed back, in call 0 as handed in
+    record length, count of list numbers, output length
+    the record's bytes
+    the list's numbers (call 6)
+    the output's bytes: what the first `length` bytes of the lent output hold then; in call 0 the part of
+                  the record that is handed back
+
+Before the call every byte of the lent output is 0xA5, and those behind `length` are so afterwards: all of
+them when the call is refused.
+"""
+import os
+import random
+import sys
+
+ROOT = os.path.dirname(os.path.dirname(os.path.abspath(__file__)))
+sys.path.insert(0, os.path.join(ROOT, "oracle"))
+sys.dont_write_bytecode = True
+
+import cases  # noqa: E402
+import damage  # noqa: E402
+import examples  # noqa: E402
+import graphs  # noqa: E402
+import limits  # noqa: E402
+import model  # noqa: E402
+import sgr1  # noqa: E402
+from rust import Rust  # noqa: E402
+
+MAX_CASE = 65536
+NAMES = [
+    "vertex_sequence", "from_assembly_graph", "simplify_graph", "cleanup_seq_graph", "clean_non_ref_paths",
+    "reference_path_bytes", "path_bases_bytes",
+]
+KS = [2, 3, 5, 8, 11, 25]
+RECORD_NUMBERS = set(range(8))
+NUMBERS = [
+    RECORD_NUMBERS | {9}, RECORD_NUMBERS | {8, 11}, RECORD_NUMBERS | {11}, RECORD_NUMBERS | {11},
+    RECORD_NUMBERS | {11}, RECORD_NUMBERS | {10, 11}, RECORD_NUMBERS | {9, 11},
+]
+
+
+def random_graphs(rng):
+    yield from graphs.small_shapes(rng, 3)
+    yield from rng.sample(list(graphs.small_shapes(rng, 4)), 32)
+    for _ in range(90):
+        yield graphs.random_graph(rng, rng.randint(1, 24))
+    for _ in range(25):
+        yield graphs.chain(rng, rng.randint(1, 12))
+        yield graphs.stacked_diamonds(rng, rng.randint(1, 4))
+        yield graphs.nested_diamonds(rng, rng.randint(1, 4))
+        yield graphs.tails(rng, rng.randint(1, 4))
+        yield graphs.shared_suffixes(rng, rng.randint(1, 5))
+    for rungs in (2, 3, 7, 12):
+        yield graphs.ladder(rng, rungs)
+
+
+def random_kmers(rng):
+    for _ in range(60):
+        k = rng.choice(KS)
+        yield k, graphs.scattered_kmers(rng, k, rng.randint(0, 16))
+    for _ in range(60):
+        k = rng.choice(KS[3:])
+        yield k, graphs.kmer_graph(rng, k, rng.randint(k + 4, 50), rng.randint(1, 3))
+
+
+def cases_of_kmers(rng, call, k, graph, all_rooms):
+    """The cases of this call on a k-mer graph, or on what conversion makes of it."""
+    found = cases.cases_of_kmers(rng, k, graph, all_rooms)
+    return [c for c in found if c.call == call]
+
+
+def by_hand(rng, call):
+    for graph in examples.SEQUENCE_GRAPHS:
+        yield from cases.cases_of_graph(rng, graph, [call], all_rooms=True)
+    for k, graph in examples.KMER_GRAPHS:
+        yield from cases_of_kmers(rng, call, k, graph, True)
+    if call == sgr1.VERTEX_SEQUENCE:
+        for graph in examples.NINE:
+            record = cases.sequence_record(rng, graph)
+            for v in range(len(graph[0]) + 1):
+                yield from cases.cases_of(rng, call, record, v)
+    if call == sgr1.SIMPLIFY_GRAPH:
+        for rungs in (110, 130):
+            yield from cases.cases_of_graph(rng, graphs.ladder(rng, rungs), [call])
+
+
+def by_chance(rng, call):
+    for graph in random_graphs(rng):
+        yield from cases.cases_of_graph(rng, graph, [call])
+    for k, graph in random_kmers(rng):
+        yield from cases_of_kmers(rng, call, k, graph, False)
+
+
+def faulty(rng, call):
+    kind = sgr1.KMER if call == sgr1.FROM_ASSEMBLY_GRAPH else sgr1.SEQUENCE
+    k, graph = 3, ([b"ACG", b"CGT", b"CGA"], [(0, 1, 5, 1), (0, 2, 2, 0)])
+    good = sgr1.encode(kind, 0, k, *graph)
+    some = rng.sample(list(damage.damaged_bytes(good)), 120) + rng.sample(list(damage.damaged_lengths(good)), 40)
+    for record in [*damage.damaged_fields(good), *some]:
+        yield from cases.cases_of(rng, call, record)
+    for _ in range(300):
+        kind = rng.randint(0, 1) if call == sgr1.VERTEX_SEQUENCE else kind
+        record = damage.random_faults(rng, draft(rng, kind))
+        yield from cases.cases_of(rng, call, record, rng.randint(0, 2))
+
+
+def draft(rng, kind):
+    if kind == sgr1.KMER:
+        k = rng.choice(KS[:4])
+        return damage.Draft(kind, k, graphs.scattered_kmers(rng, k, rng.randint(1, 6)))
+    return damage.Draft(kind, rng.choice(KS), graphs.random_graph(rng, rng.randint(1, 6)))
+
+
+def is_stored_limit(name, call):
+    """Of the graphs with very many edges, one that the call makes a short answer of; past it only one."""
+    if name.startswith("edges in a diamond"):
+        return call == sgr1.SIMPLIFY_GRAPH or (call == sgr1.CLEANUP_SEQ_GRAPH and name.endswith("at"))
+    if name.startswith("edges before the reference"):
+        return call not in (sgr1.SIMPLIFY_GRAPH, sgr1.CLEANUP_SEQ_GRAPH) and name.endswith("at")
+    return True
+
+
+def first_that_fits(found):
+    """The first case short enough to be stored: with too little room if the answer is long."""
+    return [c for c in found if len(cases.frame(c)) <= MAX_CASE][:1]
+
+
+def at_limits(rng, call):
+    for name, graph in limits.at_limits():
+        if is_stored_limit(name, call):
+            yield from first_that_fits(cases.cases_of_graph(rng, graph, [call], all_rooms=True))
+    if call in (sgr1.VERTEX_SEQUENCE, sgr1.FROM_ASSEMBLY_GRAPH):
+        for _, k, graph in limits.kmers_at_limits():
+            record = graphs.kmer_record(k, graph)
+            yield from first_that_fits(cases.cases_of(rng, call, record, all_rooms=True))
+
+
+def stored(call):
+    rng = random.Random("stored list, call %d" % call)
+    for part in (by_hand, by_chance, faulty, at_limits):
+        yield from part(rng, call)
+
+
+def check_numbers(call, found):
+    missing = NUMBERS[call] ^ {c.answer.number for c in found}
+    assert not missing, "call %d: these numbers are missing or impossible: %s" % (call, missing)
+
+
+def check_tallies(call, found):
+    """Each count of the tally stops at its end at least once; call 0 has none."""
+    full = sgr1.MAX_U32
+    stopped = set()
+    for c in found:
+        rewrites = c.answer.fields[0] if call == sgr1.SIMPLIFY_GRAPH else 0
+        stopped |= {"answered"} if c.tally.answered == full and c.answer.number == 0 else set()
+        stopped |= {"refused"} if c.tally.refused == full and c.answer.number != 0 else set()
+        stopped |= {"rewrites"} if c.tally.rewrites + rewrites > full else set()
+    expected = {"answered", "refused"} | ({"rewrites"} if call == sgr1.SIMPLIFY_GRAPH else set())
+    assert call == sgr1.VERTEX_SEQUENCE or stopped == expected, (call, stopped)
+
+
+def check_kinds(found):
+    """Every rewrite, end and status is in the list."""
+    kinds = [0] * 5
+    for c in found:
+        if c.call == sgr1.SIMPLIFY_GRAPH and c.answer.number == 0:
+            record = sgr1.read_record(c.call, c.record)
+            done, _, _ = model.simplify(model.Graph(record.k, sgr1.sequences_of(record), record.edges))
+            kinds = [a + b for a, b in zip(kinds, done)]
+    assert all(kinds), kinds
+    ends = {c.answer.fields[2] for c in found if c.call == sgr1.SIMPLIFY_GRAPH}
+    assert {model.QUIET, model.REPEATED, model.FULL} <= ends, ends
+    statuses = {c.answer.fields[0] for c in found if c.call == sgr1.CLEANUP_SEQ_GRAPH}
+    assert {1, 2} <= statuses, statuses
+    print("rewrites by kind (zip, diamond, tails, split, merge): %s" % kinds)
+
+
+def write(folder, call, found):
+    data = b"".join(cases.frame(c) for c in found)
+    with open(os.path.join(folder, NAMES[call] + ".bin"), "wb") as file:
+        file.write(data)
+    refused = sum(c.answer.number != 0 for c in found)
+    print("%-22s %5d cases, %5d refused, %7d bytes" % (NAMES[call], len(found), refused, len(data)))
+    return len(data)
+
+
+def main():
+    if len(sys.argv) != 2:
+        sys.exit(__doc__)
+    rust, total, everything = Rust(), 0, []
+    os.makedirs(sys.argv[1], exist_ok=True)
+    for call in sgr1.CALLS:
+        found = list(stored(call))
+        for case in found:
+            assert len(cases.frame(case)) <= MAX_CASE and case.room <= MAX_CASE
+            rust.check(case)
+        check_numbers(call, found)
+        check_tallies(call, found)
+        total += write(sys.argv[1], call, found)
+        everything += found
+    check_kinds(everything)
+    print("%d cases, %d bytes" % (len(everything), total))
+
+
+if __name__ == "__main__":
+    main()

@@ -1,0 +1,106 @@
+#!/usr/bin/env python3
+"""Runs the inputs of docs/DIFFERENCES.md through the Rust and the model and prints what each does.
+
+    tools/show_differences.py
+
+Stops with status 1 if one of them does something else than is written there.
+"""
+import os
+import struct
+import subprocess
+import sys
+from collections import namedtuple
+
+ROOT = os.path.dirname(os.path.dirname(os.path.abspath(__file__)))
+sys.path.insert(0, os.path.join(ROOT, "oracle"))
+sys.dont_write_bytecode = True
+
+import limits  # noqa: E402
+import model  # noqa: E402
+import sgr1  # noqa: E402
+import rust  # noqa: E402
+
+SECONDS = 5
+PANIC = 101
+
+Input = namedtuple("Input", "name call k graph start numbers expected number")
+
+
+def given(name, call, graph, expected, number, k=10, start=0, numbers=()):
+    return Input(name, call, k, graph, start, numbers, expected, number)
+
+
+CONVERT, SIMPLIFY = sgr1.FROM_ASSEMBLY_GRAPH, sgr1.SIMPLIFY_GRAPH
+CLEAN, REFERENCE, PATH = sgr1.CLEAN_NON_REF_PATHS, sgr1.REFERENCE_PATH_BYTES, sgr1.PATH_BASES_BYTES
+LOOP = [(0, 1, 1, 1), (1, 1, 1, 1), (0, 2, 1, 1)]
+
+INPUTS = [
+    given("doubled edge", CLEAN, ([b"A", b"C"], [(0, 1, 1, 0), (0, 1, 2, 0)]), "A C; 0>1 3 -", 6),
+    given("equal k-mers", CONVERT, ([b"AC", b"AC"], []), "AC;", 6, k=2),
+    given("k-mer of another length", CONVERT, ([b"ACG"], []), "ACG;", 4, k=2),
+    given("k-mer with a self edge", CONVERT, ([b"AC"], [(0, 0, 1, 0)]), "C; 0>0 1 -", 7, k=2),
+    given("self edge", SIMPLIFY, ([b"A"], [(0, 0, 1, 0)]), "AA;", 7),
+    given("cycle in a chain", SIMPLIFY, ([b"A", b"C", b"G"], [(0, 1, 1, 0), (1, 0, 1, 0), (1, 2, 1, 0)]), "ACG;", 7),
+    given("reference path into a cycle", REFERENCE, ([b"A", b"C", b"G"], LOOP), "does not end", 7),
+    given("no such edge", PATH, ([b"A", b"C"], []), "AC", 9, numbers=(0, 1)),
+    given("another start", PATH, ([b"A", b"C"], [(0, 1, 1, 0)]), "AC", 9, start=1, numbers=(0, 1)),
+    given("broken path", PATH, ([b"A", b"C"], [(0, 1, 1, 0)]), "ACC", 9, numbers=(0, 1, 0, 1)),
+    given("no such vertex", PATH, ([b"A"], []), "panics", 9, numbers=(0, 1)),
+    given("no such start", PATH, ([b"A"], []), "panics", 9, start=1),
+    given("k 129", CONVERT, ([b"A" * 129], []), "129 bytes in 1 vertices, 0 edges", 3, k=129),
+    given("2,049 vertices", CLEAN, limits.many_vertices(2049), "A A; 0>1 1 r", 3),
+    given("8,193 bytes", CLEAN, limits.many_bytes(8193), "8193 bytes in 3 vertices, 2 edges", 3),
+    given("4,097 edges", CLEAN, limits.dense_before_reference(4097), "A A A; 1>2 1 r; 0>2 1 -", 3),
+    given(
+        "8,193 converted bytes", CONVERT, limits.kmers_of_bytes(8193), "8193 bytes in 192 vertices, 129 edges", 8, k=128
+    ),
+]
+
+
+def record_of(x):
+    return sgr1.encode(sgr1.KMER if x.call == CONVERT else sgr1.SEQUENCE, 0, x.k, *x.graph)
+
+
+def show_graph(data):
+    """As read, without checks: a graph that the Rust made of a refused record."""
+    v, e = struct.unpack_from("<HH", data, 8)
+    lengths = struct.unpack_from("<%dH" % v, data, sgr1.HEADER)
+    _, edges_at, bytes_at, whole = sgr1.layout(v, e, sum(lengths))
+    if whole > 150:
+        return "%d bytes in %d vertices, %d edges" % (whole - bytes_at, v, e)
+    sequences = [data[at : at + n].decode() for at, n in sgr1.parts_of(lengths, bytes_at)]
+    found = struct.iter_unpack("<HHIB", data[edges_at:bytes_at])
+    edges = ["%d>%d %d %s" % (a, b, s, "r" if f else "-") for a, b, s, f in found]
+    return "; ".join([" ".join(sequences), *edges]) if edges else " ".join(sequences) + ";"
+
+
+def ask_rust(driver, x):
+    record = record_of(x)
+    body = struct.pack("<4I", x.call, x.start, len(record), len(x.numbers)) + record
+    body += struct.pack("<%dI" % len(x.numbers), *x.numbers)
+    try:
+        done = subprocess.run([driver], input=struct.pack("<I", len(body)) + body, capture_output=True, timeout=SECONDS)
+    except subprocess.TimeoutExpired:
+        return "does not end"
+    if done.returncode:
+        return "panics" if done.returncode == PANIC else "status %d" % done.returncode
+    made = done.stdout[20:]
+    return show_graph(made) if made[:4] == b"SGR1" else made.decode()
+
+
+def main():
+    rust.build()
+    driver = os.path.join(rust.target_folder(), "release", "oracle")
+    wrong = 0
+    for x in INPUTS:
+        got = ask_rust(driver, x)
+        number = model.answer(x.call, record_of(x), x.start, x.numbers, 10**6, model.Tally(0, 0, 0)).number
+        as_written = got == x.expected and number == x.number
+        wrong += not as_written
+        note = "" if as_written else "  NOT AS WRITTEN"
+        print("%-28s call %d  refused %2d  the Rust: %s%s" % (x.name, x.call, number, got, note))
+    sys.exit(1 if wrong else 0)
+
+
+if __name__ == "__main__":
+    main()
