@@ -8,7 +8,9 @@ use native.Mathlib.Omega.{arith}
 use native.Mathlib.Decide.{ℕ-discrete}
 use lib.ListN.{length, getD, set, length-set, length-map}
 use lib.Seq.{getD-set-same, getD-set-other}
-use lib.Dec.{eqb}
+use lib.Dec.{eqb, ltb, leb}
+use borrow.Author.Tests.{eq-eqb, ne-eqb, leb-true, leb-false, ltb-true, ltb-false, lt-ltb, le-ltb}
+use Rattle.laws.proofs.Walks.{byTest}
 use Rattle.defs.specs.Lists.{tab, tabFrom, keepIf}
 use Rattle.defs.specs.SeqGraph.{Edge, Graph, edgesFrom, edgesInto, outgoingNodes, incomingNodes, outDegree, inDegree}
 use Rattle.tabs.proofs.Tabs.{getD-tab, tab-snoc, tab-ext, tab-zero}
@@ -174,3 +176,38 @@ module _ (k n m : ℕ) (es vs p : List ℕ) (v : ℕ) where
   pub incoming-is : incomingNodes (graphIn k n m es vs p) v ≡ map (λ (e : ℕ). getD es (4 * e) 0) (edgesAt (endOf 1 es) m v)
   unfolding incomingNodes
   incoming-is = ap (map (λ (e : Edge). e .from)) into-is ∙ map-map (λ (e : Edge). e .from) (edgeIn es) (edgesAt (endOf 1 es) m v)
+
+-- ---- none, one, several edges at v
+
+module _ {f : ℕ → ℕ} {m n : ℕ} {head next : ℕ → ℕ} {v : ℕ} (I : Index f m n head next) (h : v < n) where
+  pub at-none : (e : ℕ) → e ≡ head v → m ≤ e → edgesAt f m v ≡ []
+  at-none e q b = at-head f m n head next v I h ∙ at-end f m v (head v) (omega arith)
+
+  pub at-first : (e : ℕ) → e ≡ head v → e < m → edgesAt f m v ≡ e ∷ atFrom f m v (next e)
+  at-first e q b =
+      at-head f m n head next v I h ∙ ap (atFrom f m v) (sym q)
+      ∙ at-step f m n head next v e I b (rw (← q) at (I .heads v h .hit (omega arith)))
+
+  pub one-none : (e : ℕ) → e ≡ head v → m ≤ e → false ≡ eqb (length (edgesAt f m v)) 1
+  one-none e q b = rw (at-none e q b)
+
+  pub several-none : (e : ℕ) → e ≡ head v → m ≤ e → false ≡ ltb 1 (length (edgesAt f m v))
+  several-none e q b = rw (at-none e q b)
+
+  rest-is : (e x : ℕ) → e ≡ head v → e < m → x ≡ next e → (m ≤ x → length (edgesAt f m v) ≡ 1) × (x < m → 1 < length (edgesAt f m v))
+  rest-is e x q b w = (
+    λ c. ap length (at-first e q b) ∙ ap suc (ap length (at-end f m v (next e) (omega arith))),
+    λ c. let N = I .nexts e b in
+        let hit : f (next e) ≡ v = N .hit (omega arith) ∙ rw (← q) at (I .heads v h .hit (omega arith)) in
+        omega (arith, ap length (at-first e q b), ap length (at-step f m n head next v (next e) I (omega arith) hit)),
+  )
+
+  pub one-rest : (e x : ℕ) → e ≡ head v → e < m → x ≡ next e → leb m x ≡ eqb (length (edgesAt f m v)) 1
+  one-rest e x q b w = byTest (leb m x)
+      (λ t. t ∙ sym (eq-eqb _ 1 ((rest-is e x q b w) .0 (leb-true m x t))))
+      (λ t. t ∙ sym (ne-eqb _ 1 (λ (z : length (edgesAt f m v) ≡ 1). omega (arith, (rest-is e x q b w) .1 (leb-false m x t)))))
+
+  pub several-rest : (e x : ℕ) → e ≡ head v → e < m → x ≡ next e → ltb x m ≡ ltb 1 (length (edgesAt f m v))
+  several-rest e x q b w = byTest (ltb x m)
+      (λ t. t ∙ sym (lt-ltb 1 (length (edgesAt f m v)) ((rest-is e x q b w) .1 (ltb-true x m t))))
+      (λ t. t ∙ sym (le-ltb 1 (length (edgesAt f m v)) (omega (arith, (rest-is e x q b w) .0 (ltb-false x m t)))))

@@ -4,6 +4,7 @@
 ghost use mathlib.Core.Path.{_≡_};
 ghost use Prim.Native.Nat.{ℕ, _+_, _*_, _<_, _≤_};
 ghost use lib.ListN.{length, getD};
+ghost use lib.Dec.{eqb, ltb};
 ghost use Rattle.index.specs.Index.{Indexable, Indexed, Collected, endOf, edgesAt};
 
 pub fn build_index(es: &[u32], m: usize, n: usize, heads: &mut [u32], nexts: &mut [u32])
@@ -67,4 +68,44 @@ pub fn collect(
         e = nexts[2 * e + off] as usize;
     }
     j
+}
+
+// Whether v has exactly one edge.
+pub fn has_one(
+    es: &[u32],
+    m: usize,
+    n: usize,
+    heads: &[u32],
+    nexts: &[u32],
+    off: usize,
+    v: usize,
+) -> bool
+    requires { ⌜ (v < n) × ((off ≤ 1) × Indexed m n (now es) (now heads) (now nexts)) ⌝ }
+    ensures { λ r. ⌜ r ≡ eqb (length (edgesAt (endOf off (now (es .entry))) m v)) 1 ⌝ }
+{
+    let e = heads[2 * v + off] as usize;
+    if m <= e {
+        return false;
+    }
+    m <= nexts[2 * e + off] as usize
+}
+
+// Whether v has two edges or more.
+pub fn has_several(
+    es: &[u32],
+    m: usize,
+    n: usize,
+    heads: &[u32],
+    nexts: &[u32],
+    off: usize,
+    v: usize,
+) -> bool
+    requires { ⌜ (v < n) × ((off ≤ 1) × Indexed m n (now es) (now heads) (now nexts)) ⌝ }
+    ensures { λ r. ⌜ r ≡ ltb 1 (length (edgesAt (endOf off (now (es .entry))) m v)) ⌝ }
+{
+    let e = heads[2 * v + off] as usize;
+    if m <= e {
+        return false;
+    }
+    (nexts[2 * e + off] as usize) < m
 }

@@ -1,0 +1,116 @@
+-- The tests over the index are the definitions'. Assumes nothing.
+use mathlib.Core.Path.{_≡_, refl, sym, ap, _∙_, subst}
+use mathlib.Core.Bool.{Bool, true, false, _&&_}
+use mathlib.Core.List.{List, [], _∷_, map}
+use Prim.Native.Nat.{ℕ, zero, suc, _+_, _*_, _-_, _≤_, _<_}
+use native.Mathlib.Nat.{add-zero, zero-add, suc-add, add-suc, not-suc-le-zero}
+use native.Mathlib.Omega.{arith}
+use lib.ListN.{length, getD}
+use lib.Dec.{eqb, ltb}
+use borrow.Author.Tests.{eq-eqb, ne-eqb, lt-ltb, le-ltb}
+use Rattle.defs.specs.Lists.{tab, tabFrom, allOf}
+use Rattle.defs.specs.SeqGraph.{Graph, outgoingNodes, outDegree, inDegree}
+use Rattle.defs.specs.Rewrites.{isDiamond, isTails}
+use Rattle.laws.proofs.Walks.{byTest}
+use Rattle.tabs.proofs.Tabs.{length-tab, and-then, and-else}
+use Rattle.store.specs.Store.{numsIn, graphIn}
+use Rattle.index.specs.Index.{endOf, edgesAt, Indexed}
+use Rattle.index.proofs.AdjLaws.{Testing, testing-start, testing-more}
+use Rattle.index.proofs.IndexLaws.{out-degree-is, in-degree-is, outgoing-is}
+use Rattle.diamond.specs.Diamond.{allEnter, outCount, inCount, isMiddle, isTail, Diamond, Tails}
+
+step-yes : {A : Type 0} (p : A → Bool) (x : A) (xs : List A) → p x ≡ true → allOf p (x ∷ xs) ≡ allOf p xs
+unfolding allOf
+step-yes p x xs t = rw (t, allOf)
+
+step-no : {A : Type 0} (p : A → Bool) (x : A) (xs : List A) → p x ≡ false → allOf p (x ∷ xs) ≡ false
+unfolding allOf
+step-no p x xs t = rw (t, allOf)
+
+allOf-map : {A B : Type 0} (p : B → Bool) (f : A → B) (l : List A) → allOf p (map f l) ≡ allOf (λ (x : A). p (f x)) l
+unfolding allOf
+allOf-map p f [] = refl
+allOf-map {A} p f (x ∷ xs) = byTest (p (f x))
+    (λ t. step-yes p (f x) (map f xs) t ∙ allOf-map p f xs ∙ sym (step-yes (λ (y : A). p (f y)) x xs t))
+    (λ t. step-no p (f x) (map f xs) t ∙ sym (step-no (λ (y : A). p (f y)) x xs t))
+
+allOf-same : {A : Type 0} (p q : A → Bool) (l : List A) → ((x : A) → p x ≡ q x) → allOf p l ≡ allOf q l
+unfolding allOf
+allOf-same p q [] h = refl
+allOf-same p q (x ∷ xs) h = byTest (q x)
+    (λ t. step-yes p x xs (h x ∙ t) ∙ allOf-same p q xs h ∙ sym (step-yes q x xs t))
+    (λ t. step-no p x xs (h x ∙ t) ∙ sym (step-no q x xs t))
+
+module _ {A : Type 0} (p : A → Bool) where
+  yes-from : (s n : ℕ) (f : ℕ → A) → ((k : ℕ) → k < n → p (f (s + k)) ≡ true) → allOf p (tabFrom s n f) ≡ true
+  unfolding allOf tabFrom
+  yes-from s zero f h = refl
+  yes-from s (suc n) f h =
+      let h′ : p (f s) ≡ true = rw add-zero at (h zero (omega arith)) in
+      rw (h′, allOf) (yes-from (suc s) n f (λ k b. rw (suc-add, ← add-suc) (h (suc k) (omega arith))))
+
+  pub allOf-yes : (n : ℕ) (f : ℕ → A) → ((k : ℕ) → k < n → p (f k) ≡ true) → allOf p (tab n f) ≡ true
+  allOf-yes n f h = yes-from zero n f (λ k b. rw zero-add (h k b))
+
+  no-from : (s n : ℕ) (f : ℕ → A) (k : ℕ) → k < n → p (f (s + k)) ≡ false → allOf p (tabFrom s n f) ≡ false
+  unfolding allOf tabFrom
+  no-from s zero f k b h = absurd (not-suc-le-zero b)
+  no-from s (suc n) f zero b h = let h′ : p (f s) ≡ false = rw add-zero at h in rw (h′, allOf)
+  no-from s (suc n) f (suc k) b h = byTest (p (f s)) (λ t. rw (t, allOf) (no-from (suc s) n f k (omega arith) (rw (suc-add, ← add-suc) h))) (λ t. rw (t, allOf))
+
+  pub allOf-no : (n : ℕ) (f : ℕ → A) (k : ℕ) → k < n → p (f k) ≡ false → allOf p (tab n f) ≡ false
+  allOf-no n f k b h = no-from zero n f k b (rw zero-add h)
+
+module _ (k n m : ℕ) (es vs p : List ℕ) where
+  middle-is : (b v : ℕ) → isMiddle m es b v ≡ (eqb (inDegree (graphIn k n m es vs p) v) 1 && (ltb 0 (outDegree (graphIn k n m es vs p) v) && allOf (eqb b) (outgoingNodes (graphIn k n m es vs p) v)))
+  middle-is b v = rw (in-degree-is k n m es vs p v, out-degree-is k n m es vs p v, outgoing-is k n m es vs p v, allOf-map (eqb b) (endOf 1 es) (edgesAt (endOf 0 es) m v)) refl
+
+  tail-is : (v : ℕ) → isTail m es v ≡ (eqb (outDegree (graphIn k n m es vs p) v) 0 && eqb (inDegree (graphIn k n m es vs p) v) 1)
+  tail-is v = rw (in-degree-is k n m es vs p v, out-degree-is k n m es vs p v) refl
+
+  diamond-at : (b : ℕ) (nodes : List ℕ) (c : ℕ) → isDiamond (graphIn k n m es vs p) (numsIn c nodes) b ≡ (ltb 1 c && (allOf (isMiddle m es b) (numsIn c nodes) && eqb (inCount m es b) c))
+  unfolding isDiamond
+  diamond-at b nodes c = rw (length-tab c (λ (i : ℕ). getD nodes i 0), in-degree-is k n m es vs p b, ← allOf-same (isMiddle m es b) _ (numsIn c nodes) (middle-is b)) refl
+
+  tails-at : (nodes : List ℕ) (c : ℕ) → isTails (graphIn k n m es vs p) (numsIn c nodes) ≡ (ltb 1 c && allOf (isTail m es) (numsIn c nodes))
+  unfolding isTails
+  tails-at nodes c = rw (length-tab c (λ (i : ℕ). getD nodes i 0), ← allOf-same (isTail m es) _ (numsIn c nodes) tail-is) refl
+
+module _ {m n : ℕ} {es nodes : List ℕ} {c : ℕ} where
+  pub diamond-few : {b : ℕ} → c < 2 → Diamond m n es nodes c b false
+  diamond-few {b} h = record { is = λ k vs p. sym (diamond-at k n m es vs p b nodes c ∙ rw (le-ltb 1 c (omega arith))) }
+
+  pub diamond-not : {b : ℕ} → 2 ≤ c → allOf (isMiddle m es b) (numsIn c nodes) ≡ false → Diamond m n es nodes c b false
+  diamond-not {b} h t = record { is = λ k vs p. sym (diamond-at k n m es vs p b nodes c ∙ rw (lt-ltb 1 c (omega arith), t)) }
+
+  pub diamond-is : {b : ℕ} {r : Bool} → 2 ≤ c → allOf (isMiddle m es b) (numsIn c nodes) ≡ true → r ≡ eqb (inCount m es b) c → Diamond m n es nodes c b r
+  diamond-is {b} h t q = record { is = λ k vs p. q ∙ sym (diamond-at k n m es vs p b nodes c ∙ rw (lt-ltb 1 c (omega arith), t)) }
+
+  pub tails-few : c < 2 → Tails m n es nodes c false
+  tails-few h = record { is = λ k vs p. sym (tails-at k n m es vs p nodes c ∙ rw (le-ltb 1 c (omega arith))) }
+
+  pub tails-is : {r : Bool} → 2 ≤ c → r ≡ allOf (isTail m es) (numsIn c nodes) → Tails m n es nodes c r
+  tails-is h q = record { is = λ k vs p. q ∙ sym (tails-at k n m es vs p nodes c ∙ rw (lt-ltb 1 c (omega arith))) }
+
+-- ---- two ends of is_middle: d edges in, o edges out, x that all enter
+
+pub mid-out : (d o r s : ℕ) (x : Bool) → r ≡ d → r ≡ 1 → s ≡ o → s < 1 → false ≡ (eqb d 1 && (ltb 0 o && x))
+mid-out d o r s x e h f l = and-else _ (le-ltb 0 o (omega arith)) ∙ and-then _ (eq-eqb d 1 (sym e ∙ h))
+
+pub mid-all : (d o r s : ℕ) (x y : Bool) → r ≡ d → r ≡ 1 → s ≡ o → 1 ≤ s → y ≡ x → y ≡ (eqb d 1 && (ltb 0 o && x))
+mid-all d o r s x y e h f l q = q ∙ and-then _ (lt-ltb 0 o (omega arith)) ∙ and-then _ (eq-eqb d 1 (sym e ∙ h))
+
+-- ---- following v's edges out: all before e enter b
+
+module _ {m n : ℕ} {es heads nexts : List ℕ} (I : Indexed m n es heads nexts) (v b : ℕ) where
+  abbrev enters : ℕ → Bool
+  enters e = eqb b (endOf 1 es e)
+
+  pub enter-start : v < n → Testing (endOf 0 es) m v enters (getD heads (2 * v) 0)
+  enter-start h = subst (Testing (endOf 0 es) m v enters) (ap (λ (x : ℕ). getD heads x 0) (add-zero (2 * v))) (testing-start (I .index 0 (omega arith)) enters h)
+
+  pub enter-more : (e : ℕ) → Testing (endOf 0 es) m v enters e → e < m → b ≡ endOf 1 es e → Testing (endOf 0 es) m v enters (getD nexts (2 * e) 0)
+  enter-more e T h q = subst (Testing (endOf 0 es) m v enters) (ap (λ (x : ℕ). getD nexts x 0) (add-zero (2 * e))) (testing-more (I .index 0 (omega arith)) enters T h (eq-eqb _ _ q))
+
+  pub enter-on : (e : ℕ) → e < m → e < getD nexts (2 * e) 0
+  enter-on e h = omega (arith, (I .index 0 (omega arith)) .nexts e h .low, ap (λ (x : ℕ). getD nexts x 0) (add-zero (2 * e)))

@@ -1,0 +1,154 @@
+// When the followers of a vertex are the middles of a diamond, or tails. Each test follows the lists of the index.
+ghost use mathlib.Core.Path.{_≡_};
+ghost use Prim.Native.Nat.{ℕ, _+_, _*_, _<_, _≤_};
+ghost use lib.ListN.{length, getD};
+ghost use Rattle.defs.specs.Lists.{allOf};
+ghost use Rattle.store.specs.Store.{numsIn};
+ghost use Rattle.compact.specs.Compact.{Below};
+ghost use Rattle.index.specs.Index.{Indexed};
+ghost use Rattle.diamond.specs.Diamond.{allEnter, isMiddle, isTail, Diamond, Tails};
+
+// Whether every edge from v enters b.
+pub fn all_enter(
+    es: &[u32],
+    m: usize,
+    n: usize,
+    heads: &[u32],
+    nexts: &[u32],
+    v: usize,
+    b: u32,
+) -> bool
+    requires { ⌜ (v < n) × Indexed m n (now es) (now heads) (now nexts) ⌝ }
+    ensures { λ r. ⌜ r ≡ allEnter m (now (es .entry)) v b ⌝ }
+{
+    let mut e = heads[2 * v] as usize;
+    while e < m {
+        if store::edge_to(es, e) != b {
+            return false;
+        }
+        e = nexts[2 * e] as usize;
+    }
+    true
+}
+
+// Whether v has one edge in, and edges out, all to b.
+pub fn is_middle(
+    es: &[u32],
+    m: usize,
+    n: usize,
+    heads: &[u32],
+    nexts: &[u32],
+    v: usize,
+    b: u32,
+) -> bool
+    requires { ⌜ (v < n) × Indexed m n (now es) (now heads) (now nexts) ⌝ }
+    ensures { λ r. ⌜ r ≡ isMiddle m (now (es .entry)) b v ⌝ }
+{
+    if index::degree(es, m, n, heads, nexts, 1, v) != 1 {
+        return false;
+    }
+    if index::degree(es, m, n, heads, nexts, 0, v) < 1 {
+        return false;
+    }
+    all_enter(es, m, n, heads, nexts, v, b)
+}
+
+// Whether all of the first c of `nodes` are middles above b.
+pub fn all_middles(
+    es: &[u32],
+    m: usize,
+    n: usize,
+    heads: &[u32],
+    nexts: &[u32],
+    nodes: &[u32],
+    c: usize,
+    b: u32,
+) -> bool
+    requires { ⌜ Below (now nodes) c n × Indexed m n (now es) (now heads) (now nexts) ⌝ }
+    ensures { λ r. ⌜ r ≡ allOf (isMiddle m (now (es .entry)) b) (numsIn c (now (nodes .entry))) ⌝ }
+{
+    let mut i = 0;
+    while i < c {
+        if !is_middle(es, m, n, heads, nexts, nodes[i] as usize, b) {
+            return false;
+        }
+        i += 1;
+    }
+    true
+}
+
+// Whether the first c of `nodes`, followers of a top, stand above b as a diamond.
+pub fn is_diamond(
+    es: &[u32],
+    m: usize,
+    n: usize,
+    heads: &[u32],
+    nexts: &[u32],
+    nodes: &[u32],
+    c: usize,
+    b: u32,
+) -> bool
+    requires { ⌜ (b < n) × (Below (now nodes) c n × Indexed m n (now es) (now heads) (now nexts)) ⌝ }
+    ensures { λ r. ⌜ Diamond m n (now (es .entry)) (now (nodes .entry)) c b r ⌝ }
+{
+    if c < 2 {
+        return false;
+    }
+    if !all_middles(es, m, n, heads, nexts, nodes, c, b) {
+        return false;
+    }
+    index::degree(es, m, n, heads, nexts, 1, b as usize) == c
+}
+
+// Whether v has no edge out and one edge in.
+pub fn is_tail(es: &[u32], m: usize, n: usize, heads: &[u32], nexts: &[u32], v: usize) -> bool
+    requires { ⌜ (v < n) × Indexed m n (now es) (now heads) (now nexts) ⌝ }
+    ensures { λ r. ⌜ r ≡ isTail m (now (es .entry)) v ⌝ }
+{
+    if index::degree(es, m, n, heads, nexts, 0, v) != 0 {
+        return false;
+    }
+    index::degree(es, m, n, heads, nexts, 1, v) == 1
+}
+
+// Whether all of the first c of `nodes` are tails.
+pub fn all_tails(
+    es: &[u32],
+    m: usize,
+    n: usize,
+    heads: &[u32],
+    nexts: &[u32],
+    nodes: &[u32],
+    c: usize,
+) -> bool
+    requires { ⌜ Below (now nodes) c n × Indexed m n (now es) (now heads) (now nexts) ⌝ }
+    ensures { λ r. ⌜ r ≡ allOf (isTail m (now (es .entry))) (numsIn c (now (nodes .entry))) ⌝ }
+{
+    let mut i = 0;
+    while i < c {
+        if !is_tail(es, m, n, heads, nexts, nodes[i] as usize) {
+            return false;
+        }
+        i += 1;
+    }
+    true
+}
+
+// Whether the first c of `nodes`, followers of a top, are tails, two or more.
+pub fn is_tails(
+    es: &[u32],
+    m: usize,
+    n: usize,
+    heads: &[u32],
+    nexts: &[u32],
+    nodes: &[u32],
+    c: usize,
+) -> bool
+    requires { ⌜ Below (now nodes) c n × Indexed m n (now es) (now heads) (now nexts) ⌝ }
+    ensures { λ r. ⌜ Tails m n (now (es .entry)) (now (nodes .entry)) c r ⌝ }
+{
+    if c < 2 {
+        return false;
+    }
+    all_tails(es, m, n, heads, nexts, nodes, c)
+}

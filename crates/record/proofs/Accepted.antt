@@ -1,0 +1,111 @@
+-- What is known of a record that none of the refusals 1 to 5 meets.
+-- Assumes nothing.
+use Prim.Native.Nat.{ℕ, zero, suc, _+_, _-_, _≤_, _<_}
+use mathlib.Core.Path.{_≡_, refl, sym, ap, _∙_}
+use mathlib.Core.Bool.{Bool, true, false, not, _&&_, _||_}
+use mathlib.Core.List.{List, [], _∷_}
+use native.Mathlib.Omega.{arith}
+use lib.Dec.{eqb, ltb, leb}
+use lib.ListN.{length, take}
+use borrow.Author.Tests.{ltb-false, leb-true, leb-false, eqb-true, eq-eqb, not-false}
+use Rattle.defs.specs.Lists.{sameList, anyOf, upFrom}
+use Rattle.defs.specs.Record.{mark, kindOf, statusOf, kOf, verticesOf, edgesOf, bytesOf, u32At, lengthAt, edgeAt, flagAt}
+use Rattle.defs.specs.Refusals.{Takes, kmerOnly, sequenceOnly, bothKinds, refusalOf, recordCauses, takesKind, otherLength, wrongMark, pastLimit, badEdge, anyBadEdge}
+use Rattle.record.specs.Layout.{otherKmerLength, GoodEdge, WellFormed}
+use Rattle.record.proofs.TabLaws.{clash, any-false}
+use Rattle.record.proofs.Tests.{same-cons, or-false, no-cause, any-bad-is, offsets-agree, lengths-offset, edges-offset, bytes-offset, whole-is, sum-is, kmers-are}
+
+and-true : (a b : Bool) → (a && b) ≡ true → (a ≡ true) × (b ≡ true)
+and-true true b h = (refl, h)
+and-true false b h = clash (sym h)
+
+same-eq : (xs ys : List ℕ) → sameList xs ys ≡ true → xs ≡ ys
+unfolding sameList
+same-eq [] [] h = refl
+same-eq [] (y ∷ ys) h = clash (sym h)
+same-eq (x ∷ xs) [] h = clash (sym h)
+same-eq (x ∷ xs) (y ∷ ys) h =
+    let s = and-true (eqb x y) (sameList xs ys) (sym (same-cons x y xs ys) ∙ h) in
+    let p : x ≡ y = eqb-true x y (s .0) in
+    let q : xs ≡ ys = same-eq xs ys (s .1) in
+    cc
+
+kind-most : (t : Takes) (n : ℕ) → takesKind t n ≡ true → n ≤ 1
+unfolding takesKind
+kind-most kmerOnly n h = omega (arith, eqb-true n 0 h)
+kind-most sequenceOnly n h = omega (arith, eqb-true n 1 h)
+kind-most bothKinds n h = leb-true n 1 h
+
+module _ (t : Takes) (bs : List ℕ) (h : wrongMark t bs ≡ false) where
+  mark-parts : (not (sameList (take 4 bs) mark) ≡ false) × (not (takesKind t (kindOf bs)) ≡ false) × (ltb 2 (statusOf bs) ≡ false)
+      × ((eqb (kindOf bs) 0 && not (eqb (statusOf bs) 0)) ≡ false)
+  unfolding wrongMark
+  mark-parts =
+      let a = or-false (not (sameList (take 4 bs) mark)) _ h in
+      let b = or-false (not (takesKind t (kindOf bs))) _ (a .1) in
+      let c = or-false (ltb 2 (statusOf bs)) _ (b .1) in
+      (a .0, b .0, c .0, c .1)
+
+  is-marked : take 4 bs ≡ mark
+  is-marked = same-eq (take 4 bs) mark (not-false _ (mark-parts .0))
+
+  kind-low : kindOf bs ≤ 1
+  kind-low = kind-most t (kindOf bs) (not-false _ (mark-parts .1))
+
+  status-low : statusOf bs ≤ 2
+  status-low = ltb-false 2 (statusOf bs) (mark-parts .2)
+
+  status-none : kindOf bs ≡ 0 → statusOf bs ≡ 0
+  status-none z = eqb-true _ _ (not-false _ (rw (eq-eqb (kindOf bs) 0 z) at (mark-parts .3)))
+
+module _ (bs : List ℕ) (h : pastLimit bs ≡ false) where
+  limit-parts : (ltb (kOf bs) 2 ≡ false) × (ltb 128 (kOf bs) ≡ false) × (ltb 2048 (verticesOf bs) ≡ false) × (ltb 4096 (edgesOf bs) ≡ false)
+      × ((eqb (kindOf bs) 1 && ltb 8192 (bytesOf bs)) ≡ false)
+  unfolding pastLimit
+  limit-parts =
+      let a = or-false (ltb (kOf bs) 2) _ h in
+      let b = or-false (ltb 128 (kOf bs)) _ (a .1) in
+      let c = or-false (ltb 2048 (verticesOf bs)) _ (b .1) in
+      let d = or-false (ltb 4096 (edgesOf bs)) _ (c .1) in
+      (a .0, b .0, c .0, d .0, d .1)
+
+  bytes-most : kindOf bs ≡ 1 → bytesOf bs ≤ 8192
+  bytes-most o = ltb-false 8192 (bytesOf bs) (rw (eq-eqb (kindOf bs) 1 o) at (limit-parts .4))
+
+good-edge : (bs : List ℕ) (i : ℕ) → badEdge bs i ≡ false → GoodEdge bs i
+unfolding badEdge
+good-edge bs i h =
+    let a = or-false (leb (verticesOf bs) ((edgeAt bs i) .from)) _ h in
+    let b = or-false (leb (verticesOf bs) ((edgeAt bs i) .to)) _ (a .1) in
+    record { from = leb-false _ _ (a .0); to = leb-false _ _ (b .0); flag = ltb-false 1 (flagAt bs i) (b .1) }
+
+stated-is : (bs : List ℕ) → otherLength bs ≡ false → u32At bs 28 ≡ length bs
+unfolding otherLength
+stated-is bs h = eqb-true _ _ (not-false _ (or-false (ltb (length bs) 32) _ h .1))
+
+-- the kind is one that the call takes
+pub kind-taken : (t : Takes) (bs : List ℕ) → refusalOf (take 5 (recordCauses t bs)) ≡ 0 → takesKind t (kindOf bs) ≡ true
+kind-taken t bs h = not-false _ (mark-parts t bs (no-cause t bs h .1) .1)
+
+pub well-formed : (t : Takes) (bs : List ℕ) → refusalOf (take 5 (recordCauses t bs)) ≡ 0 → WellFormed bs
+well-formed t bs h =
+    let n = no-cause t bs h in
+    record {
+      marked = is-marked t bs (n .1);
+      kind = kind-low t bs (n .1);
+      status = status-low t bs (n .1);
+      kmer-status = status-none t bs (n .1);
+      k-least = ltb-false (kOf bs) 2 (limit-parts bs (n .2) .0);
+      k-most = ltb-false 128 (kOf bs) (limit-parts bs (n .2) .1);
+      vertices = ltb-false 2048 (verticesOf bs) (limit-parts bs (n .2) .2);
+      edges = ltb-false 4096 (edgesOf bs) (limit-parts bs (n .2) .3);
+      bytes = bytes-most bs (n .2);
+      lengths-at = lengths-offset bs (offsets-agree bs (n .3));
+      edges-at = edges-offset bs (offsets-agree bs (n .3));
+      bytes-at = bytes-offset bs (offsets-agree bs (n .3));
+      stated = stated-is bs (n .0);
+      whole = whole-is bs (offsets-agree bs (n .3));
+      lengths = sum-is bs (n .3);
+      kmers = λ z i below. eqb-true _ _ (not-false _ (any-false (otherKmerLength bs) (verticesOf bs) (kmers-are bs (n .3) z) i below));
+      good = λ i below. good-edge bs i (any-false (badEdge bs) (edgesOf bs) (sym (any-bad-is bs) ∙ n .4) i below);
+    }

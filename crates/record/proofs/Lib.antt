@@ -1,0 +1,4 @@
+pub mod TabLaws
+pub mod Tests
+pub mod Fields
+pub mod Accepted

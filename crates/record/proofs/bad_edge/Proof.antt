@@ -1,0 +1,25 @@
+-- `record::bad_edge` meets its contract. Assumes nothing.
+use mathlib.Core.Path.{ap, _∙_}
+use lib.Dec.{ltb}
+use Rattle.record.proofs.Fields.{edgeStart-is}
+use Rattle.record.proofs.Tests.{from-past, to-past, ends-below}
+use native.Mathlib.Omega.{arith}
+use borrow.Author.Needs.{needs}
+use Rattle.record.proofs.bad_edge.Statement.{statement}
+use Rattle.record.proofs.bad_edge.Tie as tie
+
+returns-3 : tie.Need-returns-3
+returns-3 c = ap (λ n. ltb 1 n) (c .edge-flag-at .ensures) ∙ ends-below (c .before .before .before .before .before .before .before .args .rec .now) (c .before .before .before .before .before .before .before .args .i) (omega arith) (omega arith)
+
+pub bad-edge-spec : {M : Type 1} → statement M
+bad-edge-spec =
+    tie.close
+    (tie.spec
+    (λ c κs. omega (arith, edgeStart-is (c .before .args .rec .now) (c .before .args .i)))
+    (λ c. search needs)
+    (λ c κs. search needs)
+    (λ c. from-past (c .before .before .before .before .args .rec .now) (c .before .before .before .before .args .i) (omega arith))
+    (λ c κs. search needs)
+    (λ c. to-past (c .before .before .before .before .before .before .args .rec .now) (c .before .before .before .before .before .before .args .i) (omega arith) (omega arith))
+    (λ c κs. search needs)
+    returns-3)

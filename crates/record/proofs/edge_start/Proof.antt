@@ -1,0 +1,17 @@
+-- `record::edge_start` meets its contract. Assumes nothing.
+use Rattle.record.proofs.Fields.{edgeStart-is}
+use native.Mathlib.Omega.{arith}
+use borrow.Author.Needs.{needs}
+use Rattle.record.proofs.edge_start.Statement.{statement}
+use Rattle.record.proofs.edge_start.Tie as tie
+
+pub edge-start-spec : {M : Type 1} → statement M
+edge-start-spec =
+    tie.close
+    (tie.spec
+    (λ c κs. omega (arith, edgeStart-is (c .before .args .rec .now) (c .before .args .i)))
+    (λ c. search needs)
+    (λ c. search needs)
+    (λ c. omega (arith, edgeStart-is (c .before .before .args .rec .now) (c .before .before .args .i)))
+    (λ c. omega (arith, edgeStart-is (c .before .before .args .rec .now) (c .before .before .args .i)))
+    (λ c. omega (arith, edgeStart-is (c .before .before .args .rec .now) (c .before .before .args .i))))

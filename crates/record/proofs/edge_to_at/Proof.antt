@@ -1,0 +1,21 @@
+-- `record::edge_to_at` meets its contract. Assumes nothing.
+use mathlib.Core.Path.{ap, sym, _∙_}
+use Rattle.defs.specs.Record.{u16At}
+use Prim.Native.Nat.{_+_}
+use Rattle.record.proofs.Fields.{to-is}
+use native.Mathlib.Omega.{arith}
+use borrow.Author.Needs.{needs}
+use Rattle.record.proofs.edge_to_at.Statement.{statement}
+use Rattle.record.proofs.edge_to_at.Tie as tie
+
+returns : tie.Need-returns
+returns c = c .u16-at .ensures ∙ ap (λ n. u16At (c .before .before .before .args .rec .now) (n + 2)) (c .before .edge-start .ensures) ∙ sym (to-is (c .before .before .before .args .rec .now) (c .before .before .before .args .i))
+
+pub edge-to-at-spec : {M : Type 1} → statement M
+edge-to-at-spec =
+    tie.close (tie.spec
+    (λ c κs. search needs)
+    (λ c. search needs)
+    (λ c κs. search needs)
+    (λ c. search needs)
+    returns)

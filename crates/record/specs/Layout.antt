@@ -1,0 +1,46 @@
+-- What is known of a record that none of the refusals 1 to 5 meets.
+-- Assumes nothing.
+use Prim.Native.Nat.{ℕ, _<_, _≤_}
+use mathlib.Core.Path.{_≡_}
+use mathlib.Core.Bool.{Bool, not, _||_}
+use mathlib.Core.List.{List}
+use lib.Dec.{eqb}
+use lib.ListN.{length, take}
+use Rattle.defs.specs.Lists.{tab, sum}
+use Rattle.defs.specs.Record.{mark, kindOf, statusOf, kOf, verticesOf, edgesOf, bytesOf, u32At, lengthsAt, edgesAt, bytesAt, wholeLength, lengthAt, edgeAt, flagAt}
+
+-- the test of cause 4 that each vertex of a k-mer graph has k bytes, at one vertex
+abbrev pub otherKmerLength : List ℕ → ℕ → Bool
+otherKmerLength bs i = not (eqb (lengthAt bs i) (kOf bs))
+
+-- the first four tests of cause 4, which no length enters
+unfoldable pub offsetsDisagree : List ℕ → Bool
+offsetsDisagree bs =
+    not (eqb (u32At bs 16) lengthsAt) || (not (eqb (u32At bs 20) (edgesAt (verticesOf bs)))
+    || (not (eqb (u32At bs 24) (bytesAt (verticesOf bs) (edgesOf bs)))
+    || not (eqb (length bs) (wholeLength (verticesOf bs) (edgesOf bs) (bytesOf bs)))))
+
+-- an edge of the record: its ends below V, its flag 0 or 1
+pub record GoodEdge (bs : List ℕ) (i : ℕ) : Type 0 where
+  pub from : (edgeAt bs i) .from < verticesOf bs
+  pub to : (edgeAt bs i) .to < verticesOf bs
+  pub flag : flagAt bs i ≤ 1
+
+pub record WellFormed (bs : List ℕ) : Type 0 where
+  pub marked : take 4 bs ≡ mark
+  pub kind : kindOf bs ≤ 1
+  pub status : statusOf bs ≤ 2
+  pub kmer-status : kindOf bs ≡ 0 → statusOf bs ≡ 0
+  pub k-least : 2 ≤ kOf bs
+  pub k-most : kOf bs ≤ 128
+  pub vertices : verticesOf bs ≤ 2048
+  pub edges : edgesOf bs ≤ 4096
+  pub bytes : kindOf bs ≡ 1 → bytesOf bs ≤ 8192
+  pub lengths-at : u32At bs 16 ≡ lengthsAt
+  pub edges-at : u32At bs 20 ≡ edgesAt (verticesOf bs)
+  pub bytes-at : u32At bs 24 ≡ bytesAt (verticesOf bs) (edgesOf bs)
+  pub stated : u32At bs 28 ≡ length bs
+  pub whole : length bs ≡ wholeLength (verticesOf bs) (edgesOf bs) (bytesOf bs)
+  pub lengths : sum (tab (verticesOf bs) (lengthAt bs)) ≡ bytesOf bs
+  pub kmers : kindOf bs ≡ 0 → (i : ℕ) → i < verticesOf bs → lengthAt bs i ≡ kOf bs
+  pub good : (i : ℕ) → i < edgesOf bs → GoodEdge bs i

@@ -1,0 +1,3 @@
+pub mod CommonLaws
+pub mod PartLaws
+pub mod SharedLoops

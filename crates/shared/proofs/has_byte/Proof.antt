@@ -1,0 +1,13 @@
+use native.Mathlib.Omega.{arith}
+use borrow.Author.Tests.{le-ltb, lt-ltb}
+use Rattle.tabs.proofs.Tabs.{and-else, and-then}
+use borrow.Author.Needs.{needs}
+use Rattle.shared.proofs.has_byte.Statement.{statement}
+use Rattle.shared.proofs.has_byte.Tie as tie
+
+pub has-byte-spec : {M : Type 1} → statement M
+has-byte-spec = tie.close (tie.spec
+    (λ c. and-else _ (le-ltb _ _ (c .if1 .taken)))
+    (λ c. search needs)
+    (λ c. search needs)
+    (λ c. and-then _ (lt-ltb _ _ (c .before .if1 .left))))
