@@ -27,7 +27,7 @@ pub length-le32 : (n : ℕ) → length (le32 n) ≡ 4
 unfolding le32
 length-le32 n = refl
 
-value-of-digits : (n : ℕ) → n < 4294967296
+pub value-of-digits : (n : ℕ) → n < 4294967296
     → n % 256 + 256 * (n / 256 % 256) + 65536 * (n / 65536 % 256) + 16777216 * (n / 16777216 % 256) ≡ n
 value-of-digits n h =
     let b : n / 65536 ≡ n / 256 / 256 = sym (div-div-eq-div-mul n 256 256) in

@@ -10,7 +10,8 @@ use native.Mathlib.Decide.{ℕ-discrete}
 use lib.ListN.{length, getD, set, length-set, take, drop, length-take, length-drop}
 use lib.Seq.{getD-set-same, getD-set-other, ext-getD, getD-take, getD-drop}
 use Rattle.defs.specs.Lists.{tab, sum}
-use Rattle.tabs.proofs.Tabs.{tab-snoc, tab-ext}
+use Rattle.tabs.proofs.Tabs.{tab-ext}
+use Rattle.tabs.proofs.SumTabs.{sum-none, sum-more, sum-below}
 use Rattle.store.specs.Store.{part, seqIn, seqsIn, Within}
 use Rattle.pool.specs.Pool.{Apart, Moved, bytesIn, Packable, Packed}
 
@@ -47,30 +48,15 @@ module _ {p₀ : List ℕ} {to from n : ℕ} where
 
 -- ---- sums of lengths
 
-sum-snoc : (xs : List ℕ) (y : ℕ) → sum (xs ++ (y ∷ [])) ≡ sum xs + y
-unfolding sum
-sum-snoc [] y = omega arith
-sum-snoc (x ∷ xs) y = omega (arith, sum-snoc xs y)
-
 pub bytes-more : (v : ℕ) (vs : List ℕ) → bytesIn (v + 1) vs ≡ bytesIn v vs + getD vs (2 * v + 1) 0
-bytes-more v vs = ap sum (tab-snoc v (λ (v : ℕ). getD vs (2 * v + 1) 0)) ∙ sum-snoc (tab v (λ (v : ℕ). getD vs (2 * v + 1) 0)) (getD vs (2 * v + 1) 0)
+bytes-more v vs = sum-more v (λ (v : ℕ). getD vs (2 * v + 1) 0)
 
 pub bytes-none : (vs : List ℕ) → bytesIn 0 vs ≡ 0
-unfolding sum Rattle.defs.specs.Lists.tabFrom
-bytes-none vs = refl
+bytes-none vs = sum-none (λ (v : ℕ). getD vs (2 * v + 1) 0)
 
 -- a vertex's bytes end before those of all
 pub bytes-below : (n v : ℕ) (vs : List ℕ) → v < n → bytesIn v vs + getD vs (2 * v + 1) 0 ≤ bytesIn n vs
-bytes-below zero v vs h = absurd (omega arith)
-bytes-below (suc n) v vs h =
-    let s : bytesIn (suc n) vs ≡ bytesIn n vs + getD vs (2 * n + 1) 0 = ap (λ (x : ℕ). bytesIn x vs) (sym (add-one n)) ∙ bytes-more n vs in
-    elim (ℕ-discrete v n) [
-      | yes q ↦ rw q (omega (arith, s))
-      | no ne ↦ omega (arith, s, bytes-below n v vs (omega arith))
-    ]
-
-pub bytes-before : (n v : ℕ) (vs : List ℕ) → v < n → bytesIn v vs ≤ bytesIn n vs
-bytes-before n v vs h = omega (arith, bytes-below n v vs h)
+bytes-below n v vs h = sum-below n v (λ (v : ℕ). getD vs (2 * v + 1) 0) h
 
 -- ---- gathering
 

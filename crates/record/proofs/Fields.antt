@@ -3,8 +3,10 @@
 use Prim.Native.Nat.{ℕ, _+_, _*_}
 use mathlib.Core.Path.{_≡_, refl}
 use mathlib.Core.List.{List}
-use lib.ListN.{getD}
-use Rattle.defs.specs.Record.{u16At, u32At, verticesOf, edgesAt, bytesAt, wholeLength, lengthAt, edgeStart, edgeAt, flagAt}
+use lib.Dec.{eqb}
+use lib.ListN.{getD, take, drop}
+use Rattle.defs.specs.Lists.{tab, sum}
+use Rattle.defs.specs.Record.{u16At, u32At, verticesOf, edgesOf, edgesAt, bytesAt, wholeLength, lengthAt, sequenceStart, sequenceAt, edgeStart, edgeAt, flagAt}
 
 module _ (bs : List ℕ) (i : ℕ) where
   pub lengthAt-is : lengthAt bs i ≡ u16At bs (32 + 2 * i)
@@ -30,6 +32,18 @@ module _ (bs : List ℕ) (i : ℕ) where
   pub flagAt-is : flagAt bs i ≡ getD bs (edgeStart bs i + 8) 0
   unfolding flagAt
   flagAt-is = refl
+
+  pub isRef-is : (edgeAt bs i) .isRef ≡ eqb (flagAt bs i) 1
+  unfolding edgeAt
+  isRef-is = refl
+
+  pub sequenceStart-is : sequenceStart bs i ≡ bytesAt (verticesOf bs) (edgesOf bs) + sum (tab i (lengthAt bs))
+  unfolding sequenceStart
+  sequenceStart-is = refl
+
+  pub sequenceAt-is : sequenceAt bs i ≡ take (lengthAt bs i) (drop (sequenceStart bs i) bs)
+  unfolding sequenceAt
+  sequenceAt-is = refl
 
 module _ (v e : ℕ) where
   pub edgesAt-is : edgesAt v ≡ 32 + 2 * v

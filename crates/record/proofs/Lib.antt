@@ -2,3 +2,4 @@ pub mod TabLaws
 pub mod Tests
 pub mod Fields
 pub mod Accepted
+pub mod Sequences

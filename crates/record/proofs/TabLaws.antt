@@ -60,6 +60,28 @@ take-tab l d (suc n) h =
     ∙ ap (λ (r : List _). r ++ (getD l n d ∷ [])) (take-tab l d n (omega arith))
     ∙ sym (tab-snoc n (λ i. getD l i d))
 
+sum-append : (a b : List ℕ) → sum (a ++ b) ≡ sum a + sum b
+unfolding sum
+sum-append [] b = sym (zero-add (sum b))
+sum-append (x ∷ a) b = omega (arith, sum-append a b)
+
+sum-one : (x : ℕ) → sum (x ∷ []) ≡ x
+unfolding sum
+sum-one x = add-zero x
+
+pub sum-snoc : (n : ℕ) (f : ℕ → ℕ) → sum (tab (suc n) f) ≡ sum (tab n f) + f n
+sum-snoc n f = ap sum (tab-snoc n f) ∙ sum-append (tab n f) (f n ∷ []) ∙ ap (λ (x : ℕ). sum (tab n f) + x) (sum-one (f n))
+
+sum-more : (f : ℕ → ℕ) (i m : ℕ) → sum (tab i f) ≤ sum (tab (m + i) f)
+sum-more f i zero = omega (arith, ap (λ (k : ℕ). sum (tab k f)) (zero-add i))
+sum-more f i (suc m) = omega (arith, sum-more f i m, sum-snoc (m + i) f, ap (λ (k : ℕ). sum (tab k f)) (suc-add m i))
+
+-- a number and those before it are part of the sum
+pub sum-upto : (f : ℕ → ℕ) (i n : ℕ) → i < n → sum (tab i f) + f i ≤ sum (tab n f)
+sum-upto f i n h =
+    let e : n - suc i + suc i ≡ n = omega arith in
+    omega (arith, sum-snoc i f, sum-more f (suc i) (n - suc i), ap (λ (k : ℕ). sum (tab k f)) e)
+
 -- the numbers that are left after turn i, of n turns
 left : (i n : ℕ) → i < n → n - i ≡ suc (n - (i + 1))
 left i n h = omega arith

@@ -1,7 +1,7 @@
 use native.Mathlib.Omega.{arith}
 use Prim.Native.Nat.{_+_, _*_, _-_}
 use mathlib.Core.Path.{refl}
-use Rattle.pool.proofs.PoolLaws.{Gathering, gathering-start, gathering-apart, gathering-more, gathering-end, bytes-below, bytes-before}
+use Rattle.pool.proofs.PoolLaws.{Gathering, gathering-start, gathering-apart, gathering-more, gathering-end, bytes-below}
 use Rattle.pool.proofs.gather.Statement.{statement}
 use Rattle.pool.proofs.gather.Tie as tie
 

@@ -1,0 +1,4 @@
+pub mod Concat
+pub mod Encoded
+pub mod Decoded
+pub mod RoundTrip

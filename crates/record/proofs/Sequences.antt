@@ -1,0 +1,37 @@
+-- The sequences of a well formed record lie in it.
+-- Assumes nothing.
+use Prim.Native.Nat.{ℕ, _+_, _-_, _≤_, _<_}
+use mathlib.Core.Path.{_≡_, sym, ap, _∙_}
+use mathlib.Core.List.{List, []}
+use native.Mathlib.Omega.{arith}
+use lib.ListN.{length, take, drop, length-drop}
+use lib.Seq.{length-take-le}
+use Rattle.defs.specs.Lists.{tab, sum}
+use Rattle.defs.specs.SeqGraph.{vertexSequence}
+use Rattle.defs.specs.Record.{verticesOf, edgesOf, bytesOf, bytesAt, lengthAt, sequenceStart, sequenceAt, decode}
+use Rattle.record.specs.Layout.{WellFormed}
+use Rattle.record.proofs.Fields.{wholeLength-is, sequenceStart-is, sequenceAt-is}
+use Rattle.record.proofs.TabLaws.{getD-tab, sum-upto}
+
+module _ (bs : List ℕ) (i : ℕ) (below : i < verticesOf bs) where
+  -- vertex i of the graph that is read
+  pub vertex-is : vertexSequence (decode bs) i ≡ sequenceAt bs i
+  unfolding vertexSequence decode
+  vertex-is = getD-tab (verticesOf bs) (sequenceAt bs) i [] below
+
+  module _ (ok : WellFormed bs) where
+    pub sequence-inside : sequenceStart bs i + lengthAt bs i ≤ length bs
+    sequence-inside =
+        omega (
+          arith,
+          sequenceStart-is bs i,
+          sum-upto (lengthAt bs) i (verticesOf bs) below,
+          ok .lengths,
+          ok .whole,
+          wholeLength-is (verticesOf bs) (edgesOf bs) (bytesOf bs),
+        )
+
+    pub length-sequence : length (sequenceAt bs i) ≡ lengthAt bs i
+    length-sequence =
+        ap length (sequenceAt-is bs i)
+        ∙ length-take-le (lengthAt bs i) (drop (sequenceStart bs i) bs) (omega (arith, sequence-inside, length-drop (sequenceStart bs i) bs))

@@ -1,0 +1,50 @@
+-- Sums, concatenations and maps along lists by index. Assumes nothing.
+use mathlib.Core.Path.{_≡_, refl, sym, ap, _∙_}
+use mathlib.Core.List.{List, [], _∷_, _++_, map, append-assoc, append-nil}
+use Prim.Native.Nat.{ℕ, zero, suc, _+_, _≤_, _<_}
+use native.Mathlib.Numerals.{add-one}
+use native.Mathlib.Omega.{arith}
+use native.Mathlib.Decide.{ℕ-discrete}
+use Rattle.defs.specs.Lists.{tab, tabFrom, sum, concat}
+use Rattle.tabs.proofs.Tabs.{tab-snoc}
+
+sum-snoc : (xs : List ℕ) (y : ℕ) → sum (xs ++ (y ∷ [])) ≡ sum xs + y
+unfolding sum
+sum-snoc [] y = omega arith
+sum-snoc (x ∷ xs) y = omega (arith, sum-snoc xs y)
+
+pub sum-none : (f : ℕ → ℕ) → sum (tab 0 f) ≡ 0
+unfolding sum tabFrom
+sum-none f = refl
+
+pub sum-more : (n : ℕ) (f : ℕ → ℕ) → sum (tab (n + 1) f) ≡ sum (tab n f) + f n
+sum-more n f = ap sum (tab-snoc n f) ∙ sum-snoc (tab n f) (f n)
+
+-- what stands before i, with i, is at most all
+pub sum-below : (n i : ℕ) (f : ℕ → ℕ) → i < n → sum (tab i f) + f i ≤ sum (tab n f)
+sum-below zero i f h = absurd (omega arith)
+sum-below (suc n) i f h =
+    let s : sum (tab (suc n) f) ≡ sum (tab n f) + f n = ap (λ (x : ℕ). sum (tab x f)) (sym (add-one n)) ∙ sum-more n f in
+    elim (ℕ-discrete i n) [
+      | yes q ↦ rw q (omega (arith, s))
+      | no ne ↦ omega (arith, s, sum-below n i f (omega arith))
+    ]
+
+module _ {A : Type 0} where
+  pub concat-append : (xs ys : List (List A)) → concat (xs ++ ys) ≡ concat xs ++ concat ys
+  unfolding concat
+  concat-append [] ys = refl
+  concat-append (x ∷ xs) ys = ap (λ (l : List A). x ++ l) (concat-append xs ys) ∙ sym (append-assoc x (concat xs) (concat ys))
+
+  pub concat-snoc : (xs : List (List A)) (y : List A) → concat (xs ++ (y ∷ [])) ≡ concat xs ++ y
+  unfolding concat
+  concat-snoc xs y = concat-append xs (y ∷ []) ∙ ap (λ (l : List A). concat xs ++ l) (append-nil y)
+
+module _ {A B : Type 0} (f : A → B) where
+  map-tab-from : (s n : ℕ) (g : ℕ → A) → map f (tabFrom s n g) ≡ tabFrom s n (λ (i : ℕ). f (g i))
+  unfolding tabFrom
+  map-tab-from s zero g = refl
+  map-tab-from s (suc n) g = ap (λ (l : List B). f (g s) ∷ l) (map-tab-from (suc s) n g)
+
+  pub map-tab : (n : ℕ) (g : ℕ → A) → map f (tab n g) ≡ tab n (λ (i : ℕ). f (g i))
+  map-tab n g = map-tab-from 0 n g

@@ -1,0 +1,4 @@
+pub mod WriteLaws
+pub mod MoveLaws
+pub mod JoinLaws
+pub mod RemapLaws
