@@ -1,8 +1,7 @@
 -- The parts of a well formed record, written again from what is read.
 -- Assumes nothing.
-use Prim.Native.Nat.{ℕ, zero, suc, _+_, _*_, _-_, _≤_, _<_}
+use Prim.Native.Nat.{ℕ, zero, suc, _+_, _*_, _≤_, _<_}
 use mathlib.Core.Path.{_≡_, refl, sym, ap, _∙_}
-use mathlib.Core.Bool.{Bool, true, false}
 use mathlib.Core.List.{List, [], _∷_, _++_, map}
 use native.Mathlib.Nat.{add-zero, add-assoc}
 use native.Mathlib.Omega.{arith}
@@ -10,14 +9,13 @@ use lib.Dec.{eqb}
 use lib.ListN.{length, getD, take, drop, length-drop, take-append-drop}
 use lib.Seq.{getD-drop, getD-take, take-add, take-all}
 use Rattle.defs.specs.Lists.{bit, concat, tabFrom, tab, sum}
-use Rattle.defs.specs.SeqGraph.{Edge}
 use Rattle.defs.specs.Simplify.{sequenceBytes}
-use Rattle.defs.specs.Record.{mark, kindOf, statusOf, le16, le32, u16At, u32At, kOf, verticesOf, edgesOf, bytesOf, lengthsAt, edgesAt, bytesAt, wholeLength, encodeEdge, encodeHeader, lengthAt, sequenceStart, sequenceAt, edgeStart, flagAt, edgeAt}
+use Rattle.defs.specs.Record.{mark, kindOf, statusOf, le16, le32, u16At, u32At, kOf, verticesOf, edgesOf, bytesOf, bytesAt, wholeLength, encodeEdge, encodeHeader, lengthAt, sequenceAt, edgeStart, flagAt, edgeAt}
 use Rattle.le.proofs.LeLaws.{le16-u16At, le32-u32At}
-use Rattle.record.specs.Layout.{GoodEdge, WellFormed}
-use Rattle.record.proofs.Fields.{lengthAt-is, edgeStart-is, from-is, to-is, support-is, flagAt-is, isRef-is, sequenceStart-is, sequenceAt-is, bytesAt-is, wholeLength-is}
+use Rattle.record.specs.Layout.{WellFormed}
+use Rattle.record.proofs.Fields.{lengthAt-is, edgeStart-is, flagAt-is, sequenceStart-is, sequenceAt-is, bytesAt-is, wholeLength-is}
 use Rattle.record.proofs.TabLaws.{tab-ext, take-tab}
-use Rattle.record.proofs.Sequences.{sequence-inside, length-sequence}
+use Rattle.record.proofs.Sequences.{length-sequence}
 use Rattle.codec.proofs.Concat.{map-tab, concat-parts, concat-widths}
 
 total-bytes : (vs : List (List ℕ)) → sequenceBytes vs ≡ sum (map length vs)

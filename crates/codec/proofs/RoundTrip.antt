@@ -1,13 +1,13 @@
 -- Reading a written graph gives it back, and writing a graph that was read gives the record back.
 -- Assumes nothing.
 use Prim.Native.Nat.{ℕ, zero, suc, _+_, _*_, _≤_, _<_}
-use mathlib.Core.Path.{_≡_, refl, sym, ap, _∙_}
+use mathlib.Core.Path.{_≡_, refl, ap, _∙_}
 use mathlib.Core.Bool.{false}
 use mathlib.Core.List.{List, [], _∷_, _++_, map, List·Memᴰ, List·Memᴰ·head, List·Memᴰ·tail, List·Memᴰ·cases-cons, List·Memᴰ·not-nil}
 use mathlib.Core.Logic.{⊎-elim}
 use native.Mathlib.Nat.{add-suc, suc-add}
 use native.Mathlib.Omega.{arith}
-use lib.ListN.{length, getD, take, drop}
+use lib.ListN.{length, getD, take}
 use Rattle.defs.specs.Lists.{concat, tabFrom, tab}
 use Rattle.defs.specs.SeqGraph.{Edge, Graph, nodeCount}
 use Rattle.defs.specs.Simplify.{sequenceBytes}
@@ -18,7 +18,7 @@ use Rattle.record.proofs.Accepted.{well-formed}
 use Rattle.record.proofs.Fields.{support-is}
 use Rattle.record.proofs.Sequences.{length-sequence}
 use Rattle.record.proofs.TabLaws.{tab-ext, length-tab, sum-upto}
-use Rattle.codec.specs.Encodable.{EncodableEdge, Encodable, WithinEdge, Within}
+use Rattle.codec.specs.Encodable.{Encodable, WithinEdge, Within}
 use Rattle.codec.proofs.Concat.{tab-getD}
 use Rattle.codec.proofs.Encoded.{k-read, vertices-read, edges-read, sequence-read, edge-read}
 use Rattle.codec.proofs.Decoded.{header-back, lengths-back, edges-back, bytes-back, bytes-count, in-parts}

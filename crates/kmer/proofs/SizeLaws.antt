@@ -1,12 +1,11 @@
 -- What each answer says of the number.
 -- Assumes nothing.
 use Prim.Native.Nat.{ℕ}
-use mathlib.Core.Path.{_≡_, refl, sym, _∙_}
+use mathlib.Core.Path.{_≡_, refl}
 use mathlib.Core.Bool.{Bool, true, false, cond}
 use native.Mathlib.Omega.{arith}
 use Rattle.kmer.specs.Size.{kPastLimit, sizeOf}
 use Rattle.kmer.specs.declared.KmerSize.{KmerSize}
-use Rattle.kmer.specs.declared.MadeSize.{MadeSize}
 use Rattle.kmer.specs.declared.MadeSize.the-variants.{Size, Refused}
 
 refused-test : (b : Bool) (n : ℕ) → cond b Refused (Size record { 0 = n }) ≡ Refused → b ≡ true

@@ -1,7 +1,7 @@
 -- What makes a k-mer size, and the number of each answer.
 -- Assumes nothing.
 use Prim.Native.Nat.{ℕ}
-use mathlib.Core.Bool.{Bool, true, false, _||_, cond}
+use mathlib.Core.Bool.{Bool, _||_, cond}
 use lib.Dec.{ltb}
 use Rattle.kmer.specs.declared.MadeSize.{MadeSize}
 use Rattle.kmer.specs.declared.MadeSize.the-variants.{Size, Refused}

@@ -12,10 +12,16 @@ use Rattle.laws.proofs.Measures.{weight, load}
 use Rattle.store.specs.Store.{graphIn, Within}
 use Rattle.memory.specs.declared.Held.{Held}
 use Rattle.memory.specs.declared.Tried.{Tried}
+use Rattle.memory.specs.declared.Work.{Work}
+use Rattle.defs.specs.Zip as Z
 
 -- the graph in the slices
 abbrev pub graphOf : Held → List ℕ → List ℕ → List ℕ → Graph
 graphOf h es vs p = graphIn (h .k) (h .n) (h .m) es vs p
+
+-- the graph in the slices and the rewrites so far
+abbrev pub workOf : Work → List ℕ → List ℕ → List ℕ → Z.Work
+workOf w es vs p = record { graph = graphOf (w .held) es vs p; rewrites = w .rewrites }
 
 -- how many vertices and edges a graph may have between two rewrites: two numbers each in heads and nexts
 abbrev pub vertexRoom : List ℕ → ℕ

@@ -13,3 +13,9 @@ pub struct Tried {
     pub done: bool,
     pub held: Held,
 }
+
+// A graph and the number of rewrites made so far.
+pub struct Work {
+    pub held: Held,
+    pub rewrites: u32,
+}

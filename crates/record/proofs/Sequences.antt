@@ -1,16 +1,15 @@
 -- The sequences of a well formed record lie in it.
 -- Assumes nothing.
-use Prim.Native.Nat.{ℕ, _+_, _-_, _≤_, _<_}
-use mathlib.Core.Path.{_≡_, sym, ap, _∙_}
+use Prim.Native.Nat.{ℕ, _+_, _*_, _≤_, _<_}
+use mathlib.Core.Path.{_≡_, ap, _∙_}
 use mathlib.Core.List.{List, []}
 use native.Mathlib.Omega.{arith}
-use lib.ListN.{length, take, drop, length-drop}
+use lib.ListN.{length, drop, length-drop}
 use lib.Seq.{length-take-le}
-use Rattle.defs.specs.Lists.{tab, sum}
 use Rattle.defs.specs.SeqGraph.{vertexSequence}
-use Rattle.defs.specs.Record.{verticesOf, edgesOf, bytesOf, bytesAt, lengthAt, sequenceStart, sequenceAt, decode}
+use Rattle.defs.specs.Record.{verticesOf, edgesOf, bytesOf, lengthAt, sequenceStart, sequenceAt, decode}
 use Rattle.record.specs.Layout.{WellFormed}
-use Rattle.record.proofs.Fields.{wholeLength-is, sequenceStart-is, sequenceAt-is}
+use Rattle.record.proofs.Fields.{bytesAt-is, wholeLength-is, sequenceStart-is, sequenceAt-is}
 use Rattle.record.proofs.TabLaws.{getD-tab, sum-upto}
 
 module _ (bs : List ℕ) (i : ℕ) (below : i < verticesOf bs) where
@@ -35,3 +34,6 @@ module _ (bs : List ℕ) (i : ℕ) (below : i < verticesOf bs) where
     length-sequence =
         ap length (sequenceAt-is bs i)
         ∙ length-take-le (lengthAt bs i) (drop (sequenceStart bs i) bs) (omega (arith, sequence-inside, length-drop (sequenceStart bs i) bs))
+
+pub length-is : (bs : List ℕ) → WellFormed bs → length bs ≡ 32 + 2 * verticesOf bs + 9 * edgesOf bs + bytesOf bs
+length-is bs ok = omega (arith, ok .whole, wholeLength-is (verticesOf bs) (edgesOf bs) (bytesOf bs), bytesAt-is (verticesOf bs) (edgesOf bs))

@@ -6,6 +6,7 @@ use oracle::ours;
 use oracle::record::seq_graph;
 use oracle::seq_graph::SeqGraph;
 use std::collections::BTreeMap;
+use std::env::var_os;
 use std::io::{self, BufReader};
 use std::panic::{catch_unwind, AssertUnwindSafe};
 use std::process::exit;
@@ -13,6 +14,8 @@ use std::thread;
 
 /// The library must do with a stack of this size.
 const STACK: usize = 2 << 20;
+/// Set, each input is printed before our library gets it: the last one printed is one it did not return from.
+const ECHO: &str = "COMPARE_ECHO";
 /// The label behind the last case.
 const END: &str = "end";
 const REFUSED_NO_PATH: u32 = 10;
@@ -91,11 +94,15 @@ fn show_answer(a: &Answer) -> String {
     format!("number {n} length {l} fields {f:?} {t:?} output {}", hex(&a.output))
 }
 
+fn show_input(case: &Case) -> String {
+    let (call, start, room, list, tally) = (case.call, case.start, case.room, &case.list, case.tally);
+    let record = hex(&case.record);
+    format!("call {call} start {start} room {room} list {list:?} {tally:?} record {record}")
+}
+
 fn differ(case: &Case, who: &str, what: &str) -> ! {
     println!("DIFFERENCE between the model and {who}");
-    println!("call {} start {} room {} list {:?}", case.call, case.start, case.room, case.list);
-    println!("{:?}", case.tally);
-    println!("record {}", hex(&case.record));
+    println!("input: {}", show_input(case));
     println!("model: {}", show_answer(&case.expected));
     println!("{who}: {what}");
     exit(1)
@@ -111,6 +118,9 @@ fn compare(case: &Case, last: &mut Last) -> (bool, bool) {
             let numbers = [made.status, made.rounds, made.end];
             differ(case, "the Rust", &format!("status, rounds, end {numbers:?} bytes {bytes:?}"));
         }
+    }
+    if var_os(ECHO).is_some() {
+        eprintln!("{}", show_input(case));
     }
     let linked = match ours::run(case) {
         None => false,

@@ -3,7 +3,6 @@ use Prim.Native.Nat.{_+_}
 use mathlib.Core.Path.{ap, sym, _∙_}
 use lib.ListN.{getD}
 use Rattle.record.proofs.Fields.{flagAt-is}
-use native.Mathlib.Omega.{arith}
 use borrow.Author.Needs.{needs}
 use Rattle.record.proofs.edge_flag_at.Statement.{statement}
 use Rattle.record.proofs.edge_flag_at.Tie as tie

@@ -2,7 +2,6 @@
 use mathlib.Core.Path.{ap, sym, _∙_}
 use Rattle.defs.specs.Record.{u16At}
 use Rattle.record.proofs.Fields.{from-is}
-use native.Mathlib.Omega.{arith}
 use borrow.Author.Needs.{needs}
 use Rattle.record.proofs.edge_from_at.Statement.{statement}
 use Rattle.record.proofs.edge_from_at.Tie as tie

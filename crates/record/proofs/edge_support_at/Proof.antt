@@ -3,7 +3,6 @@ use Prim.Native.Nat.{_+_}
 use mathlib.Core.Path.{ap, sym, _∙_}
 use Rattle.defs.specs.Record.{u32At}
 use Rattle.record.proofs.Fields.{support-is}
-use native.Mathlib.Omega.{arith}
 use borrow.Author.Needs.{needs}
 use Rattle.record.proofs.edge_support_at.Statement.{statement}
 use Rattle.record.proofs.edge_support_at.Tie as tie

@@ -3,7 +3,6 @@ use mathlib.Core.Path.{ap, sym, _∙_}
 use Rattle.defs.specs.Record.{u16At}
 use Prim.Native.Nat.{_+_}
 use Rattle.record.proofs.Fields.{to-is}
-use native.Mathlib.Omega.{arith}
 use borrow.Author.Needs.{needs}
 use Rattle.record.proofs.edge_to_at.Statement.{statement}
 use Rattle.record.proofs.edge_to_at.Tie as tie

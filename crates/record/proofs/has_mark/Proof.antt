@@ -1,6 +1,5 @@
 -- `record::has_mark` meets its contract. Assumes nothing.
 use Rattle.record.proofs.Tests.{letter-0, letter-1, letter-2, letter-3}
-use native.Mathlib.Omega.{arith}
 use borrow.Author.Needs.{needs}
 use Rattle.record.proofs.has_mark.Statement.{statement}
 use Rattle.record.proofs.has_mark.Tie as tie

@@ -1,7 +1,6 @@
 -- `record::kmer_size_of` meets its contract. Assumes nothing.
 use mathlib.Core.Path.{ap, _∙_}
 use Rattle.kmer.specs.Size.{sizeOf}
-use native.Mathlib.Omega.{arith}
 use borrow.Author.Needs.{needs}
 use Rattle.record.proofs.kmer_size_of.Statement.{statement}
 use Rattle.record.proofs.kmer_size_of.Tie as tie

@@ -1,7 +1,6 @@
 -- `record::layout_disagrees` meets its contract. Assumes nothing.
 use mathlib.Core.Path.{sym, _∙_}
 use Rattle.record.proofs.Tests.{offsets-wrong, lengths-inside, other-sum, kmer-lengths, free-lengths}
-use native.Mathlib.Omega.{arith}
 use borrow.Author.Needs.{needs}
 use Rattle.record.proofs.layout_disagrees.Statement.{statement}
 use Rattle.record.proofs.layout_disagrees.Tie as tie

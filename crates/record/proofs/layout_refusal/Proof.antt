@@ -2,7 +2,6 @@
 use mathlib.Core.Path.{sym, _∙_}
 use Rattle.record.specs.Kinds.{takesOf}
 use Rattle.record.proofs.Tests.{long-enough, offsets-agree, edges-inside, refusal-1, refusal-2, refusal-3, refusal-4, refusal-5, accepted}
-use native.Mathlib.Omega.{arith}
 use borrow.Author.Needs.{needs}
 use Rattle.record.proofs.layout_refusal.Statement.{statement}
 use Rattle.record.proofs.layout_refusal.Tie as tie

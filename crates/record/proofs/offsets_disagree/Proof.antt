@@ -1,6 +1,5 @@
 -- `record::offsets_disagree` meets its contract. Assumes nothing.
 use Rattle.record.proofs.Tests.{lengths-elsewhere, edges-elsewhere, bytes-elsewhere, offsets-right}
-use native.Mathlib.Omega.{arith}
 use borrow.Author.Needs.{needs}
 use Rattle.record.proofs.offsets_disagree.Statement.{statement}
 use Rattle.record.proofs.offsets_disagree.Tie as tie

@@ -1,6 +1,5 @@
 -- `record::other_length` meets its contract. Assumes nothing.
 use Rattle.record.proofs.Tests.{short, stated}
-use native.Mathlib.Omega.{arith}
 use borrow.Author.Needs.{needs}
 use Rattle.record.proofs.other_length.Statement.{statement}
 use Rattle.record.proofs.other_length.Tie as tie

@@ -1,6 +1,5 @@
 -- `record::takes_kind` meets its contract. Assumes nothing.
 use Rattle.record.proofs.Tests.{takes-kmer, takes-sequence, takes-both}
-use native.Mathlib.Omega.{arith}
 use borrow.Author.Needs.{needs}
 use Rattle.record.proofs.takes_kind.Statement.{statement}
 use Rattle.record.proofs.takes_kind.Tie as tie

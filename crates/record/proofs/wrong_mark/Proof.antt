@@ -3,7 +3,6 @@ use mathlib.Core.Path.{sym, _∙_}
 use borrow.Author.Tests.{not-true, not-false}
 use Rattle.record.specs.Kinds.{takesOf}
 use Rattle.record.proofs.Tests.{other-mark, other-kind, other-status, kmer-status, sequence-status}
-use native.Mathlib.Omega.{arith}
 use borrow.Author.Needs.{needs}
 use Rattle.record.proofs.wrong_mark.Statement.{statement}
 use Rattle.record.proofs.wrong_mark.Tie as tie
