@@ -28,13 +28,21 @@ pub room-kept : {es vs p heads nexts nodes mp es′ vs′ p′ heads′ nexts′
     → length es′ ≡ length es → length vs′ ≡ length vs → length p′ ≡ length p → length heads′ ≡ length heads → length nexts′ ≡ length nexts → length nodes′ ≡ length nodes → length mp′ ≡ length mp
     → Room es′ vs′ p′ heads′ nexts′ nodes′ mp′
 room-kept R a b c d e f g = record {
-    es-room = rw (a, e) (R .es-room); vs-room = rw (b, d) (R .vs-room); p-room = rw (c, d) (R .p-room); nodes-room = rw (e, f) (R .nodes-room); map-room = rw (d, g) (R .map-room);
-    vertices-edges = rw (d, e) (R .vertices-edges); small = rw e (R .small) }
+  es-room = rw (a, e) (R .es-room);
+  vs-room = rw (b, d) (R .vs-room);
+  p-room = rw (c, d) (R .p-room);
+  nodes-room = rw (e, f) (R .nodes-room);
+  map-room = rw (d, g) (R .map-room);
+  vertices-edges = rw (d, e) (R .vertices-edges);
+  small = rw e (R .small);
+}
 
 pub holds-kept : {h : Held} {es vs p heads nexts heads′ nexts′ : List ℕ} → Holds h es vs p heads nexts → length heads′ ≡ length heads → length nexts′ ≡ length nexts → Holds h es vs p heads′ nexts′
 holds-kept H d e = record {
-    fit = record { good = H .fit .good; light = rw d (H .fit .light); surplus = rw (d, e) (H .fit .surplus) };
-    within = H .within; used-room = rw d (H .used-room) }
+  fit = record { good = H .fit .good; light = rw d (H .fit .light); surplus = rw (d, e) (H .fit .surplus) };
+  within = H .within;
+  used-room = rw d (H .used-room);
+}
 
 module _ {w : Work} {es vs p heads nexts nodes mp : List ℕ} (R : Ready w es vs p heads nexts nodes mp) {s : ℕ} (h : s < w .held .n) where
   abbrev g : Graph
@@ -57,9 +65,17 @@ module _ {w : Work} {es vs p heads nexts nodes mp : List ℕ} (R : Ready w es vs
 
   unchanged : {nodes′ : List ℕ} → length nodes′ ≡ length nodes → linearChain g s ≡ [] → At w es vs p s record { joined = false; work = w } es vs p heads nexts nodes′ mp
   unchanged q e = record {
-      ready = record { room = room-kept (R .room) refl refl refl refl refl q refl; holds = R .holds; indexed = R .indexed; countable = R .countable };
-      no = λ _. e; same = λ _. refl; same-n = λ _. refl;
-      some = λ t. clash t; is = λ t. clash t; one-more = λ t. clash t; less = omega arith; numbered = λ t. clash t; kept = λ t. clash t }
+    ready = record { room = room-kept (R .room) refl refl refl refl refl q refl; holds = R .holds; indexed = R .indexed; countable = R .countable };
+    no = λ _. e;
+    same = λ _. refl;
+    same-n = λ _. refl;
+    some = λ t. clash t;
+    is = λ t. clash t;
+    one-more = λ t. clash t;
+    less = omega arith;
+    numbered = λ t. clash t;
+    kept = λ t. clash t;
+  }
     where
       clash : {X : Type 0} → false ≡ true → X
       clash t = Rattle.laws.proofs.ListLaws.clash t refl
@@ -76,35 +92,41 @@ module _ {w : Work} {es vs p heads nexts nodes mp : List ℕ} (R : Ready w es vs
 
     pub at-chain : (c ≡ 0 → ⊥) → Chain (w .held) es vs p nodes′ s c
     at-chain o = record {
-        some = Rattle.laws.proofs.ListLaws.byOrder 1 c (λ b. b) (λ b. absurd (o (omega arith)));
-        room = omega (arith, T .most, q, held-vertices (R .holds), R .room .vertices-edges, R .room .nodes-room);
-        start-below = h; below = T .below;
-        chained = subst (λ (l : List ℕ). Chained g s l) (sym (T .is (w .held .k) vs p)) (chained-after g (w .held .n) s) }
+      some = Rattle.laws.proofs.ListLaws.byOrder 1 c (λ b. b) (λ b. absurd (o (omega arith)));
+      room = omega (arith, T .most, q, held-vertices (R .holds), R .room .vertices-edges, R .room .nodes-room);
+      start-below = h;
+      below = T .below;
+      chained = subst (λ (l : List ℕ). Chained g s l) (sym (T .is (w .held .k) vs p)) (chained-after g (w .held .n) s);
+    }
 
     pub at-room : Room es vs p heads nexts nodes′ mp
     at-room = room-kept (R .room) refl refl refl refl refl q refl
 
     module _ (o : c ≡ 0 → ⊥) {r′ : Held} {es′ vs′ p′ mp′ : List ℕ} (J : Joined (w .held) es vs p heads nexts nodes′ s c r′ es′ vs′ p′ mp′)
-      (le : length es′ ≡ length es) (lv : length vs′ ≡ length vs) (lp : length p′ ≡ length p) (lm : length mp′ ≡ length mp) where
+        (le : length es′ ≡ length es) (lv : length vs′ ≡ length vs) (lp : length p′ ≡ length p) (lm : length mp′ ≡ length mp) where
       pub at-indexable : Indexable (r′ .m) (r′ .n) es′ heads nexts
       at-indexable = record {
-          room = omega (arith, held-edges (J .holds), R .room .es-room, le);
-          heads-room = omega (arith, held-vertices (J .holds));
-          nexts-room = omega (arith, held-edges (J .holds));
-          small = omega (arith, held-edges (J .holds), R .room .small);
-          ends = held-ends (J .holds) }
+        room = omega (arith, held-edges (J .holds), R .room .es-room, le);
+        heads-room = omega (arith, held-vertices (J .holds));
+        nexts-room = omega (arith, held-edges (J .holds));
+        small = omega (arith, held-edges (J .holds), R .room .small);
+        ends = held-ends (J .holds);
+      }
 
       pub at-joined : {heads′ nexts′ : List ℕ} → Indexed (r′ .m) (r′ .n) es′ heads′ nexts′ → length heads′ ≡ length heads → length nexts′ ≡ length nexts
           → At w es vs p s record { joined = true; work = record { held = r′; rewrites = w .rewrites + 1 } } es′ vs′ p′ heads′ nexts′ nodes′ mp′
       at-joined I lh ln = record {
-          ready = record { room = room-kept at-room le lv lp lh ln refl lm; holds = holds-kept (J .holds) lh ln; indexed = I; countable = omega (arith, R .countable, J .fewer) };
-          no = λ t. clash t; same = λ t. clash t; same-n = λ t. clash t;
-          some = λ _. omega (arith, at-chain o .some, ap length chain-is, length-tab c (λ (i : ℕ). getD nodes′ i 0));
-          is = λ _. J .is ∙ ap (mergeLinearChain g s) (sym chain-is);
-          one-more = λ _. refl;
-          less = omega (arith, J .fewer);
-          numbered = λ _. J .numbered;
-          kept = λ _ v b. J .kept v b ∙ ap (λ (l : List ℕ). Rattle.defs.specs.SeqGraph.keeps l v) (sym chain-is) }
+        ready = record { room = room-kept at-room le lv lp lh ln refl lm; holds = holds-kept (J .holds) lh ln; indexed = I; countable = omega (arith, R .countable, J .fewer) };
+        no = λ t. clash t;
+        same = λ t. clash t;
+        same-n = λ t. clash t;
+        some = λ _. omega (arith, at-chain o .some, ap length chain-is, length-tab c (λ (i : ℕ). getD nodes′ i 0));
+        is = λ _. J .is ∙ ap (mergeLinearChain g s) (sym chain-is);
+        one-more = λ _. refl;
+        less = omega (arith, J .fewer);
+        numbered = λ _. J .numbered;
+        kept = λ _ v b. J .kept v b ∙ ap (λ (l : List ℕ). Rattle.defs.specs.SeqGraph.keeps l v) (sym chain-is);
+      }
         where
           clash : {X : Type 0} → true ≡ false → X
           clash t = Rattle.laws.proofs.ListLaws.clash refl t

@@ -5,7 +5,8 @@ ghost use lib.ListN.{length, getD};
 ghost use Rattle.index.specs.Index.{Indexed};
 ghost use Rattle.memory.specs.Memory.{Room, Holds};
 ghost use Rattle.zips.specs.Zips.{Ready, At, ZippedAll};
-use memory::{Held, Work};
+use memory::Held;
+use memory::Work;
 
 pub struct Zipped {
     pub joined: bool,
@@ -31,11 +32,17 @@ pub fn zip_at(
     let n = held.n;
     let m = held.m;
     if !chain::is_linear_chain_start(es, m, n, heads, nexts, s as usize) {
-        return Zipped { joined: false, work: work };
+        return Zipped {
+            joined: false,
+            work: work,
+        };
     }
     let c = chain::trace_linear_chain(es, m, n, heads, nexts, s as usize, nodes);
     if c == 0 {
-        return Zipped { joined: false, work: work };
+        return Zipped {
+            joined: false,
+            work: work,
+        };
     }
     let h = zip::merge_linear_chain(held, es, vs, p, heads, nexts, nodes, map, s, c);
     index::build_index(es, h.m, h.n, heads, nexts);
@@ -46,4 +53,37 @@ pub fn zip_at(
             rewrites: work.rewrites + 1,
         },
     }
+}
+
+// Zips every chain that the graph has at first; each start that is left follows its vertex.
+pub fn zip_linear_chains(
+    work: Work,
+    es: &mut [u32],
+    vs: &mut [u32],
+    p: &mut [u8],
+    heads: &mut [u32],
+    nexts: &mut [u32],
+    nodes: &mut [u32],
+    map: &mut [u32],
+    starts: &mut [u32],
+) -> Work
+    requires { ⌜ Ready work (now es) (now vs) (now p) (now heads) (now nexts) (now nodes) (now map) × (length (now heads) ≤ 2 * length (now starts) + 1) ⌝ }
+    ensures { λ r. ⌜ ZippedAll work (now (es .entry)) (now (vs .entry)) (now (p .entry)) r (now (es .exit)) (now (vs .exit)) (now (p .exit)) (now (heads .exit)) (now (nexts .exit)) (now (nodes .exit)) (now (map .exit)) ⌝ }
+{
+    let held = work.held;
+    let mut w = work;
+    let mut count = chain::chain_starts(es, held.m, held.n, heads, nexts, starts);
+    let mut i = 0;
+    while i < count {
+        let s = starts[i];
+        i += 1;
+        let before = w.held;
+        let z = zip_at(w, es, vs, p, heads, nexts, nodes, map, s);
+        let joined = z.joined;
+        w = z.work;
+        if joined {
+            count = zip::remap_numbers(starts, i, count, map, before.n);
+        }
+    }
+    w
 }
