@@ -11,7 +11,7 @@ use Rattle.laws.proofs.Inside.{Through}
 use Rattle.tabs.proofs.Tabs.{length-tab}
 use Rattle.store.specs.Store.{edgeIn, edgesIn, seqIn, graphIn, EndsBelow}
 use Rattle.compact.proofs.CompactLaws.{order-in, mem-ends}
-use Rattle.memory.specs.Memory.{graphOf, vertexRoom, edgeRoom, Fit, Holds}
+use Rattle.memory.specs.Memory.{graphOf, vertexRoom, edgeRoom, Room, Fit, Holds}
 use Rattle.memory.specs.declared.Held.{Held}
 
 pub fit-vertices : {g : Graph} {heads nexts : List ℕ} → Fit g heads nexts → nodeCount g ≤ vertexRoom heads
@@ -46,3 +46,24 @@ module _ {h : Held} {es vs p heads nexts : List ℕ} (H : Holds h es vs p heads 
 
   pub held-ends : EndsBelow (h .n) (h .m) es
   held-ends = mem-ends (h .n) (h .m) es (λ e b. rw (order-in (h .k) (h .n) (h .m) es vs p) at (H .fit .good .0 .bounded e b))
+
+-- room goes by lengths
+pub room-kept : {es vs p heads nexts nodes mp es′ vs′ p′ heads′ nexts′ nodes′ mp′ : List ℕ} → Room es vs p heads nexts nodes mp
+    → length es′ ≡ length es → length vs′ ≡ length vs → length p′ ≡ length p → length heads′ ≡ length heads → length nexts′ ≡ length nexts → length nodes′ ≡ length nodes → length mp′ ≡ length mp
+    → Room es′ vs′ p′ heads′ nexts′ nodes′ mp′
+room-kept R a b c d e f g = record {
+  es-room = rw (a, e) (R .es-room);
+  vs-room = rw (b, d) (R .vs-room);
+  p-room = rw (c, d) (R .p-room);
+  nodes-room = rw (e, f) (R .nodes-room);
+  map-room = rw (d, g) (R .map-room);
+  vertices-edges = rw (d, e) (R .vertices-edges);
+  small = rw e (R .small);
+}
+
+pub holds-kept : {h : Held} {es vs p heads nexts heads′ nexts′ : List ℕ} → Holds h es vs p heads nexts → length heads′ ≡ length heads → length nexts′ ≡ length nexts → Holds h es vs p heads′ nexts′
+holds-kept H d e = record {
+  fit = record { good = H .fit .good; light = rw d (H .fit .light); surplus = rw (d, e) (H .fit .surplus) };
+  within = H .within;
+  used-room = rw d (H .used-room);
+}

@@ -18,31 +18,10 @@ use Rattle.chain.specs.Chain.{ChainStart, Traced}
 use Rattle.memory.specs.Memory.{graphOf, workOf, vertexRoom, edgeRoom, Room, Holds}
 use Rattle.memory.specs.declared.Held.{Held}
 use Rattle.memory.specs.declared.Work.{Work}
-use Rattle.memory.proofs.RoomLaws.{held-vertices, held-edges, held-ends}
+use Rattle.memory.proofs.RoomLaws.{held-vertices, held-edges, held-ends, room-kept, holds-kept}
 use Rattle.zip.specs.Zip.{Chain, Joined}
 use Rattle.zips.specs.Zips.{Ready, At}
 use Rattle.zips.specs.declared.Zipped.{Zipped}
-
--- room goes by lengths
-pub room-kept : {es vs p heads nexts nodes mp es′ vs′ p′ heads′ nexts′ nodes′ mp′ : List ℕ} → Room es vs p heads nexts nodes mp
-    → length es′ ≡ length es → length vs′ ≡ length vs → length p′ ≡ length p → length heads′ ≡ length heads → length nexts′ ≡ length nexts → length nodes′ ≡ length nodes → length mp′ ≡ length mp
-    → Room es′ vs′ p′ heads′ nexts′ nodes′ mp′
-room-kept R a b c d e f g = record {
-  es-room = rw (a, e) (R .es-room);
-  vs-room = rw (b, d) (R .vs-room);
-  p-room = rw (c, d) (R .p-room);
-  nodes-room = rw (e, f) (R .nodes-room);
-  map-room = rw (d, g) (R .map-room);
-  vertices-edges = rw (d, e) (R .vertices-edges);
-  small = rw e (R .small);
-}
-
-pub holds-kept : {h : Held} {es vs p heads nexts heads′ nexts′ : List ℕ} → Holds h es vs p heads nexts → length heads′ ≡ length heads → length nexts′ ≡ length nexts → Holds h es vs p heads′ nexts′
-holds-kept H d e = record {
-  fit = record { good = H .fit .good; light = rw d (H .fit .light); surplus = rw (d, e) (H .fit .surplus) };
-  within = H .within;
-  used-room = rw d (H .used-room);
-}
 
 module _ {w : Work} {es vs p heads nexts nodes mp : List ℕ} (R : Ready w es vs p heads nexts nodes mp) {s : ℕ} (h : s < w .held .n) where
   abbrev g : Graph
