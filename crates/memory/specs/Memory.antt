@@ -10,6 +10,7 @@ use Rattle.defs.specs.SeqGraph.{Graph, nodeCount}
 use Rattle.laws.proofs.Fuel.{Good}
 use Rattle.laws.proofs.Measures.{weight, load}
 use Rattle.store.specs.Store.{graphIn, Within}
+use Rattle.index.specs.Index.{Indexed}
 use Rattle.memory.specs.declared.Held.{Held}
 use Rattle.memory.specs.declared.Tried.{Tried}
 use Rattle.memory.specs.declared.Work.{Work}
@@ -52,6 +53,17 @@ pub record Holds (h : Held) (es vs p heads nexts : List ℕ) : Type 0 where
   pub fit : Fit (graphOf h es vs p) heads nexts
   pub within : Within (h .used) (h .n) vs
   pub used-room : h .used ≤ vertexRoom heads
+
+-- the graph is held and indexed, and there is room; tails need a suffix of at least 4
+pub record Ready (least : ℕ) (h : Held) (es vs p heads nexts nodes mp : List ℕ) : Type 0 where
+  pub least-is : 3 < least
+  pub room : Room es vs p heads nexts nodes mp
+  pub holds : Holds h es vs p heads nexts
+  pub indexed : Indexed (h .m) (h .n) es heads nexts
+
+-- the rewrites of one stage can be counted on
+pub record Counted (rewrites : ℕ) (heads : List ℕ) : Type 0 where
+  pub small : rewrites + vertexRoom heads < 4294967296
 
 -- What trying a rewrite leaves, where `o` is what the definition makes: none, and all as it was; or the graph then held.
 pub record Left (o : Option Graph) (h : Held) (es vs p heads nexts : List ℕ) (r : Tried) (es′ vs′ p′ : List ℕ) : Type 0 where

@@ -139,13 +139,14 @@ module _ {base n : ℕ} {vs₀ p₀ : List ℕ} (F : Packable n vs₀ p₀ base)
 
 -- ---- the sequences, after packing
 
+-- a part within the pool is as long as it says
+pub part-long : (p : List ℕ) (a n : ℕ) → a + n ≤ length p → length (part p a n) ≡ n
+part-long p a n h = length-take n (drop a p) ∙ rw (length-drop a p) (omega arith)
+
 pub part-same : (p p′ : List ℕ) (a b n : ℕ) → a + n ≤ length p → b + n ≤ length p′ → ((i : ℕ) → i < n → getD p′ (b + i) 0 ≡ getD p (a + i) 0) → part p′ b n ≡ part p a n
 part-same p p′ a b n ha hb e = ext-getD 0 _ _
-    (long p′ b hb ∙ sym (long p a ha))
-    (λ i h. let c : i < n = omega (arith, h, long p′ b hb) in getD-take n (drop b p′) i 0 c ∙ getD-drop b p′ i 0 ∙ e i c ∙ sym (getD-take n (drop a p) i 0 c ∙ getD-drop a p i 0))
-  where
-    long : (q : List ℕ) (x : ℕ) → x + n ≤ length q → length (part q x n) ≡ n
-    long q x h = length-take n (drop x q) ∙ rw (length-drop x q) (omega arith)
+    (part-long p′ b n hb ∙ sym (part-long p a n ha))
+    (λ i h. let c : i < n = omega (arith, h, part-long p′ b n hb) in getD-take n (drop b p′) i 0 c ∙ getD-drop b p′ i 0 ∙ e i c ∙ sym (getD-take n (drop a p) i 0 c ∙ getD-drop a p i 0))
 
 module _ {n : ℕ} {vs p vs′ p′ : List ℕ} {used : ℕ} (P : Packed 0 n vs p used vs′ p′) (W : Within (length p) n vs) (room : used ≤ length p′) where
   pub packed-seqs : seqsIn n vs′ p′ ≡ seqsIn n vs p

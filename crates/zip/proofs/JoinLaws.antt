@@ -31,17 +31,13 @@ use Rattle.compact.specs.Compact.{Compactable, Below, Removed}
 use Rattle.compact.specs.declared.Counts.{Counts}
 use Rattle.compact.proofs.CompactLaws.{order-in, mem-ends, ends-mem}
 use Rattle.pool.specs.Pool.{bytesIn, Packable, Packed}
-use Rattle.pool.proofs.PoolLaws.{part-same, packed-seqs, packed-within}
+use Rattle.pool.proofs.PoolLaws.{part-long, part-same, packed-seqs, packed-within}
 use Rattle.memory.specs.Memory.{graphOf, vertexRoom, edgeRoom, Room, Fit, Holds}
 use Rattle.memory.specs.declared.Held.{Held}
 use Rattle.memory.proofs.RoomLaws.{fit-bytes, fit-tame, held-vertices, held-edges, held-ends}
 use Rattle.zip.specs.Zip.{bytesAt, Writable, Written, movedEdge, EdgesMoved, Chain, Joined}
 
 -- ---- lengths
-
--- a part within the pool is as long as it says
-pub part-long : (p : List ℕ) (a n : ℕ) → a + n ≤ length p → length (part p a n) ≡ n
-part-long p a n h = length-take n (drop a p) ∙ rw (length-drop a p) (omega arith)
 
 total-map : {A : Type 0} (f : A → ℕ) (l : List A) → total f l ≡ sum (map f l)
 unfolding total sum

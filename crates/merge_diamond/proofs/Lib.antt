@@ -1,0 +1,3 @@
+pub mod GrownLaws
+pub mod FollowLaws
+pub mod MergeLaws

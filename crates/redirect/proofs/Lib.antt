@@ -1,0 +1,3 @@
+pub mod RaiseLaws
+pub mod RedirectLaws
+pub mod SameLaws

@@ -1,0 +1,10 @@
+use native.Mathlib.Omega.{arith}
+use borrow.Author.Tests.{eq-eqb, ne-eqb}
+use Rattle.redirect.proofs.RedirectLaws.{then-is, else-is}
+use Rattle.redirect.proofs.new_from.Statement.{statement}
+use Rattle.redirect.proofs.new_from.Tie as tie
+
+pub new-from-spec : {M : Type 1} → statement M
+new-from-spec = tie.close (tie.spec
+    (λ c. then-is _ _ (eq-eqb _ _ (c .if1 .taken)))
+    (λ c. else-is _ _ (ne-eqb _ _ (c .if1 .left))))

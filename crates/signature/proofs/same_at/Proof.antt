@@ -1,0 +1,12 @@
+use native.Mathlib.Omega.{arith}
+use borrow.Author.Tests.{le-ltb, lt-ltb}
+use borrow.Author.Needs.{needs}
+use Rattle.signature.proofs.same_at.Statement.{statement}
+use Rattle.signature.proofs.same_at.Tie as tie
+
+pub same-at-spec : {M : Type 1} → statement M
+same-at-spec = tie.close (tie.spec
+    (λ c. rw (le-ltb _ _ (c .if1 .taken)))
+    (λ c. search needs)
+    (λ c. search needs)
+    (λ c. rw (lt-ltb _ _ (c .before .if1 .left))))

@@ -1,0 +1,27 @@
+use native.Mathlib.Omega.{arith}
+use mathlib.Core.Path.{_∙_}
+use Prim.Native.Nat.{_+_, _*_}
+use borrow.Author.Tests.{lt-ltb, le-ltb}
+use Rattle.split_update.proofs.NodeLaws.{cond-yes, cond-no}
+use borrow.Author.Needs.{needs}
+use Rattle.split_update.proofs.end_flag.Statement.{statement}
+use Rattle.split_update.proofs.end_flag.Tie as tie
+
+pub end-flag-spec : {M : Type 1} → statement M
+end-flag-spec =
+    tie.close
+    (tie.spec
+    (λ c. search needs)
+    (λ c. search needs)
+    (λ c. search needs)
+    (λ c. search needs)
+    (λ c. omega (arith, c .shared-slice-known3 .given (2 * c .before .before .before .args .v + c .before .before .before .args .off)))
+    (λ c κs. search needs)
+    (λ c. c .edge-flag .ensures ∙ cond-yes _ _ (lt-ltb _ _ (c .before .if1 .taken)))
+    (λ c. search needs)
+    (λ c. search needs)
+    (λ c. search needs)
+    (λ c. search needs)
+    (λ c. omega (arith, c .shared-slice-known4 .given (2 * c .before .before .before .before .before .args .v + 1)))
+    (λ c κs. search needs)
+    (λ c. c .edge-flag2 .ensures ∙ cond-no _ _ (le-ltb _ _ (c .before .before .if1 .left))))

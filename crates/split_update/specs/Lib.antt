@@ -1,0 +1,3 @@
+pub mod Pushed
+pub mod Ends
+pub mod Split
