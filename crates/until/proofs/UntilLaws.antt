@@ -19,12 +19,12 @@ use Rattle.laws.proofs.Measures.{weight, order-weight, enough-is, Tame, diamond
 use Rattle.laws.proofs.Whole.{byOption, again, firstAt-some, until-none, until-some}
 use Rattle.compact.proofs.CompactLaws.{order-in}
 use Rattle.index.specs.Index.{Indexed, Indexable}
-use Rattle.memory.specs.Memory.{graphOf, workOf, vertexRoom, Room, Fit, Holds, Left}
+use Rattle.memory.specs.Memory.{graphOf, workOf, vertexRoom, Room, Fit, Holds, Ready, Counted, Left}
 use Rattle.memory.specs.declared.Held.{Held}
 use Rattle.memory.specs.declared.Tried.{Tried}
 use Rattle.memory.specs.declared.Work.{Work}
 use Rattle.memory.proofs.RoomLaws.{held-vertices, held-edges, held-ends, room-kept, holds-kept}
-use Rattle.until.specs.Until.{rewriteOf, Ready, Counted, Completed}
+use Rattle.until.specs.Until.{rewriteOf, Completed}
 
 -- ---- what each kind takes away: a merge a vertex, the others a byte
 pub measureOf : ℕ → Graph → ℕ
@@ -35,8 +35,8 @@ unfolding measureOf
 falls kind least pos g g′ v h = byTest (eqb kind 1)
     (λ t. rw t (λ d. let z = diamond-tame g g′ v h d in (z .0, z .2)))
     (λ t. rw t (byTest (eqb kind 2)
-      (λ s. rw s (λ d. let z = tails-tame least pos g g′ v h d in (z .0, z .2)))
-      (λ s. rw s (λ d. merge-tame g g′ v h d))))
+    (λ s. rw s (λ d. let z = tails-tame least pos g g′ v h d in (z .0, z .2)))
+    (λ s. rw s (λ d. merge-tame g g′ v h d))))
 
 pub measure-most : (kind : ℕ) (g : Graph) → measureOf kind g ≤ weight g
 unfolding measureOf
@@ -76,19 +76,36 @@ module _ {f : ℕ → Option Graph} {n : ℕ} {es₀ vs₀ p₀ nodes₀ mp₀ :
   module _ {es vs p nodes mp : List ℕ} {v : ℕ} (S : Scanning f n es₀ vs₀ p₀ nodes₀ mp₀ es vs p nodes mp v) (h : v < n) {k : Held} {heads nexts : List ℕ} {r : Tried} {es′ vs′ p′ : List ℕ} where
     pub scanning-more : {nodes′ mp′ : List ℕ} → Left (f v) k es vs p heads nexts r es′ vs′ p′ → r .done ≡ false → length nodes′ ≡ length nodes → length mp′ ≡ length mp → Scanning f n es₀ vs₀ p₀ nodes₀ mp₀ es′ vs′ p′ nodes′ mp′ (v + 1)
     scanning-more L t a b = record {
-        high = omega arith; same-es = L .same-es t ∙ S .same-es; same-vs = L .same-vs t ∙ S .same-vs; same-p = L .same-p t ∙ S .same-p; nodes-len = a ∙ S .nodes-len; mp-len = b ∙ S .mp-len;
-        is = (λ j. firstAt f (add-one v j) (n - (v + 1))) ∙ sym (first-next f v (n - (v + 1)) (L .no t)) ∙ ap (firstAt f v) (sym (one-less n v h)) ∙ S .is }
+      high = omega arith;
+      same-es = L .same-es t ∙ S .same-es;
+      same-vs = L .same-vs t ∙ S .same-vs;
+      same-p = L .same-p t ∙ S .same-p;
+      nodes-len = a ∙ S .nodes-len;
+      mp-len = b ∙ S .mp-len;
+      is = (λ j. firstAt f (add-one v j) (n - (v + 1))) ∙ sym (first-next f v (n - (v + 1)) (L .no t)) ∙ ap (firstAt f v) (sym (one-less n v h)) ∙ S .is;
+    }
 
     pub scanning-found : Left (f v) k es vs p heads nexts r es′ vs′ p′ → r .done ≡ true → Left (firstAt f 0 n) k es₀ vs₀ p₀ heads nexts r es′ vs′ p′
     scanning-found L t = record {
-        no = λ s. clash t s; same = λ s. clash t s; same-es = λ s. clash t s; same-vs = λ s. clash t s; same-p = λ s. clash t s;
-        yes = λ s. sym (S .is) ∙ ap (firstAt f v) (one-less n v h) ∙ first-here f v (n - (v + 1)) _ (L .yes s);
-        holds = L .holds }
+      no = λ s. clash t s;
+      same = λ s. clash t s;
+      same-es = λ s. clash t s;
+      same-vs = λ s. clash t s;
+      same-p = λ s. clash t s;
+      yes = λ s. sym (S .is) ∙ ap (firstAt f v) (one-less n v h) ∙ first-here f v (n - (v + 1)) _ (L .yes s);
+      holds = L .holds;
+    }
 
   pub scanning-none : {es vs p nodes mp : List ℕ} {v : ℕ} → Scanning f n es₀ vs₀ p₀ nodes₀ mp₀ es vs p nodes mp v → n ≤ v → (k : Held) (heads nexts : List ℕ) → Left (firstAt f 0 n) k es₀ vs₀ p₀ heads nexts record { done = false; held = k } es vs p
   scanning-none {v = v} S h k heads nexts = record {
-      no = λ _. sym (S .is) ∙ ap (firstAt f v) size ∙ first-out f v; same = λ _. refl; same-es = λ _. S .same-es; same-vs = λ _. S .same-vs; same-p = λ _. S .same-p;
-      yes = λ t. clash t refl; holds = λ t. clash t refl }
+    no = λ _. sym (S .is) ∙ ap (firstAt f v) size ∙ first-out f v;
+    same = λ _. refl;
+    same-es = λ _. S .same-es;
+    same-vs = λ _. S .same-vs;
+    same-p = λ _. S .same-p;
+    yes = λ t. clash t refl;
+    holds = λ t. clash t refl;
+  }
     where
       size : n - v ≡ 0
       size = omega arith
@@ -106,13 +123,16 @@ pub record Doing (kind least : ℕ) (w₀ : Work) (es₀ vs₀ p₀ heads₀ : L
 module _ {kind least : ℕ} {w₀ : Work} {es₀ vs₀ p₀ heads₀ : List ℕ} where
   pub doing-start : {nexts nodes mp : List ℕ} → Ready least (w₀ .held) es₀ vs₀ p₀ heads₀ nexts nodes mp → Doing kind least w₀ es₀ vs₀ p₀ heads₀ w₀ es₀ vs₀ p₀ heads₀ nexts nodes mp
   doing-start R = record {
-      ready = R; heads-len = refl; fuel = fuelFor (graphOf (w₀ .held) es₀ vs₀ p₀);
-      enough = omega (arith, measure-most kind (graphOf (w₀ .held) es₀ vs₀ p₀), enough-is (graphOf (w₀ .held) es₀ vs₀ p₀));
-      is = refl;
-      count = omega (arith, measure-most kind (graphOf (w₀ .held) es₀ vs₀ p₀), R .holds .fit .light) }
+    ready = R;
+    heads-len = refl;
+    fuel = fuelFor (graphOf (w₀ .held) es₀ vs₀ p₀);
+    enough = omega (arith, measure-most kind (graphOf (w₀ .held) es₀ vs₀ p₀), enough-is (graphOf (w₀ .held) es₀ vs₀ p₀));
+    is = refl;
+    count = omega (arith, measure-most kind (graphOf (w₀ .held) es₀ vs₀ p₀), R .holds .fit .light);
+  }
 
   module _ {w : Work} {es vs p heads nexts nodes mp : List ℕ} (D : Doing kind least w₀ es₀ vs₀ p₀ heads₀ w es vs p heads nexts nodes mp)
-    {r : Tried} {es′ vs′ p′ : List ℕ} (L : Left (firstAt (rewriteOf kind least (graphOf (w .held) es vs p)) 0 (w .held .n)) (w .held) es vs p heads nexts r es′ vs′ p′) where
+      {r : Tried} {es′ vs′ p′ : List ℕ} (L : Left (firstAt (rewriteOf kind least (graphOf (w .held) es vs p)) 0 (w .held .n)) (w .held) es vs p heads nexts r es′ vs′ p′) where
     abbrev g : Graph
     g = graphOf (w .held) es vs p
 
@@ -124,13 +144,15 @@ module _ {kind least : ℕ} {w₀ : Work} {es₀ vs₀ p₀ heads₀ : List ℕ}
 
     pub doing-end : {nodes′ mp′ : List ℕ} → r .done ≡ false → length nodes′ ≡ length nodes → length mp′ ≡ length mp → Completed kind least w₀ es₀ vs₀ p₀ w es′ vs′ p′ heads nexts nodes′ mp′
     doing-end {nodes′} {mp′} t a b = record {
-        ready = record {
-          least-is = D .ready .least-is;
-          room = room-kept (D .ready .room) (ap length (L .same-es t)) (ap length (L .same-vs t)) (ap length (L .same-p t)) refl refl a b;
-          holds = rw (L .same-es t, L .same-vs t, L .same-p t) (D .ready .holds);
-          indexed = rw (L .same-es t) (D .ready .indexed) };
-        is = (λ j. workOf w (L .same-es t j) (L .same-vs t j) (L .same-p t j)) ∙ sym (stop (D .fuel) (D .enough)) ∙ D .is;
-        most = rw (D .heads-len) (omega (arith, D .count)) }
+      ready = record {
+        least-is = D .ready .least-is;
+        room = room-kept (D .ready .room) (ap length (L .same-es t)) (ap length (L .same-vs t)) (ap length (L .same-p t)) refl refl a b;
+        holds = rw (L .same-es t, L .same-vs t, L .same-p t) (D .ready .holds);
+        indexed = rw (L .same-es t) (D .ready .indexed);
+      };
+      is = (λ j. workOf w (L .same-es t j) (L .same-vs t j) (L .same-p t j)) ∙ sym (stop (D .fuel) (D .enough)) ∙ D .is;
+      most = rw (D .heads-len) (omega (arith, D .count));
+    }
       where
         stop : (fuel : ℕ) → measureOf kind g < fuel → transformUntilComplete (rewriteOf kind least) fuel (workOf w es vs p) ≡ workOf w es vs p
         stop zero h = absurd (omega arith)
@@ -150,11 +172,12 @@ module _ {kind least : ℕ} {w₀ : Work} {es₀ vs₀ p₀ heads₀ : List ℕ}
 
       pub doing-indexable : length es′ ≡ length es → Indexable (r .held .m) (r .held .n) es′ heads nexts
       doing-indexable a = record {
-          room = omega (arith, held-edges (L .holds t), D .ready .room .es-room, a);
-          heads-room = omega (arith, held-vertices (L .holds t));
-          nexts-room = omega (arith, held-edges (L .holds t));
-          small = omega (arith, held-edges (L .holds t), D .ready .room .small);
-          ends = held-ends (L .holds t) }
+        room = omega (arith, held-edges (L .holds t), D .ready .room .es-room, a);
+        heads-room = omega (arith, held-vertices (L .holds t));
+        nexts-room = omega (arith, held-edges (L .holds t));
+        small = omega (arith, held-edges (L .holds t), D .ready .room .small);
+        ends = held-ends (L .holds t);
+      }
 
       pub doing-more : {heads′ nexts′ nodes′ mp′ : List ℕ} → Indexed (r .held .m) (r .held .n) es′ heads′ nexts′ → length es′ ≡ length es → length vs′ ≡ length vs → length p′ ≡ length p
           → length heads′ ≡ length heads → length nexts′ ≡ length nexts → length nodes′ ≡ length nodes → length mp′ ≡ length mp
@@ -165,23 +188,25 @@ module _ {kind least : ℕ} {w₀ : Work} {es₀ vs₀ p₀ heads₀ : List ℕ}
               → Doing kind least w₀ es₀ vs₀ p₀ heads₀ record { held = r .held; rewrites = w .rewrites + 1 } es′ vs′ p′ heads′ nexts′ nodes′ mp′
           go zero h q = absurd (omega arith)
           go (suc fuel) h q = record {
-              ready = record { least-is = D .ready .least-is; room = room-kept (D .ready .room) a b c d e f i; holds = holds-kept (L .holds t) d e; indexed = I };
-              heads-len = d ∙ D .heads-len;
-              fuel = fuel;
-              enough = omega (arith, step .1);
-              is = (λ j. transformUntilComplete (rewriteOf kind least) fuel record { graph = g′; rewrites = add-one (w .rewrites) j })
+            ready = record { least-is = D .ready .least-is; room = room-kept (D .ready .room) a b c d e f i; holds = holds-kept (L .holds t) d e; indexed = I };
+            heads-len = d ∙ D .heads-len;
+            fuel = fuel;
+            enough = omega (arith, step .1);
+            is = (λ j. transformUntilComplete (rewriteOf kind least) fuel record { graph = g′; rewrites = add-one (w .rewrites) j })
                 ∙ sym (until-some (rewriteOf kind least) fuel (workOf w es vs p) g′ (ap (firstAt (rewriteOf kind least g) 0) order-is ∙ L .yes t)) ∙ q;
-              count = omega (arith, D .count, step .1) }
+            count = omega (arith, D .count, step .1);
+          }
 
 -- the slices that were scanned are those at the start
-module _ {kind least n : ℕ} {h : Held} {es₀ vs₀ p₀ nodes₀ mp₀ es vs p nodes mp : List ℕ} {v : ℕ}
-  (S : Scanning (rewriteOf kind least (graphOf h es₀ vs₀ p₀)) n es₀ vs₀ p₀ nodes₀ mp₀ es vs p nodes mp v) where
+module _ (kind least : ℕ) {n : ℕ} {h : Held} {es₀ vs₀ p₀ nodes₀ mp₀ es vs p nodes mp : List ℕ} {v : ℕ}
+    (S : Scanning (rewriteOf kind least (graphOf h es₀ vs₀ p₀)) n es₀ vs₀ p₀ nodes₀ mp₀ es vs p nodes mp v) where
   pub scan-ready : {heads nexts : List ℕ} → Ready least h es₀ vs₀ p₀ heads nexts nodes₀ mp₀ → Ready least h es vs p heads nexts nodes mp
   scan-ready R = record {
-      least-is = R .least-is;
-      room = room-kept (R .room) (ap length (S .same-es)) (ap length (S .same-vs)) (ap length (S .same-p)) refl refl (S .nodes-len) (S .mp-len);
-      holds = rw (S .same-es, S .same-vs, S .same-p) (R .holds);
-      indexed = rw (S .same-es) (R .indexed) }
+    least-is = R .least-is;
+    room = room-kept (R .room) (ap length (S .same-es)) (ap length (S .same-vs)) (ap length (S .same-p)) refl refl (S .nodes-len) (S .mp-len);
+    holds = rw (S .same-es, S .same-vs, S .same-p) (R .holds);
+    indexed = rw (S .same-es) (R .indexed);
+  }
 
   pub scan-left : {heads nexts : List ℕ} {r : Tried} {es′ vs′ p′ : List ℕ} → Left (rewriteOf kind least (graphOf h es vs p) v) h es vs p heads nexts r es′ vs′ p′ → Left (rewriteOf kind least (graphOf h es₀ vs₀ p₀) v) h es vs p heads nexts r es′ vs′ p′
   scan-left {heads} {nexts} {r} {es′} {vs′} {p′} L = subst (λ (o : Option Graph). Left o h es vs p heads nexts r es′ vs′ p′) (λ j. rewriteOf kind least (graphOf h (S .same-es j) (S .same-vs j) (S .same-p j)) v) L

@@ -9,25 +9,12 @@ use lib.Dec.{eqb}
 use Rattle.defs.specs.SeqGraph.{Graph, nodeCount}
 use Rattle.defs.specs.Rewrites.{tryMergeDiamond, tryMergeTails, tryMergeCommonSuffices}
 use Rattle.defs.specs.Simplify.{transformUntilComplete, fuelFor}
-use Rattle.index.specs.Index.{Indexed}
-use Rattle.memory.specs.Memory.{graphOf, workOf, vertexRoom, Room, Holds}
-use Rattle.memory.specs.declared.Held.{Held}
+use Rattle.memory.specs.Memory.{graphOf, workOf, vertexRoom, Ready}
 use Rattle.memory.specs.declared.Work.{Work}
 
 -- the rewrite of a kind, by its number: 1 diamond, 2 tails, else merge
 abbrev pub rewriteOf : ℕ → ℕ → Graph → ℕ → Option Graph
 rewriteOf kind least g v = cond (eqb kind 1) (tryMergeDiamond g v) (cond (eqb kind 2) (tryMergeTails least g v) (tryMergeCommonSuffices g v))
-
--- the graph is held and indexed, and there is room; tails need a suffix of at least 4
-pub record Ready (least : ℕ) (h : Held) (es vs p heads nexts nodes mp : List ℕ) : Type 0 where
-  pub least-is : 3 < least
-  pub room : Room es vs p heads nexts nodes mp
-  pub holds : Holds h es vs p heads nexts
-  pub indexed : Indexed (h .m) (h .n) es heads nexts
-
--- the rewrites of one stage can be counted on
-pub record Counted (rewrites : ℕ) (heads : List ℕ) : Type 0 where
-  pub small : rewrites + vertexRoom heads < 4294967296
 
 pub record Completed (kind least : ℕ) (w : Work) (es vs p : List ℕ) (r : Work) (es′ vs′ p′ heads′ nexts′ nodes′ mp′ : List ℕ) : Type 0 where
   pub ready : Ready least (r .held) es′ vs′ p′ heads′ nexts′ nodes′ mp′

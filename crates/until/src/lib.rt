@@ -4,9 +4,11 @@ ghost use Prim.Native.Nat.{ℕ, _+_, _*_, _<_, _≤_};
 ghost use lib.ListN.{length};
 ghost use Rattle.defs.specs.SeqGraph.{nodeCount};
 ghost use Rattle.defs.specs.Simplify.{firstAt};
-ghost use Rattle.memory.specs.Memory.{graphOf, Left};
-ghost use Rattle.until.specs.Until.{rewriteOf, Ready, Counted, Completed};
-use memory::{Held, Tried, Work};
+ghost use Rattle.memory.specs.Memory.{graphOf, Ready, Counted, Left};
+ghost use Rattle.until.specs.Until.{rewriteOf, Completed};
+use memory::Held;
+use memory::Tried;
+use memory::Work;
 
 // The rewrite of a kind at v: 1 diamond, 2 tails, 4 merge.
 pub fn try_rewrite(
@@ -25,7 +27,34 @@ pub fn try_rewrite(
     requires { ⌜ Ready least held (now es) (now vs) (now p) (now heads) (now nexts) (now nodes) (now map) × (v < held .n) ⌝ }
     ensures { λ r. ⌜ Left (rewriteOf kind least (graphOf held (now (es .entry)) (now (vs .entry)) (now (p .entry))) v) held (now (es .entry)) (now (vs .entry)) (now (p .entry)) (now (heads .entry)) (now (nexts .entry)) r (now (es .exit)) (now (vs .exit)) (now (p .exit)) ⌝ }
 {
-    Tried { done: false, held: held }
+    if kind == 1 {
+        return merge_diamond::try_merge_diamond(
+            held,
+            es,
+            vs,
+            p,
+            heads,
+            nexts,
+            nodes,
+            map,
+            v as u32,
+        );
+    }
+    if kind == 2 {
+        return merge_diamond::try_merge_tails(
+            held,
+            es,
+            vs,
+            p,
+            heads,
+            nexts,
+            nodes,
+            map,
+            v as u32,
+            least,
+        );
+    }
+    merge_suffices::try_merge_common_suffices(held, es, vs, p, heads, nexts, nodes, map, v)
 }
 
 // The rewrite at the first vertex that allows it.
@@ -54,7 +83,10 @@ pub fn first_at(
         }
         v += 1;
     }
-    Tried { done: false, held: held }
+    Tried {
+        done: false,
+        held: held,
+    }
 }
 
 // The rewrite until no vertex allows it, from vertex 0 again after each success.

@@ -1,71 +1,50 @@
+use native.Mathlib.Omega.{arith}
+use mathlib.Core.Path.{_≡_, refl, _∙_}
+use borrow.Author.Tests.{not-true, not-false}
+use lib.ListN.{length}
+use Rattle.memory.specs.Memory.{graphOf}
+use Rattle.until.proofs.UntilLaws.{measureOf, Doing, doing-start, doing-end, doing-countable, doing-less, doing-indexable, doing-more}
 use Rattle.until.proofs.transform_until_complete.Statement.{statement}
 use Rattle.until.proofs.transform_until_complete.Tie as tie
-use Rattle.until.proofs.transform_until_complete.Reads as reads
-use Rattle.until.proofs.transform_until_complete.Lts as lts
-use Rattle.index.proofs.build_index.Reads as build-index-reads
-use Rattle.until.proofs.first_at.Reads as first-at-reads
 
 abbrev Inv-loop : tie.InvT-loop
-Inv-loop kind least es₀ vs₀ p₀ heads₀ nexts₀ nodes₀ map₀ w₀ es vs p heads nexts nodes map w = ?
+Inv-loop kind least es₀ vs₀ p₀ heads₀ nexts₀ nodes₀ map₀ w₀ es vs p heads nexts nodes map w = Doing kind least w₀ es₀ vs₀ p₀ heads₀ w es vs p heads nexts nodes map × ((length es ≡ length es₀) × ((length vs ≡ length vs₀) × ((length p ≡ length p₀) × ((length heads ≡ length heads₀) × ((length nexts ≡ length nexts₀) × ((length nodes ≡ length nodes₀) × (length map ≡ length map₀)))))))
 
 abbrev μ-loop : tie.MeasureT-loop
-μ-loop kind least es₀ vs₀ p₀ heads₀ nexts₀ nodes₀ map₀ w₀ es vs p heads nexts nodes map w = ?
+μ-loop kind least es₀ vs₀ p₀ heads₀ nexts₀ nodes₀ map₀ w₀ es vs p heads nexts nodes map w = measureOf kind (graphOf (w .held) es vs p)
 
--- src/lib.rt:77:5
-loop-holds : tie.Need-loop-holds Inv-loop μ-loop
-loop-holds c = ?
-
--- src/lib.rt:78:13
-first-at-requires : tie.Need-first-at-requires Inv-loop μ-loop
-first-at-requires c κs = ?
-
--- src/lib.rt:81:13
 same-length : tie.Need-same-length Inv-loop μ-loop
-same-length c = ?
+same-length c = c .before .before .before .before .before .before .before .before .before .before .before .first-at .kept .1 .1 .1 .0 ∙ c .before .before .before .before .before .before .before .before .before .before .before .before .before .before .before .before .before .before .before .loop .inv .1 .0
 
--- src/lib.rt:81:13
 same-length-2 : tie.Need-same-length-2 Inv-loop μ-loop
-same-length-2 c = ?
+same-length-2 c = c .before .before .before .before .before .before .before .before .before .before .before .first-at .kept .1 .1 .1 .1 .0 ∙ c .before .before .before .before .before .before .before .before .before .before .before .before .before .before .before .before .before .before .before .loop .inv .1 .1 .0
 
--- src/lib.rt:81:13
 same-length-3 : tie.Need-same-length-3 Inv-loop μ-loop
-same-length-3 c = ?
+same-length-3 c = c .before .before .before .before .before .before .before .before .before .before .before .first-at .kept .1 .1 .1 .1 .1 .0 ∙ c .before .before .before .before .before .before .before .before .before .before .before .before .before .before .before .before .before .before .before .loop .inv .1 .1 .1 .0
 
--- src/lib.rt:81:13
-same-length-4 : tie.Need-same-length-4 Inv-loop μ-loop
-same-length-4 c = ?
-
--- src/lib.rt:81:13
 same-length-5 : tie.Need-same-length-5 Inv-loop μ-loop
-same-length-5 c = ?
+same-length-5 c = c .before .before .before .before .before .before .before .before .before .before .before .before .before .before .before .before .before .before .before .loop .inv .1 .1 .1 .1 .1 .0
 
--- src/lib.rt:81:13
 same-length-6 : tie.Need-same-length-6 Inv-loop μ-loop
-same-length-6 c = ?
+same-length-6 c = c .before .before .before .before .before .before .before .before .before .before .before .first-at .kept .1 .1 .1 .1 .1 .1 .1 .1 .0 ∙ c .before .before .before .before .before .before .before .before .before .before .before .before .before .before .before .before .before .before .before .loop .inv .1 .1 .1 .1 .1 .1 .0
 
--- src/lib.rt:81:13
 same-length-7 : tie.Need-same-length-7 Inv-loop μ-loop
-same-length-7 c = ?
+same-length-7 c = c .before .before .before .before .before .before .before .before .before .before .before .first-at .kept .1 .1 .1 .1 .1 .1 .1 .1 .1 .0 ∙ c .before .before .before .before .before .before .before .before .before .before .before .before .before .before .before .before .before .before .before .loop .inv .1 .1 .1 .1 .1 .1 .1
 
--- src/lib.rt:81:13
 returns : tie.Need-returns Inv-loop μ-loop
-returns c = ?
+returns c = doing-end (c .before .before .before .before .before .before .before .before .before .before .before .before .before .before .before .before .before .before .before .loop .inv .0) (c .before .before .before .before .before .before .before .before .before .before .before .first-at .ensures) (not-true _ (c .if1 .taken)) (c .before .before .before .before .before .before .before .before .before .before .before .first-at .kept .1 .1 .1 .1 .1 .1 .1 .1 .0) (c .before .before .before .before .before .before .before .before .before .before .before .first-at .kept .1 .1 .1 .1 .1 .1 .1 .1 .1 .0)
 
--- src/lib.rt:84:9
 build-index-requires : tie.Need-build-index-requires Inv-loop μ-loop
-build-index-requires c κs = ?
+build-index-requires c κs = doing-indexable (c .before .before .before .before .before .before .before .before .before .before .before .before .before .before .before .before .before .before .before .before .before .before .before .loop .inv .0) (c .before .before .before .before .before .before .before .before .before .before .before .before .before .before .before .first-at .ensures) (not-false _ (c .before .before .before .before .if1 .left)) (c .before .before .before .before .before .before .before .before .before .before .before .before .before .before .before .first-at .kept .1 .1 .1 .0)
 
--- src/lib.rt:87:23
 add-t37 : tie.Need-add-t37 Inv-loop μ-loop
-add-t37 c = ?
+add-t37 c = omega (arith, doing-countable (c .before .before .before .before .before .before .before .before .before .before .before .before .before .before .before .before .before .before .before .before .before .before .before .before .before .before .before .before .before .loop .inv .0) (c .before .before .before .before .before .before .before .before .before .before .before .before .before .before .before .before .before .before .before .before .before .first-at .ensures) (not-false _ (c .before .before .before .before .before .before .before .before .before .before .if1 .left)) (c .before .before .before .before .before .before .before .before .before .before .before .before .before .before .before .before .before .before .before .before .before .before .before .before .before .before .before .before .before .before .before .before .before .before .before .before .before .pre .1))
 
--- src/lib.rt:77:5
 loop-less : tie.Need-loop-less Inv-loop μ-loop
-loop-less c = ?
+loop-less c = doing-less (c .before .before .before .before .before .before .before .before .before .before .before .before .before .before .before .before .before .before .before .before .before .before .before .before .before .before .before .before .before .loop .inv .0) (c .before .before .before .before .before .before .before .before .before .before .before .before .before .before .before .before .before .before .before .before .before .first-at .ensures) (not-false _ (c .before .before .before .before .before .before .before .before .before .before .if1 .left))
 
--- src/lib.rt:77:5
 loop-again : tie.Need-loop-again Inv-loop μ-loop
-loop-again c = ?
+loop-again c = (doing-more (c .before .before .before .before .before .before .before .before .before .before .before .before .before .before .before .before .before .before .before .before .before .before .before .before .before .before .before .before .before .loop .inv .0) (c .before .before .before .before .before .before .before .before .before .before .before .before .before .before .before .before .before .before .before .before .before .first-at .ensures) (not-false _ (c .before .before .before .before .before .before .before .before .before .before .if1 .left)) (c .before .before .before .before .before .build-index .ensures) (c .before .before .before .before .before .before .before .before .before .before .before .before .before .before .before .before .before .before .before .before .before .first-at .kept .1 .1 .1 .0) (c .before .before .before .before .before .before .before .before .before .before .before .before .before .before .before .before .before .before .before .before .before .first-at .kept .1 .1 .1 .1 .0) (c .before .before .before .before .before .before .before .before .before .before .before .before .before .before .before .before .before .before .before .before .before .first-at .kept .1 .1 .1 .1 .1 .0) (c .before .before .before .before .before .build-index .kept .1 .1 .1 .0) (c .before .before .before .before .before .build-index .kept .1 .1 .1 .1 .0) (c .before .before .before .before .before .before .before .before .before .before .before .before .before .before .before .before .before .before .before .before .before .first-at .kept .1 .1 .1 .1 .1 .1 .1 .1 .0) (c .before .before .before .before .before .before .before .before .before .before .before .before .before .before .before .before .before .before .before .before .before .first-at .kept .1 .1 .1 .1 .1 .1 .1 .1 .1 .0), (((c .before .before .before .before .before .before .before .before .before .before .before .before .before .before .before .before .before .before .before .before .before .first-at .kept .1 .1 .1 .0) ∙ c .before .before .before .before .before .before .before .before .before .before .before .before .before .before .before .before .before .before .before .before .before .before .before .before .before .before .before .before .before .loop .inv .1 .0), (((c .before .before .before .before .before .before .before .before .before .before .before .before .before .before .before .before .before .before .before .before .before .first-at .kept .1 .1 .1 .1 .0) ∙ c .before .before .before .before .before .before .before .before .before .before .before .before .before .before .before .before .before .before .before .before .before .before .before .before .before .before .before .before .before .loop .inv .1 .1 .0), (((c .before .before .before .before .before .before .before .before .before .before .before .before .before .before .before .before .before .before .before .before .before .first-at .kept .1 .1 .1 .1 .1 .0) ∙ c .before .before .before .before .before .before .before .before .before .before .before .before .before .before .before .before .before .before .before .before .before .before .before .before .before .before .before .before .before .loop .inv .1 .1 .1 .0), (((c .before .before .before .before .before .build-index .kept .1 .1 .1 .0) ∙ c .before .before .before .before .before .before .before .before .before .before .before .before .before .before .before .before .before .before .before .before .before .before .before .before .before .before .before .before .before .loop .inv .1 .1 .1 .1 .0), (((c .before .before .before .before .before .build-index .kept .1 .1 .1 .1 .0) ∙ c .before .before .before .before .before .before .before .before .before .before .before .before .before .before .before .before .before .before .before .before .before .before .before .before .before .before .before .before .before .loop .inv .1 .1 .1 .1 .1 .0), (((c .before .before .before .before .before .before .before .before .before .before .before .before .before .before .before .before .before .before .before .before .before .first-at .kept .1 .1 .1 .1 .1 .1 .1 .1 .0) ∙ c .before .before .before .before .before .before .before .before .before .before .before .before .before .before .before .before .before .before .before .before .before .before .before .before .before .before .before .before .before .loop .inv .1 .1 .1 .1 .1 .1 .0), ((c .before .before .before .before .before .before .before .before .before .before .before .before .before .before .before .before .before .before .before .before .before .first-at .kept .1 .1 .1 .1 .1 .1 .1 .1 .1 .0) ∙ c .before .before .before .before .before .before .before .before .before .before .before .before .before .before .before .before .before .before .before .before .before .before .before .before .before .before .before .before .before .loop .inv .1 .1 .1 .1 .1 .1 .1))))))))
 
 pub transform-until-complete-spec : {M : Type 1} → statement M
 transform-until-complete-spec =
@@ -73,12 +52,12 @@ transform-until-complete-spec =
     (tie.spec
     Inv-loop
     μ-loop
-    loop-holds
-    first-at-requires
+    (λ c. (doing-start (c .before .before .before .before .before .before .before .pre .0), (refl, (refl, (refl, (refl, (refl, (refl, refl))))))))
+    (λ c κs. c .before .before .before .before .before .before .before .loop .inv .0 .ready)
     same-length
     same-length-2
     same-length-3
-    same-length-4
+    (λ c. c .before .before .before .before .before .before .before .before .before .before .before .before .before .before .before .before .before .before .before .loop .inv .1 .1 .1 .1 .0)
     same-length-5
     same-length-6
     same-length-7

@@ -1,0 +1,4 @@
+pub mod CycleLaws
+pub mod Ranks
+pub mod QueueLaws
+pub mod PeelLaws

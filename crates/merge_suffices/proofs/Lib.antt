@@ -1,0 +1,5 @@
+pub mod TestLaws
+pub mod WriteLaws
+pub mod EdgeLoops
+pub mod MergeLaws
+pub mod TryLaws
