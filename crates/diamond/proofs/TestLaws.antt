@@ -5,11 +5,11 @@ use mathlib.Core.List.{List, [], _∷_, map}
 use Prim.Native.Nat.{ℕ, zero, suc, _+_, _*_, _-_, _≤_, _<_}
 use native.Mathlib.Nat.{add-zero, zero-add, suc-add, add-suc, not-suc-le-zero}
 use native.Mathlib.Omega.{arith}
-use lib.ListN.{length, getD}
+use lib.ListN.{getD}
 use lib.Dec.{eqb, ltb}
-use borrow.Author.Tests.{eq-eqb, ne-eqb, lt-ltb, le-ltb}
+use borrow.Author.Tests.{eq-eqb, lt-ltb, le-ltb}
 use Rattle.defs.specs.Lists.{tab, tabFrom, allOf}
-use Rattle.defs.specs.SeqGraph.{Graph, outgoingNodes, outDegree, inDegree}
+use Rattle.defs.specs.SeqGraph.{outgoingNodes, outDegree, inDegree}
 use Rattle.defs.specs.Rewrites.{isDiamond, isTails}
 use Rattle.laws.proofs.Walks.{byTest}
 use Rattle.tabs.proofs.Tabs.{length-tab, and-then, and-else}
@@ -17,7 +17,7 @@ use Rattle.store.specs.Store.{numsIn, graphIn}
 use Rattle.index.specs.Index.{endOf, edgesAt, Indexed}
 use Rattle.index.proofs.AdjLaws.{Testing, testing-start, testing-more}
 use Rattle.index.proofs.IndexLaws.{out-degree-is, in-degree-is, outgoing-is}
-use Rattle.diamond.specs.Diamond.{allEnter, outCount, inCount, isMiddle, isTail, Diamond, Tails}
+use Rattle.diamond.specs.Diamond.{inCount, isMiddle, isTail, Diamond, Tails}
 
 step-yes : {A : Type 0} (p : A → Bool) (x : A) (xs : List A) → p x ≡ true → allOf p (x ∷ xs) ≡ allOf p xs
 unfolding allOf

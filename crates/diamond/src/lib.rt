@@ -1,7 +1,6 @@
 // When the followers of a vertex are the middles of a diamond, or tails. Each test follows the lists of the index.
 ghost use mathlib.Core.Path.{_≡_};
-ghost use Prim.Native.Nat.{ℕ, _+_, _*_, _<_, _≤_};
-ghost use lib.ListN.{length, getD};
+ghost use Prim.Native.Nat.{_+_, _*_, _<_};
 ghost use Rattle.defs.specs.Lists.{allOf};
 ghost use Rattle.store.specs.Store.{numsIn};
 ghost use Rattle.compact.specs.Compact.{Below};

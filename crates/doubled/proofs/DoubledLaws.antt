@@ -1,7 +1,7 @@
 -- The marks along a vertex's edges, and the definition's doubled edge. Assumes nothing.
 use mathlib.Core.Path.{_≡_, refl, sym, ap, _∙_}
 use mathlib.Core.Bool.{Bool, true, false, _||_}
-use mathlib.Core.List.{List, [], _∷_}
+use mathlib.Core.List.{List}
 use Prim.Native.Nat.{ℕ, zero, suc, _+_, _*_, _≤_, _<_}
 use native.Mathlib.Nat.{add-zero}
 use native.Mathlib.Omega.{arith}
@@ -12,7 +12,7 @@ use Rattle.laws.proofs.Walks.{byTest}
 use Rattle.laws.proofs.ListLaws.{clash, byOrder}
 use Rattle.laws.proofs.Edges.{joins-ends}
 use Rattle.laws.proofs.Counts.{ends-join}
-use Rattle.defs.specs.Lists.{tabFrom, tab, anyOf}
+use Rattle.defs.specs.Lists.{tabFrom, anyOf}
 use Rattle.defs.specs.SeqGraph.{Edge, hasEnds}
 use Rattle.defs.specs.Refusals.{doubledEdge}
 use Rattle.store.specs.Store.{edgeIn, edgesIn, EndsBelow}

@@ -1,7 +1,6 @@
 // Two edges with the same ends: marks along the adjacency lists, so that each edge is looked at once.
 ghost use mathlib.Core.Path.{_≡_};
-ghost use Prim.Native.Nat.{_<_, _≤_};
-ghost use lib.ListN.{length};
+ghost use Prim.Native.Nat.{_<_};
 ghost use Rattle.defs.specs.Refusals.{doubledEdge};
 ghost use Rattle.store.specs.Store.{edgesIn};
 ghost use Rattle.index.specs.Index.{Indexed};

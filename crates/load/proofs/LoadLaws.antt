@@ -1,23 +1,21 @@
 -- The loops that read a record's graph, and the graph that they leave. Assumes nothing.
 use mathlib.Core.Path.{_≡_, refl, sym, ap, _∙_}
-use mathlib.Core.Bool.{Bool, true, false, not}
 use mathlib.Core.List.{List}
 use Prim.Native.Nat.{ℕ, zero, suc, _+_, _*_, _≤_, _<_}
 use native.Mathlib.Omega.{arith}
 use native.Mathlib.Decide.{ℕ-discrete}
 use lib.Dec.{eqb}
-use lib.ListN.{length, getD, set, length-set, take, drop}
+use lib.ListN.{length, getD, set, length-set}
 use lib.Seq.{getD-set-same, getD-set-other}
-use borrow.Author.Tests.{eq-eqb, ne-eqb}
 use Rattle.defs.specs.Lists.{tab, sum}
 use Rattle.defs.specs.SeqGraph.{Edge}
-use Rattle.defs.specs.Record.{kOf, verticesOf, edgesOf, bytesOf, bytesAt, wholeLength, lengthAt, edgeStart, edgeAt, flagAt, sequenceStart, sequenceAt, decode}
+use Rattle.defs.specs.Record.{kOf, verticesOf, edgesOf, bytesOf, bytesAt, lengthAt, edgeStart, edgeAt, flagAt, sequenceStart, sequenceAt, decode}
 use Rattle.tabs.proofs.Tabs.{tab-ext, set-more}
 use Rattle.tabs.proofs.SumTabs.{sum-none, sum-more, sum-below}
-use Rattle.record.specs.Layout.{WellFormed, GoodEdge}
+use Rattle.record.specs.Layout.{WellFormed}
 use Rattle.record.proofs.Fields.{edgeStart-is, isRef-is, sequenceStart-is, sequenceAt-is, bytesAt-is, wholeLength-is}
 use Rattle.record.proofs.Sequences.{length-is}
-use Rattle.store.specs.Store.{isSet, edge, edgeIn, edgesIn, putEdge, putVertex, seqIn, EndsBelow, Within}
+use Rattle.store.specs.Store.{isSet, edgeIn, edgesIn, putEdge, putVertex, seqIn, EndsBelow, Within}
 use Rattle.store.proofs.EdgeLaws.{length-put, put-same, put-other}
 use Rattle.pool.proofs.PoolLaws.{part-same}
 use Rattle.memory.specs.declared.Held.{Held}

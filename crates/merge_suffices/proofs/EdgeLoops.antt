@@ -1,24 +1,23 @@
 -- The new vertex takes over the edges of its predecessors and of the bottom. Assumes nothing.
 use mathlib.Core.Path.{_≡_, refl, sym, ap, _∙_}
 use mathlib.Core.List.{List, [], _∷_, _++_, map, map-append, List·Memᴰ}
-use Prim.Native.Nat.{ℕ, zero, suc, _+_, _*_, _-_, _≤_, _<_}
+use Prim.Native.Nat.{ℕ, _+_, _-_, _≤_, _<_}
 use native.Mathlib.Omega.{arith}
 use lib.ListN.{length, getD}
 use Rattle.defs.specs.Lists.{tab, concat}
 use Rattle.defs.specs.SeqGraph.{Edge, addOrUpdateEdges}
 use Rattle.laws.proofs.Merge.{of-mem-flat}
-use Rattle.tabs.proofs.Tabs.{tab-snoc, tab-zero, length-tab}
+use Rattle.laws.proofs.SplitCounts.{raiseAll-append}
+use Rattle.tabs.proofs.Tabs.{tab-snoc, tab-zero}
 use Rattle.tabs.proofs.ListTabs.{tab-append, raiseAll-none, mem-tab}
 use Rattle.tabs.proofs.SumTabs.{concat-append, concat-snoc}
 use Rattle.store.specs.Store.{edgeIn, edgesIn, numsIn}
 use Rattle.compact.proofs.CompactLaws.{ends-mem}
-use Rattle.index.specs.Index.{endOf}
-use Rattle.index.proofs.IndexLaws.{end-below}
 use Rattle.redirect.specs.Redirect.{redirectedAll, Marks, Redirectable, Redirected}
-use Rattle.redirect.proofs.RaiseLaws.{raiseAll-append, raiseAll-longer, raiseAll-ends}
+use Rattle.redirect.proofs.RaiseLaws.{raiseAll-longer, raiseAll-ends}
 use Rattle.redirect.proofs.RedirectLaws.{marks-start, end-at}
 use Rattle.redirect.proofs.SameLaws.{all-same, indexed-same, into-ends}
-use Rattle.merge_suffices.specs.Merge.{newInto, newEdges, Roomy, IntoReady, IntoDone, EdgesReady, EdgesDone}
+use Rattle.merge_suffices.specs.Merge.{newInto, newEdges, IntoReady, IntoDone, EdgesReady, EdgesDone}
 
 -- ---- the lists of new edges
 

@@ -1,31 +1,31 @@
 -- The steps of a merge make `mergeChange`, and there is room for them. Assumes nothing.
 use mathlib.Core.Path.{_≡_, refl, sym, ap, _∙_, subst}
-use mathlib.Core.Bool.{Bool, true, false}
-use mathlib.Core.Option.{Option, some}
+use mathlib.Core.Bool.{true}
+use mathlib.Core.Option.{some}
 use mathlib.Core.List.{List, [], _∷_, _++_, map, map-append, List·Memᴰ, List·Memᴰ·not-nil, List·Memᴰ·cases-cons, List·Memᴰ·eq-of-singleton, List·Memᴰ·append-cases, Memᴰ·of-map}
 use mathlib.Core.Logic.{⊎-elim}
 use Prim.{tt}
-use Prim.Native.Nat.{ℕ, zero, suc, _+_, _*_, _-_, _/_, _≤_, _<_}
+use Prim.Native.Nat.{ℕ, _+_, _*_, _-_, _≤_, _<_}
 use native.Mathlib.Omega.{arith}
-use lib.ListN.{length, getD, set, length-set, take, drop}
+use lib.ListN.{length, getD, set, length-set}
 use lib.Seq.{getD-set-same, getD-set-other}
 use lib.Dec.{eqb}
 use borrow.Author.Tests.{eqb-true, eqb-false}
-use Rattle.defs.specs.Lists.{tab, concat, headOr, given}
+use Rattle.defs.specs.Lists.{concat, headOr, given}
 use Rattle.defs.specs.SeqGraph.{Edge, Graph, Change, nodeCount, vertexSequence, edgesInto, edgesFrom, incomingNodes, keeps, removeVerticesById, withAdditions, applyChange, addOrUpdateEdges}
-use Rattle.defs.specs.Rewrites.{isMerge, mergesSuffices, mergeChange, redirectedTo, redirectedFrom, newEdge, edgeData, tryMergeCommonSuffices}
+use Rattle.defs.specs.Rewrites.{mergesSuffices, mergeChange, redirectedTo, redirectedFrom, newEdge, edgeData, tryMergeCommonSuffices}
 use Rattle.laws.proofs.Walks.{byTest}
 use Rattle.laws.proofs.ListLaws.{byOrder}
 use Rattle.laws.proofs.Edges.{Linked, of-edgesInto, of-edgesFrom, order-grown}
-use Rattle.laws.proofs.Counts.{total, total-kept, Distinct}
+use Rattle.laws.proofs.Counts.{total, total-kept}
 use Rattle.laws.proofs.Changes.{edges-grown}
 use Rattle.laws.proofs.Merge as L
 use Rattle.laws.proofs.Fuel.{Good}
 use Rattle.laws.proofs.Measures.{load, Tame, bytes-is, merge-tame}
 use Rattle.tabs.proofs.Tabs.{length-tab, getD-tab, tab-snoc, tab-ext}
 use Rattle.tabs.proofs.ListTabs.{mem-tab}
-use Rattle.store.specs.Store.{part, edgeIn, edgesIn, seqIn, seqsIn, graphIn, numsIn, EndsBelow, Within, putVertex}
-use Rattle.compact.specs.Compact.{Compactable, Below, Removed}
+use Rattle.store.specs.Store.{edgeIn, edgesIn, seqIn, seqsIn, graphIn, numsIn, Within, putVertex}
+use Rattle.compact.specs.Compact.{Compactable, Removed}
 use Rattle.compact.specs.declared.Counts.{Counts}
 use Rattle.compact.proofs.CompactLaws.{order-in, mem-ends}
 use Rattle.index.specs.Index.{Indexed}
@@ -35,7 +35,6 @@ use Rattle.zip.proofs.JoinLaws.{held-bytes}
 use Rattle.memory.specs.Memory.{graphOf, vertexRoom, edgeRoom, Room, Fit, Holds}
 use Rattle.memory.specs.declared.Held.{Held}
 use Rattle.memory.proofs.RoomLaws.{fit-vertices, fit-bytes, fit-tame, held-vertices, held-edges}
-use Rattle.redirect.specs.Redirect.{redirectedAll}
 use Rattle.redirect.proofs.SameLaws.{into-all, from-all}
 use Rattle.merge_suffices.specs.Merge.{Writable, Written, newInto, newEdges, EdgesReady, EdgesDone, Mergeable, Merged}
 use Rattle.merge_suffices.proofs.TestLaws.{head-tab, seq-at}

@@ -4,10 +4,10 @@ use mathlib.Core.Bool.{Bool, true, false, _&&_}
 use mathlib.Core.List.{List, [], _∷_, List·Memᴰ, List·Memᴰ·head, List·Memᴰ·tail}
 use Prim.Native.Nat.{ℕ, zero, suc, _+_, _*_, _-_, _≤_, _<_}
 use native.Mathlib.Omega.{arith}
-use lib.ListN.{length, getD, take, drop}
+use lib.ListN.{length, getD, drop}
 use lib.Seq.{getD-take, getD-drop}
 use lib.Dec.{eqb, ltb}
-use borrow.Author.Tests.{eq-eqb, lt-ltb, le-ltb}
+use borrow.Author.Tests.{eq-eqb, lt-ltb}
 use Rattle.defs.specs.Lists.{tab, tabFrom, allOf, headOr, sameList}
 use Rattle.defs.specs.SeqGraph.{Graph, vertexSequence, outDegree, inDegree}
 use Rattle.defs.specs.Rewrites.{isMerge}
@@ -17,7 +17,6 @@ use Rattle.tabs.proofs.Tabs.{length-tab, getD-tab, and-then, and-else}
 use Rattle.tabs.proofs.ListTabs.{of-mem-tab}
 use Rattle.store.specs.Store.{part, seqIn, graphIn, numsIn}
 use Rattle.compact.specs.Compact.{Below}
-use Rattle.index.specs.Index.{endOf, edgesAt}
 use Rattle.index.proofs.IndexLaws.{out-degree-is, in-degree-is}
 use Rattle.pool.proofs.PoolLaws.{part-same}
 use Rattle.pool.proofs.PoolLaws.{part-long}

@@ -1,26 +1,25 @@
 -- The predecessors that were collected, and what a try leaves. Assumes nothing.
 use mathlib.Core.Path.{_≡_, refl, sym, ap, _∙_, subst}
 use mathlib.Core.Bool.{Bool, true, false}
-use mathlib.Core.Option.{Option, none, some}
-use mathlib.Core.List.{List, [], _∷_, map, List·Memᴰ}
-use Prim.Native.Nat.{ℕ, _+_, _*_, _-_, _≤_, _<_}
+use mathlib.Core.Option.{some}
+use mathlib.Core.List.{List, map, List·Memᴰ}
+use Prim.Native.Nat.{ℕ, _*_, _-_, _≤_, _<_}
 use native.Mathlib.Nat.{add-zero}
 use native.Mathlib.Omega.{arith}
 use lib.ListN.{length, getD}
 use Rattle.defs.specs.Lists.{given}
-use Rattle.defs.specs.SeqGraph.{Graph, nodeCount, incomingNodes, applyChange}
+use Rattle.defs.specs.SeqGraph.{Graph, incomingNodes}
 use Rattle.defs.specs.Rewrites.{isMerge, mergesSuffices, tryMergeCommonSuffices}
 use Rattle.laws.proofs.ListLaws.{clash}
 use Rattle.laws.proofs.Edges.{of-mem-ins}
 use Rattle.tabs.proofs.ListTabs.{mem-tab}
-use Rattle.store.specs.Store.{numsIn, graphIn, Within}
+use Rattle.store.specs.Store.{numsIn}
 use Rattle.compact.specs.Compact.{Below}
 use Rattle.compact.proofs.CompactLaws.{order-in}
 use Rattle.index.specs.Index.{endOf, edgesAt, Indexed, Collected}
 use Rattle.index.proofs.IndexLaws.{incoming-is}
-use Rattle.memory.specs.Memory.{graphOf, vertexRoom, edgeRoom, Room, Holds, Left}
+use Rattle.memory.specs.Memory.{graphOf, Room, Holds, Left}
 use Rattle.memory.specs.declared.Held.{Held}
-use Rattle.memory.specs.declared.Tried.{Tried}
 use Rattle.memory.proofs.RoomLaws.{held-vertices, held-edges}
 use Rattle.merge_suffices.specs.Merge.{Testable, Merges, Mergeable, Merged}
 

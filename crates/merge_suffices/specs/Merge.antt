@@ -1,12 +1,12 @@
 -- When the predecessors of a vertex merge with it, and what merging does to the slices. Assumes nothing.
 use mathlib.Core.Path.{_≡_}
 use mathlib.Core.Bool.{Bool, true, _&&_}
-use mathlib.Core.List.{List, _∷_, _++_, map}
+use mathlib.Core.List.{List, _++_, map}
 use Prim.Native.Nat.{ℕ, _+_, _*_, _-_, _≤_, _<_}
 use lib.ListN.{length, getD}
 use lib.Dec.{eqb, ltb}
 use Rattle.defs.specs.Lists.{sameList, concat}
-use Rattle.defs.specs.SeqGraph.{Edge, Graph, incomingNodes, applyChange, addOrUpdateEdges}
+use Rattle.defs.specs.SeqGraph.{Edge, incomingNodes, applyChange, addOrUpdateEdges}
 use Rattle.defs.specs.Rewrites.{isMerge, mergeChange}
 use Rattle.store.specs.Store.{part, seqIn, edgeIn, edgesIn, graphIn, numsIn, Within}
 use Rattle.compact.specs.Compact.{Below}

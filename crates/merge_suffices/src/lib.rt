@@ -1,7 +1,7 @@
 // Predecessors of equal bytes join with the vertex that follows them all (`try_merge_common_suffices`).
 ghost use mathlib.Core.Path.{_≡_};
 ghost use mathlib.Core.List.{_∷_};
-ghost use Prim.Native.Nat.{ℕ, _+_, _*_, _<_, _≤_};
+ghost use Prim.Native.Nat.{_+_, _*_, _<_, _≤_};
 ghost use lib.ListN.{length, getD};
 ghost use Rattle.defs.specs.Lists.{allOf, sameList};
 ghost use Rattle.defs.specs.Rewrites.{tryMergeCommonSuffices};

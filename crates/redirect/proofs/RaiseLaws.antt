@@ -1,13 +1,12 @@
 -- Adding or joining an edge: where edges stand then, and what stays. Assumes nothing.
 use mathlib.Core.Path.{_≡_, refl, sym, ap, _∙_}
 use mathlib.Core.Bool.{Bool, true, false, _||_}
-use mathlib.Core.List.{List, [], _∷_, _++_, List·Memᴰ}
-use Prim.Native.Nat.{ℕ, zero, suc, _+_, _≤_, _<_}
+use mathlib.Core.List.{List, [], _∷_, List·Memᴰ}
+use Prim.Native.Nat.{ℕ, zero, suc, _≤_, _<_}
 use native.Mathlib.Omega.{arith}
 use lib.ListN.{length, getD}
 use Rattle.defs.specs.SeqGraph.{Edge, hasEnds, saturatingAdd, addOrUpdateEdge, addOrUpdateEdges}
 use Rattle.laws.proofs.Walks.{byTest}
-use Rattle.laws.proofs.ListLaws.{clash}
 use Rattle.laws.proofs.Edges.{raise-yes, raise-no, joins-ends, of-raiseAll}
 use Rattle.laws.proofs.Counts.{ends-join}
 use Rattle.tabs.specs.First.{firstIx}
@@ -107,11 +106,6 @@ pub raiseAll-longer : (ns es : List Edge) → length es ≤ length (addOrUpdateE
 unfolding addOrUpdateEdges
 raiseAll-longer [] es = omega arith
 raiseAll-longer (n ∷ ns) es = omega (arith, raise-longer (n .from) (n .to) (n .support) (n .isRef) es, raiseAll-longer ns (addOrUpdateEdge (n .from) (n .to) (n .support) (n .isRef) es))
-
-pub raiseAll-append : (ns ms es : List Edge) → addOrUpdateEdges (ns ++ ms) es ≡ addOrUpdateEdges ms (addOrUpdateEdges ns es)
-unfolding addOrUpdateEdges
-raiseAll-append [] ms es = refl
-raiseAll-append (n ∷ ns) ms es = raiseAll-append ns ms _
 
 pub raiseAll-cons : (n : Edge) (ns es : List Edge) → addOrUpdateEdges (n ∷ ns) es ≡ addOrUpdateEdges ns (addOrUpdateEdges (n ∷ []) es)
 unfolding addOrUpdateEdges

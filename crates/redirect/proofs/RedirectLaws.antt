@@ -2,25 +2,25 @@
 use mathlib.Core.Path.{_≡_, refl, sym, ap, _∙_}
 use mathlib.Core.Bool.{Bool, true, false, cond}
 use mathlib.Core.List.{List, [], _∷_, map}
-use Prim.Native.Nat.{ℕ, zero, suc, _+_, _*_, _-_, _≤_, _<_}
+use Prim.Native.Nat.{ℕ, _+_, _*_, _-_, _≤_, _<_}
 use native.Mathlib.Nat.{add-zero}
 use native.Mathlib.Omega.{arith}
 use native.Mathlib.Decide.{ℕ-discrete}
 use lib.ListN.{length, getD, set, length-set}
 use lib.Seq.{getD-set-same, getD-set-other}
-use lib.Dec.{eqb, leb}
-use borrow.Author.Tests.{eqb-true, eqb-false, eq-eqb, ne-eqb, le-leb, lt-leb}
+use lib.Dec.{eqb}
+use borrow.Author.Tests.{eqb-true, eqb-false, le-leb, lt-leb}
 use Rattle.defs.specs.SeqGraph.{Edge, hasEnds, addOrUpdateEdge, addOrUpdateEdges}
 use Rattle.laws.proofs.Walks.{byTest}
 use Rattle.laws.proofs.ListLaws.{byOrder}
 use Rattle.laws.proofs.Edges.{joins-ends}
 use Rattle.tabs.proofs.Tabs.{length-tab, getD-tab}
-use Rattle.store.specs.Store.{isSet, edgeIn, edgesIn, findEdge, Joinable, EndsBelow}
+use Rattle.store.specs.Store.{isSet, edgeIn, edgesIn, findEdge, Joinable}
 use Rattle.store.proofs.EdgeLaws.{no-edge}
-use Rattle.index.specs.Index.{endOf, atFrom, edgesAt, Next, Index, pairAt, Indexed}
+use Rattle.index.specs.Index.{endOf, atFrom, Index, pairAt}
 use Rattle.index.proofs.AdjLaws.{at-head, at-step, at-end}
 use Rattle.index.proofs.IndexLaws.{end-below}
-use Rattle.redirect.specs.Redirect.{newFrom, newTo, redirected, redirectedAll, place, Marks, Edgewise, Edgewised, Redirectable, Redirected}
+use Rattle.redirect.specs.Redirect.{newFrom, newTo, redirected, redirectedAll, place, Marks, OneReady, OneDone, Redirectable, Redirected}
 use Rattle.redirect.proofs.RaiseLaws.{first-missing, find-raised, find-added, find-other, find-missing, raise-old, raise-longer, raiseAll-longer, raiseAll-cons}
 
 -- ---- `if t { x } else { y }`
@@ -131,14 +131,14 @@ module _ {off y n lo m : ℕ} {es mp : List ℕ} (M : Marks off y n lo m es mp) 
 
 -- ---- one edge
 
-module _ {off y n lo m : ℕ} {es mp : List ℕ} {e : ℕ} (E : Edgewise off y n lo m es mp e) {at : ℕ} (q : at ≡ place lo m (getD mp (endOf (1 - off) es e) 0)) where
+module _ {off y n lo m : ℕ} {es mp : List ℕ} {e : ℕ} (E : OneReady off y n lo m es mp e) {at : ℕ} (q : at ≡ place lo m (getD mp (endOf (1 - off) es e) 0)) where
   pub edge-small : at + 1 < 4294967296
   edge-small = omega (arith, at-most (E .marks) _ (E .other) q, E .small)
 
-  pub edgewised : {u v s f k : ℕ} {es′ : List ℕ} → u ≡ newFrom off y (endOf (1 - off) es e) → v ≡ newTo off y (endOf (1 - off) es e) → s ≡ getD es (4 * e + 2) 0 → f ≡ getD es (4 * e + 3) 0
-      → edgesIn k es′ ≡ addOrUpdateEdge u v s (isSet f) (edgesIn m es) → Edgewised off y n lo m es e k es′ (set mp (endOf (1 - off) es e) (at + 1))
+  pub one-done : {u v s f k : ℕ} {es′ : List ℕ} → u ≡ newFrom off y (endOf (1 - off) es e) → v ≡ newTo off y (endOf (1 - off) es e) → s ≡ getD es (4 * e + 2) 0 → f ≡ getD es (4 * e + 3) 0
+      → edgesIn k es′ ≡ addOrUpdateEdge u v s (isSet f) (edgesIn m es) → OneDone off y n lo m es e k es′ (set mp (endOf (1 - off) es e) (at + 1))
   unfolding addOrUpdateEdges
-  edgewised {u} {v} {s} {f} {k} {es′} hu hv hs hf is =
+  one-done {u} {v} {s} {f} {k} {es′} hu hv hs hf is =
       let z = is ∙ (λ i. addOrUpdateEdge (hu i) (hv i) (hs i) (isSet (hf i)) (edgesIn m es)) in
       record { is = z; marks = marks-more (E .marks) (endOf (1 - off) es e) (E .other) q (getD es (4 * e + 2) 0) (isSet (getD es (4 * e + 3) 0)) k es′ z }
 
@@ -191,7 +191,7 @@ module _ {off y n lo m₀ m : ℕ} {es₀ heads nexts mp₀ : List ℕ} {v : ℕ
     most = omega (arith, length-tab k (edgeIn es), ap length (R .left), raiseAll-longer (map (redirected off y es₀) (atFrom (endOf off es₀) m₀ v e)) (edgesIn k es))
 
     module _ (h : e < m₀) where
-      pub redirecting-edge : Edgewise off y n lo k es mp e
+      pub redirecting-edge : OneReady off y n lo k es mp e
       redirecting-edge = record {
         off-low = F .off-low;
         here = omega (arith, R .len, F .indexed .room);
@@ -207,7 +207,7 @@ module _ {off y n lo m₀ m : ℕ} {es₀ heads nexts mp₀ : List ℕ} {v : ℕ
       pub redirecting-on : e < pairAt off nexts e
       redirecting-on = omega (arith, index .nexts e h .low)
 
-      pub redirecting-more : {k′ : ℕ} {es′ mp′ : List ℕ} → Edgewised off y n lo k es e k′ es′ mp′ → length es′ ≡ length es → length mp′ ≡ length mp → Redirecting off y n lo m₀ m es₀ mp₀ v k′ es′ mp′ (pairAt off nexts e)
+      pub redirecting-more : {k′ : ℕ} {es′ mp′ : List ℕ} → OneDone off y n lo k es e k′ es′ mp′ → length es′ ≡ length es → length mp′ ≡ length mp → Redirecting off y n lo m₀ m es₀ mp₀ v k′ es′ mp′ (pairAt off nexts e)
       unfolding addOrUpdateEdges
       redirecting-more {k′} {es′} {mp′} E a b = let N = index .nexts e h in record {
         high = N .high;
@@ -223,9 +223,6 @@ module _ {off y n lo m₀ m : ℕ} {es₀ heads nexts mp₀ : List ℕ} {v : ℕ
             ∙ R .left;
       }
         where
-          x : ℕ
-          x = endOf (1 - off) es e
-
           size : k ≤ k′
           size = omega (arith, ap length (E .is), length-tab k′ (edgeIn es′), length-tab k (edgeIn es), raiseAll-longer (redirected off y es e ∷ []) (edgesIn k es))
 

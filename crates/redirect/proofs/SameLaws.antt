@@ -1,9 +1,9 @@
 -- Edges behind the first m leave the index of these and the edges of a vertex as they are. Assumes nothing.
-use mathlib.Core.Path.{_≡_, refl, sym, ap, _∙_}
-use mathlib.Core.List.{List, [], _∷_, map, map-map, List·Memᴰ, Memᴰ·of-map}
-use Prim.Native.Nat.{ℕ, _+_, _*_, _-_, _≤_, _<_}
+use mathlib.Core.Path.{_≡_, sym, ap, _∙_}
+use mathlib.Core.List.{List, map, map-map, List·Memᴰ, Memᴰ·of-map}
+use Prim.Native.Nat.{ℕ, _-_, _≤_, _<_}
 use native.Mathlib.Omega.{arith}
-use lib.ListN.{length, getD}
+use lib.ListN.{length}
 use lib.Dec.{eqb}
 use Rattle.defs.specs.Lists.{keepIf}
 use Rattle.defs.specs.SeqGraph.{Edge, edgesFrom, edgesInto}
@@ -12,7 +12,7 @@ use Rattle.laws.proofs.ListLaws.{of-keepIf}
 use Rattle.tabs.proofs.Tabs.{tab-ext}
 use Rattle.store.specs.Store.{edgeIn, edgesIn, graphIn, EndsBelow}
 use Rattle.compact.proofs.CompactLaws.{ends-mem, mem-ends}
-use Rattle.index.specs.Index.{endOf, edgesAt, Next, Index, pairAt, Indexed}
+use Rattle.index.specs.Index.{endOf, edgesAt, Next, Indexed}
 use Rattle.index.proofs.IndexLaws.{keep-is}
 use Rattle.redirect.specs.Redirect.{redirectedAll}
 use Rattle.redirect.proofs.RedirectLaws.{endAt, end-at, end-same, redirect, redirected-is}

@@ -41,7 +41,7 @@ pub record Marks (off y n lo m : ℕ) (es mp : List ℕ) : Type 0 where
   pub is : (x : ℕ) → x < n → place lo m (getD mp x 0) ≡ findEdge (newFrom off y x) (newTo off y x) (edgesIn m es)
 
 -- edge e can be redirected
-pub record Edgewise (off y n lo m : ℕ) (es mp : List ℕ) (e : ℕ) : Type 0 where
+pub record OneReady (off y n lo m : ℕ) (es mp : List ℕ) (e : ℕ) : Type 0 where
   pub off-low : off ≤ 1
   pub here : 4 * e + 4 ≤ length es
   pub other : endOf (1 - off) es e < n
@@ -49,7 +49,8 @@ pub record Edgewise (off y n lo m : ℕ) (es mp : List ℕ) (e : ℕ) : Type 0 w
   pub room : 4 * m + 4 ≤ length es
   pub small : m + 1 < 4294967296
 
-pub record Edgewised (off y n lo m : ℕ) (es : List ℕ) (e k : ℕ) (es′ mp′ : List ℕ) : Type 0 where
+-- it is added with y at its end `off`, or joined to the one that is there, and the marks are right again
+pub record OneDone (off y n lo m : ℕ) (es : List ℕ) (e k : ℕ) (es′ mp′ : List ℕ) : Type 0 where
   pub is : edgesIn k es′ ≡ addOrUpdateEdges (redirected off y es e ∷ []) (edgesIn m es)
   pub marks : Marks off y n lo k es′ mp′
 
@@ -64,6 +65,7 @@ pub record Redirectable (off y n lo m₀ m : ℕ) (es heads nexts mp : List ℕ)
   pub room : 4 * length (addOrUpdateEdges (redirectedAll off y m₀ es v) (edgesIn m es)) + 4 ≤ length es
   pub small : length (addOrUpdateEdges (redirectedAll off y m₀ es v) (edgesIn m es)) + 1 < 4294967296
 
+-- they are added or joined in order; the first m₀ edges stay as they were
 pub record Redirected (off y n lo m₀ m : ℕ) (es : List ℕ) (v k : ℕ) (es′ mp′ : List ℕ) : Type 0 where
   pub is : edgesIn k es′ ≡ addOrUpdateEdges (redirectedAll off y m₀ es v) (edgesIn m es)
   pub old : (j : ℕ) → j < m₀ → edgeIn es′ j ≡ edgeIn es j

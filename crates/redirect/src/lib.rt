@@ -1,8 +1,7 @@
 // A new vertex takes over the edges of an old one, joined where one is there already. A mark for each vertex says where its edge stands.
 ghost use mathlib.Core.Path.{_≡_};
-ghost use Prim.Native.Nat.{ℕ, _+_, _*_, _-_, _<_, _≤_};
-ghost use lib.ListN.{length, getD};
-ghost use Rattle.redirect.specs.Redirect.{newFrom, newTo, place, Edgewise, Edgewised, Redirectable, Redirected};
+ghost use Prim.Native.Nat.{_+_, _*_, _-_, _<_};
+ghost use Rattle.redirect.specs.Redirect.{newFrom, newTo, place, OneReady, OneDone, Redirectable, Redirected};
 
 fn new_from(off: usize, y: u32, x: u32) -> u32
     ensures { λ r. ⌜ r ≡ newFrom off y x ⌝ }
@@ -35,8 +34,8 @@ fn redirect_edge(
     map: &mut [u32],
     e: usize,
 ) -> usize
-    requires { ⌜ Edgewise off y n lo m (now es) (now map) e ⌝ }
-    ensures { λ r. ⌜ Edgewised off y n lo m (now (es .entry)) e r (now (es .exit)) (now (map .exit)) ⌝ }
+    requires { ⌜ OneReady off y n lo m (now es) (now map) e ⌝ }
+    ensures { λ r. ⌜ OneDone off y n lo m (now (es .entry)) e r (now (es .exit)) (now (map .exit)) ⌝ }
 {
     let x = es[4 * e + (1 - off)];
     let at = place_of(map[x as usize], lo, m);

@@ -1,17 +1,17 @@
 -- What the loops over byte place and vertex have shown when they end. Assumes nothing.
-use mathlib.Core.Path.{_≡_, refl, sym, ap, _∙_}
+use mathlib.Core.Path.{_≡_, sym, ap, _∙_}
 use mathlib.Core.Bool.{Bool, true, false, _&&_}
 use mathlib.Core.List.{List, map, reverse}
 use Prim.Native.Nat.{ℕ, _+_, _*_, _-_, _≤_, _<_}
 use native.Mathlib.Omega.{arith}
 use lib.ListN.{length, getD, drop}
 use lib.Dec.{eqb, ltb}
-use borrow.Author.Tests.{ltb-true, lt-ltb, eqb-true, eq-eqb, not-true, not-false}
+use borrow.Author.Tests.{ltb-true, lt-ltb, eqb-true, eq-eqb}
 use Rattle.defs.specs.Lists.{tab, commonPrefix, commonSuffix}
 use Rattle.laws.proofs.ListLaws.{and-split, and-true, clash}
 use Rattle.tabs.proofs.Tabs.{tab-ext}
-use Rattle.store.specs.Store.{part, seqIn}
-use Rattle.shared.specs.Shared.{Parts, startAt, lenAt, byteAt, lastAt, seqsAt, Prefix, Suffix}
+use Rattle.store.specs.Store.{seqIn}
+use Rattle.shared.specs.Shared.{Parts, startAt, lenAt, byteAt, lastAt, Prefix, Suffix}
 use Rattle.shared.proofs.CommonLaws.{Agreeing, agreed}
 use Rattle.shared.proofs.PartLaws.{part-tab, map-tab, back, forth}
 

@@ -1,10 +1,10 @@
 // How many bytes the sequences of some vertices share, at their start and at their end. The count stops at the first vertex that differs.
 ghost use mathlib.Core.Path.{_≡_};
 ghost use mathlib.Core.Bool.{_&&_};
-ghost use Prim.Native.Nat.{ℕ, _+_, _*_, _-_, _<_, _≤_};
+ghost use Prim.Native.Nat.{ℕ, _+_, _-_, _<_, _≤_};
 ghost use lib.Dec.{eqb, ltb};
 ghost use lib.ListN.{length, getD};
-ghost use Rattle.shared.specs.Shared.{Parts, lenAt, byteAt, lastAt, Prefix, Suffix};
+ghost use Rattle.shared.specs.Shared.{Parts, lenAt, Prefix, Suffix};
 
 // Whether byte i of the sequence from `start` on, of `len` bytes, is b.
 pub fn has_byte(p: &[u8], start: usize, len: usize, i: usize, b: u8) -> bool

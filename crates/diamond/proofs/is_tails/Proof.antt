@@ -1,4 +1,3 @@
-use native.Mathlib.Omega.{arith}
 use Rattle.diamond.proofs.TestLaws.{tails-few, tails-is}
 use borrow.Author.Needs.{needs}
 use Rattle.diamond.proofs.is_tails.Statement.{statement}

@@ -1,7 +1,7 @@
 -- `doubled::doubled_edge` meets its contract. Assumes nothing.
 use native.Mathlib.Omega.{arith}
 use Prim.Native.Nat.{_-_}
-use mathlib.Core.Path.{_≡_, refl, _∙_}
+use mathlib.Core.Path.{refl, _∙_}
 use Rattle.doubled.proofs.DoubledLaws.{Scanning, scanning-start, scanning-more, markable-kept, twins-doubled, twinless}
 use Rattle.doubled.proofs.doubled_edge.Statement.{statement}
 use Rattle.doubled.proofs.doubled_edge.Tie as tie

@@ -1,7 +1,6 @@
 -- `load::load_edges` meets its contract. Assumes nothing.
 use native.Mathlib.Omega.{arith}
 use Prim.Native.Nat.{_-_}
-use mathlib.Core.Path.{refl}
 use Rattle.load.proofs.LoadLaws.{ReadingEdges, edge-inside, edges-start, edges-more, edges-end}
 use Rattle.load.proofs.load_edges.Statement.{statement}
 use Rattle.load.proofs.load_edges.Tie as tie

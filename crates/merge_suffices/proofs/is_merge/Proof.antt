@@ -1,6 +1,4 @@
-use native.Mathlib.Omega.{arith}
 use Rattle.merge_suffices.proofs.TestLaws.{merge-none, merge-all}
-use borrow.Author.Needs.{needs}
 use Rattle.merge_suffices.proofs.is_merge.Statement.{statement}
 use Rattle.merge_suffices.proofs.is_merge.Tie as tie
 

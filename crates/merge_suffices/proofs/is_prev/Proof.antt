@@ -4,7 +4,6 @@ use Prim.Native.Nat.{ℕ}
 use lib.Dec.{ltb}
 use borrow.Author.Tests.{not-true, not-false}
 use Rattle.merge_suffices.proofs.TestLaws.{comparable, first-no, second-no, third}
-use borrow.Author.Needs.{needs}
 use Rattle.merge_suffices.proofs.is_prev.Statement.{statement}
 use Rattle.merge_suffices.proofs.is_prev.Tie as tie
 

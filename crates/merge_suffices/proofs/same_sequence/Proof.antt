@@ -1,7 +1,6 @@
 use native.Mathlib.Omega.{arith}
 use mathlib.Core.Path.{_∙_}
 use Rattle.merge_suffices.proofs.TestLaws.{lengths-differ, parts-same}
-use borrow.Author.Needs.{needs}
 use Rattle.merge_suffices.proofs.same_sequence.Statement.{statement}
 use Rattle.merge_suffices.proofs.same_sequence.Tie as tie
 

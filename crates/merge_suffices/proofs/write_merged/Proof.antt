@@ -1,4 +1,3 @@
-use native.Mathlib.Omega.{arith}
 use Rattle.merge_suffices.proofs.WriteLaws.{first-apart, second-apart, written}
 use borrow.Author.Needs.{needs}
 use Rattle.merge_suffices.proofs.write_merged.Statement.{statement}

@@ -1,4 +1,3 @@
-use native.Mathlib.Omega.{arith}
 use borrow.Author.Tests.{eq-eqb, ne-eqb}
 use Rattle.redirect.proofs.RedirectLaws.{then-is, else-is}
 use Rattle.redirect.proofs.new_from.Statement.{statement}

@@ -1,6 +1,5 @@
 use native.Mathlib.Omega.{arith}
-use mathlib.Core.Path.{refl}
-use Rattle.redirect.proofs.RedirectLaws.{joinable, at-most, edge-small, edgewised}
+use Rattle.redirect.proofs.RedirectLaws.{joinable, edge-small, one-done}
 use borrow.Author.Needs.{needs}
 use Rattle.redirect.proofs.redirect_edge.Statement.{statement}
 use Rattle.redirect.proofs.redirect_edge.Tie as tie
@@ -15,7 +14,7 @@ cast-map : tie.Need-cast-map
 cast-map c = omega (arith, edge-small (c .before .before .before .before .before .before .before .before .before .before .before .before .before .before .before .pre) (c .before .before .before .before .before .before .before .before .before .before .place-of .ensures))
 
 returns : tie.Need-returns
-returns c = edgewised (c .before .before .before .before .before .before .before .before .before .before .before .before .before .before .before .pre) (c .before .before .before .before .before .before .before .before .before .before .place-of .ensures) (c .before .before .before .before .new-from .ensures) (c .before .before .before .new-to .ensures) (c .before .before .before .before .before .before .before .before .edge-support .ensures) (c .before .before .before .before .before .before .edge-flag .ensures) (c .before .before .add-or-update-edge .ensures .1)
+returns c = one-done (c .before .before .before .before .before .before .before .before .before .before .before .before .before .before .before .pre) (c .before .before .before .before .before .before .before .before .before .before .place-of .ensures) (c .before .before .before .before .new-from .ensures) (c .before .before .before .new-to .ensures) (c .before .before .before .before .before .before .before .before .edge-support .ensures) (c .before .before .before .before .before .before .edge-flag .ensures) (c .before .before .add-or-update-edge .ensures .1)
 
 pub redirect-edge-spec : {M : Type 1} → statement M
 redirect-edge-spec =

@@ -1,6 +1,4 @@
 use native.Mathlib.Omega.{arith}
-use native.Mathlib.Omega.{arith}
-use mathlib.Core.Path.{refl}
 use Prim.Native.Nat.{_+_, _*_, _-_}
 use Rattle.redirect.proofs.RedirectLaws.{Redirecting, redirecting-start, redirecting-edge, redirecting-on, redirecting-more, redirecting-end}
 use Rattle.redirect.proofs.redirect_edges.Statement.{statement}

@@ -1,4 +1,3 @@
-use native.Mathlib.Omega.{arith}
 use borrow.Author.Tests.{le-ltb, lt-ltb}
 use Rattle.tabs.proofs.Tabs.{and-else, and-then}
 use borrow.Author.Needs.{needs}

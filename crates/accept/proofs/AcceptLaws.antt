@@ -1,0 +1,115 @@
+-- Reading a record, check by check. Assumes nothing.
+use mathlib.Core.Path.{_≡_, refl, sym, ap, _∙_, subst}
+use mathlib.Core.Bool.{Bool, true, false, _&&_, _||_}
+use mathlib.Core.List.{List}
+use Prim.Native.Nat.{ℕ, _+_, _*_, _/_, _≤_, _<_}
+use native.Mathlib.Omega.{arith}
+use lib.ListN.{length, take}
+use lib.Dec.{eqb}
+use borrow.Author.Tests.{ne-eqb, eqb-true}
+use Rattle.defs.specs.SeqGraph.{Graph, nodeCount}
+use Rattle.defs.specs.Record.{kindOf, verticesOf, edgesOf, bytesOf, decode}
+use Rattle.defs.specs.Refusals.{sequenceOnly, takesKind, refusalOf, recordCauses, recordRefusal, doubledEdge, equalKmers, doubled, hasCycle}
+use Rattle.laws.proofs.Fuel.{Good}
+use Rattle.laws.proofs.Measures.{weight, load}
+use Rattle.laws.proofs.Bound.{Small}
+use Rattle.laws.proofs.Room.{Limits, limits-narrow, narrow-small}
+use Rattle.tabs.proofs.Tabs.{length-tab}
+use Rattle.store.specs.Store.{edgeIn, edgesIn}
+use Rattle.index.specs.Index.{Indexable}
+use Rattle.memory.specs.Memory.{graphOf, vertexRoom, edgeRoom, Room, Fit, Holds}
+use Rattle.memory.specs.declared.Held.{Held}
+use Rattle.record.specs.Kinds.{takesOf}
+use Rattle.record.specs.declared.Takes.the-variants.{SequenceOnly}
+use Rattle.record.specs.Layout.{WellFormed}
+use Rattle.record.proofs.Accepted.{well-formed, kind-taken}
+use Rattle.load.specs.Loaded.{Loadable, Loaded}
+use Rattle.doubled.specs.Doubled.{Markable}
+use Rattle.cycle.specs.Peel.{Peelable, HasCycle}
+use Rattle.sound.proofs.Accepted.{refused-early, refused-6, refused-7, accepted, read-good, read-limits}
+use Rattle.accept.specs.Accept.{Roomy, ReadAs}
+use Rattle.accept.specs.declared.Read.{Read}
+
+kind-is : (bs : List ℕ) → refusalOf (take 5 (recordCauses sequenceOnly bs)) ≡ 0 → kindOf bs ≡ 1
+kind-is bs z = eqb-true (kindOf bs) 1 (unfold takesKind in (kind-taken sequenceOnly bs z))
+
+module _ (bs : List ℕ) {heads nexts : List ℕ} where
+  pub read-refused : {i : ℕ} {r : Read} {es vs p : List ℕ} → i ≡ refusalOf (take 5 (recordCauses sequenceOnly bs)) → (i ≡ 0 → ⊥) → r .number ≡ i → ReadAs bs heads nexts r es vs p
+  read-refused {i} e o q = record {
+    number = q ∙ sym (refused-early sequenceOnly bs (sym e) (Rattle.laws.proofs.ListLaws.byOrder 1 i (λ b. b) (λ b. absurd (o (omega arith)))));
+    is = λ z. absurd (o (sym q ∙ z));
+    holds = λ z. absurd (o (sym q ∙ z));
+  }
+
+  module _ (layout : refusalOf (take 5 (recordCauses sequenceOnly bs)) ≡ 0) {es vs p nodes mp : List ℕ} (R : Room es vs p heads nexts nodes mp) (Y : Roomy heads nexts) where
+    formed : WellFormed bs
+    formed = well-formed sequenceOnly bs layout
+
+    limits : Limits (decode bs)
+    limits = read-limits bs formed (kind-is bs layout)
+
+    pub read-loadable : Loadable bs es vs p
+    read-loadable = record {
+      good = formed;
+      es-room = omega (arith, formed .edges, R .es-room, Y .vertices, Y .edges);
+      vs-room = omega (arith, formed .vertices, R .vs-room, Y .vertices);
+      p-room = omega (arith, formed .bytes (kind-is bs layout), R .p-room, Y .vertices);
+    }
+
+    module _ {h : Held} {es′ vs′ p′ : List ℕ} (L : Loaded bs h es′ vs′ p′) where
+      n-small : h .n ≤ 2048
+      n-small = omega (arith, L .n, formed .vertices)
+
+      m-small : h .m ≤ 4096
+      m-small = omega (arith, L .m, formed .edges)
+
+      pub read-indexable : length es′ ≡ length es → Indexable (h .m) (h .n) es′ heads nexts
+      read-indexable l = record {
+        room = omega (arith, l, m-small, R .es-room, Y .vertices, Y .edges);
+        heads-room = omega (arith, n-small, Y .vertices);
+        nexts-room = omega (arith, m-small, Y .vertices, Y .edges);
+        small = omega (arith, m-small);
+        ends = L .ends;
+      }
+
+      pub read-markable : Markable (h .n) mp
+      read-markable = record { room = omega (arith, n-small, R .map-room, Y .vertices); small = omega (arith, n-small) }
+
+      pub read-peelable : {mp′ : List ℕ} → length mp′ ≡ length mp → Peelable (h .n) mp′ nodes
+      read-peelable l = record { degrees-room = omega (arith, l, n-small, R .map-room, Y .vertices); queue-room = omega (arith, n-small, R .nodes-room, Y .vertices, Y .edges); small = omega (arith, n-small) }
+
+      doubled-is : doubled bs ≡ doubledEdge (edgesIn (h .m) es′)
+      unfolding doubled
+      doubled-is = (λ j. doubledEdge ((sym (L .is) j) .edges) || (eqb (kindOf bs) 0 && equalKmers (decode bs .verts))) ∙ rw (ne-eqb (kindOf bs) 0 (λ q. omega (arith, kind-is bs layout))) (or-false _)
+        where
+          or-false : (b : Bool) → b || false ≡ b
+          or-false true = refl
+          or-false false = refl
+
+      pub read-6 : {d : Bool} {r : Read} → d ≡ doubledEdge (edgesIn (h .m) es′) → d ≡ true → r .number ≡ 6 → {es₂ vs₂ p₂ : List ℕ} → ReadAs bs heads nexts r es₂ vs₂ p₂
+      read-6 a t q = record { number = q ∙ sym (refused-6 sequenceOnly bs layout (doubled-is ∙ sym a ∙ t)); is = λ y. absurd (omega arith); holds = λ y. absurd (omega arith) }
+
+      module _ {d : Bool} (a : d ≡ doubledEdge (edgesIn (h .m) es′)) (t : d ≡ false) {c : Bool} (C : HasCycle (h .m) (h .n) es′ c) where
+        cycle-is : hasCycle (decode bs) ≡ c
+        cycle-is = ap hasCycle (sym (L .is)) ∙ sym (C .is (h .k) vs′ p′)
+
+        pub read-7 : {r : Read} → c ≡ true → r .number ≡ 7 → {es₂ vs₂ p₂ : List ℕ} → ReadAs bs heads nexts r es₂ vs₂ p₂
+        read-7 s q = record { number = q ∙ sym (refused-7 sequenceOnly bs layout (doubled-is ∙ sym a ∙ t) (cycle-is ∙ s)); is = λ y. absurd (omega arith); holds = λ y. absurd (omega arith) }
+
+        pub read-0 : c ≡ false → ReadAs bs heads nexts record { number = 0; held = h } es′ vs′ p′
+        read-0 s =
+            let g = read-good bs formed (doubled-is ∙ sym a ∙ t) (cycle-is ∙ s) in
+            let small = narrow-small (decode bs) (limits-narrow (decode bs) g limits) in
+            let fit : Fit (decode bs) heads nexts = record { good = g; light = omega (arith, small .size, Y .vertices); surplus = omega (arith, small .surplus, Y .edges) } in
+            record {
+              number = sym (accepted sequenceOnly bs layout (doubled-is ∙ sym a ∙ t) (cycle-is ∙ s));
+              is = λ _. L .is;
+              holds = λ _. record { fit = rw (L .is) fit; within = L .within; used-room = omega (arith, L .used, formed .bytes (kind-is bs layout), Y .vertices) };
+            }
+
+pub layout-zero : (bs : List ℕ) {i : ℕ} → i ≡ refusalOf (take 5 (recordCauses sequenceOnly bs)) → i ≡ 0 → refusalOf (take 5 (recordCauses sequenceOnly bs)) ≡ 0
+layout-zero bs e z = sym e ∙ z
+
+pub of-takes : (bs : List ℕ) {i : ℕ} → i ≡ refusalOf (take 5 (recordCauses (takesOf SequenceOnly) bs)) → i ≡ refusalOf (take 5 (recordCauses sequenceOnly bs))
+unfolding takesOf
+of-takes bs e = e

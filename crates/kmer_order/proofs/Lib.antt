@@ -1,0 +1,4 @@
+pub mod BytesOrder
+pub mod MergeLaws
+pub mod RunLaws
+pub mod EqualLaws

@@ -1,0 +1,4 @@
+pub mod StepLaws
+pub mod RouteLaws
+pub mod NodeLaws
+pub mod BytesLaws

@@ -1,0 +1,107 @@
+// The reference path: from the reference source along the first reference edge, or the first edge where none is one, to the reference
+// sink; and the bytes that it spells (`reference_path_bytes`).
+ghost use mathlib.Core.Path.{_≡_};
+ghost use Prim.Native.Nat.{ℕ, _+_, _*_, _<_, _≤_};
+ghost use lib.ListN.{length, getD};
+ghost use Rattle.defs.specs.Paths.{referencePathBytes};
+ghost use Rattle.index.specs.Index.{Indexed};
+ghost use Rattle.memory.specs.Memory.{graphOf};
+ghost use Rattle.spell.specs.Spell.{Told};
+ghost use Rattle.paths.specs.Paths.{Spellable};
+ghost use Rattle.reference.specs.Reference.{NextOn, Walkable, Walked};
+use memory::Held;
+use spell::Bytes;
+
+// The vertex behind v on the reference path; n stands for none.
+fn next_on_reference(es: &[u32], m: usize, n: usize, heads: &[u32], nexts: &[u32], v: u32) -> usize
+    requires { ⌜ (v < n) × Indexed m n (now es) (now heads) (now nexts) ⌝ }
+    ensures { λ r. ⌜ NextOn m n (now (es .entry)) v r ⌝ }
+{
+    let first = heads[2 * (v as usize)] as usize;
+    if m <= first {
+        return n;
+    }
+    let mut e = first;
+    while e < m {
+        if store::edge_flag(es, e) != 0 {
+            return store::edge_to(es, e) as usize;
+        }
+        e = nexts[2 * e] as usize;
+    }
+    store::edge_to(es, first) as usize
+}
+
+// Writes the vertices from `source` to `sink` to `nodes`; how many, or 0 where the path ends before the sink.
+fn reference_path(
+    es: &[u32],
+    m: usize,
+    n: usize,
+    heads: &[u32],
+    nexts: &[u32],
+    source: u32,
+    sink: u32,
+    nodes: &mut [u32],
+) -> usize
+    requires { ⌜ Walkable n source (now nodes) × Indexed m n (now es) (now heads) (now nexts) ⌝ }
+    ensures { λ r. ⌜ Walked m n (now (es .entry)) source sink r (now (nodes .exit)) ⌝ }
+{
+    let mut v = source;
+    let mut c = 0;
+    while c < n {
+        nodes[c] = v;
+        c += 1;
+        if v == sink {
+            return c;
+        }
+        let w = next_on_reference(es, m, n, heads, nexts, v);
+        if n <= w {
+            return 0;
+        }
+        v = w as u32;
+    }
+    0
+}
+
+// The bytes of the reference path, which are written to the front of `out` where they fit; none where there is no such path.
+pub fn reference_path_bytes(
+    held: Held,
+    es: &[u32],
+    vs: &[u32],
+    p: &[u8],
+    heads: &[u32],
+    nexts: &[u32],
+    nodes: &mut [u32],
+    out: &mut [u8],
+) -> Bytes
+    requires { ⌜ Spellable held (now es) (now vs) (now p) (now nodes) × Indexed (held .m) (held .n) (now es) (now heads) (now nexts) ⌝ }
+    ensures { λ r. ⌜ Told (referencePathBytes (graphOf held (now (es .entry)) (now (vs .entry)) (now (p .entry)))) (now (out .entry)) r (now (out .exit)) ⌝ }
+{
+    let n = held.n;
+    let m = held.m;
+    let source = refs::reference_source_vertex(es, m, n, heads, nexts);
+    let sink = refs::reference_sink_vertex(es, m, n, heads, nexts);
+    if n <= source {
+        return Bytes {
+            found: false,
+            len: 0,
+        };
+    }
+    if n <= sink {
+        return Bytes {
+            found: false,
+            len: 0,
+        };
+    }
+    let c = reference_path(es, m, n, heads, nexts, source as u32, sink as u32, nodes);
+    if c == 0 {
+        return Bytes {
+            found: false,
+            len: 0,
+        };
+    }
+    let len = spell::spell(vs, p, nodes, c, out);
+    Bytes {
+        found: true,
+        len: len,
+    }
+}

@@ -1,0 +1,3 @@
+pub mod OnceLaws
+pub mod RoundLaws
+pub mod FullLaws

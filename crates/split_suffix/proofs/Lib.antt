@@ -1,0 +1,4 @@
+pub mod EdgeLoops
+pub mod VertexLoops
+pub mod ListForms
+pub mod SplitLaws
