@@ -1,0 +1,3 @@
+pub mod PlaceOrder
+pub mod MergeLaws
+pub mod RunLaws
