@@ -1,1 +1,4 @@
 pub mod TrimLaws
+pub mod SortLaws
+pub mod PlaceLaws
+pub mod CopyLaws

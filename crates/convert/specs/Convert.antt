@@ -4,8 +4,9 @@ use mathlib.Core.List.{List}
 use Prim.Native.Nat.{ℕ, _+_, _*_, _≤_, _<_}
 use lib.ListN.{length, getD}
 use Rattle.defs.specs.Lists.{tab}
-use Rattle.defs.specs.Assembly.{additionalSequence}
-use Rattle.store.specs.Store.{seqsIn, graphIn, Within}
+use Rattle.defs.specs.Assembly.{additionalSequence, edgesSorted}
+use Rattle.store.specs.Store.{edgesIn, seqIn, seqsIn, graphIn, EndsBelow, Within}
+use Rattle.kmer_order.specs.Order.{times}
 
 -- n vertices, none of them empty
 pub record Trimmable (n : ℕ) (vs : List ℕ) : Type 0 where
@@ -17,3 +18,44 @@ pub record Trimmable (n : ℕ) (vs : List ℕ) : Type 0 where
 pub record Trimmed (m n : ℕ) (es vs vs′ : List ℕ) : Type 0 where
   pub is : (k : ℕ) (p : List ℕ) → Within (length p) n vs → seqsIn n vs′ p ≡ tab n (additionalSequence (graphIn k n m es vs p))
   pub within : (used : ℕ) → Within used n vs → Within used n vs′
+
+-- the k-mers are distinct, and no edge is there twice
+pub record Separate (m n : ℕ) (es vs p : List ℕ) : Type 0 where
+  pub kmers : (u v : ℕ) → u < n → v < n → seqIn vs p u ≡ seqIn vs p v → u ≡ v
+  pub edges : (a b : ℕ) → a < m → b < m → getD es (4 * a) 0 ≡ getD es (4 * b) 0 → getD es (4 * a + 1) 0 ≡ getD es (4 * b + 1) 0 → a ≡ b
+
+-- the numbers below n, each once
+pub record Numbers (n : ℕ) (order : List ℕ) : Type 0 where
+  pub room : n ≤ length order
+  pub below : (i : ℕ) → i < n → getD order i 0 < n
+  pub once : (v : ℕ) → v < n → times v order n ≡ 1
+
+-- place has where each number stands in the order
+pub record Places (n : ℕ) (order place : List ℕ) : Type 0 where
+  pub at : (i : ℕ) → i < n → getD place (getD order i 0) 0 ≡ i
+
+-- m edges, and room for as many
+pub record Copyable (m : ℕ) (es order out : List ℕ) : Type 0 where
+  pub es-room : 4 * m ≤ length es
+  pub order-room : m ≤ length order
+  pub below : (i : ℕ) → i < m → getD order i 0 < m
+  pub out-room : 4 * m ≤ length out
+
+-- distinct k-mers and edges, and room for the numbers of each, and for the edges once more
+pub record Convertible (m n : ℕ) (es vs p order scratch place out : List ℕ) : Type 0 where
+  pub separate : Separate m n es vs p
+  pub ends : EndsBelow n m es
+  pub es-room : 4 * m ≤ length es
+  pub vs-room : 2 * n ≤ length vs
+  pub within : Within (length p) n vs
+  pub order-vertices : n ≤ length order
+  pub order-edges : m ≤ length order
+  pub scratch-vertices : n ≤ length scratch
+  pub scratch-edges : m ≤ length scratch
+  pub place-room : n ≤ length place
+  pub out-room : 4 * m ≤ length out
+  pub few-vertices : n < 4294967296
+  pub few-edges : m < 4294967296
+
+pub record EdgesSorted (m n : ℕ) (es vs p out : List ℕ) : Type 0 where
+  pub is : (k : ℕ) → edgesIn m out ≡ edgesSorted (graphIn k n m es vs p)

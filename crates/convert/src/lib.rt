@@ -1,9 +1,12 @@
-// The conversion of a k-mer graph (`from_assembly_graph`): a vertex without incoming edges keeps its k-mer, another its last byte.
+// The conversion of a k-mer graph (`from_assembly_graph`): a vertex without incoming edges keeps its k-mer, another its last byte; the
+// edges are sorted by the k-mer of from, then of to.
 ghost use mathlib.Core.Path.{_≡_};
 ghost use Prim.Native.Nat.{ℕ, _+_, _*_, _<_, _≤_};
 ghost use lib.ListN.{length, getD};
 ghost use Rattle.index.specs.Index.{Indexed};
-ghost use Rattle.convert.specs.Convert.{Trimmable, Trimmed};
+ghost use Rattle.defs.specs.Lists.{tab};
+ghost use Rattle.store.specs.Store.{edgeIn, edgesIn, EndsBelow};
+ghost use Rattle.convert.specs.Convert.{Trimmable, Trimmed, Numbers, Places, Copyable, Convertible, EdgesSorted};
 
 // The vertices get their additional sequences, which are parts of their k-mers.
 pub fn additional_sequences(
@@ -27,4 +30,55 @@ pub fn additional_sequences(
             store::put_vertex(vs, u, start + (len - 1), 1);
         }
     }
+}
+
+// Notes where each of the first n numbers of `order` stands.
+fn put_places(order: &[u32], n: usize, place: &mut [u32])
+    requires { ⌜ Numbers n (now order) × ((n ≤ length (now place)) × (n < 4294967296)) ⌝ }
+    ensures { λ _. ⌜ Places n (now (order .entry)) (now (place .exit)) ⌝ }
+{
+    let mut i = 0;
+    while i < n {
+        let v = order[i] as usize;
+        place[v] = i as u32;
+        i += 1;
+    }
+}
+
+// Copies the m edges in the order of their numbers.
+fn copy_edges(es: &[u32], order: &[u32], m: usize, out: &mut [u32])
+    requires { ⌜ Copyable m (now es) (now order) (now out) ⌝ }
+    ensures { λ _. ⌜ edgesIn m (now (out .exit)) ≡ tab m (λ (i : ℕ). edgeIn (now (es .entry)) (getD (now (order .entry)) i 0)) ⌝ }
+{
+    let mut i = 0;
+    while i < m {
+        let e = order[i] as usize;
+        let a = store::edge_from(es, e);
+        let b = store::edge_to(es, e);
+        let s = store::edge_support(es, e);
+        let r = store::edge_flag(es, e);
+        store::put_edge(out, i, a, b, s, r);
+        i += 1;
+    }
+}
+
+// Writes the edges to `out`, sorted by the k-mer of from, then of to.
+pub fn edges_sorted(
+    es: &[u32],
+    m: usize,
+    n: usize,
+    vs: &[u32],
+    p: &[u8],
+    order: &mut [u32],
+    scratch: &mut [u32],
+    place: &mut [u32],
+    out: &mut [u32],
+)
+    requires { ⌜ Convertible m n (now es) (now vs) (now p) (now order) (now scratch) (now place) (now out) ⌝ }
+    ensures { λ _. ⌜ EdgesSorted m n (now (es .entry)) (now (vs .entry)) (now (p .entry)) (now (out .exit)) ⌝ }
+{
+    kmer_order::kmer_order(order, scratch, n, vs, p);
+    put_places(order, n, place);
+    edge_order::edge_order(order, scratch, m, es, place);
+    copy_edges(es, order, m, out);
 }

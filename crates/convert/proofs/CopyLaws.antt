@@ -1,0 +1,100 @@
+-- Noting the places, and copying the edges in order. Assumes nothing.
+use mathlib.Core.Path.{_≡_, refl, sym, ap, _∙_}
+use mathlib.Core.List.{List}
+use Prim.Native.Nat.{ℕ, _+_, _*_, _≤_, _<_}
+use native.Mathlib.Omega.{arith}
+use native.Mathlib.Decide.{ℕ-discrete}
+use lib.ListN.{length, getD, set, length-set}
+use lib.Seq.{getD-set-same, getD-set-other}
+use Rattle.defs.specs.Lists.{tab}
+use Rattle.defs.specs.Assembly.{additionalSequence, fromAssemblyGraph}
+use Rattle.tabs.proofs.Tabs.{tab-ext}
+use Rattle.store.specs.Store.{edge, edgeIn, edgesIn, putEdge, graphIn, Within}
+use Rattle.compact.proofs.CompactLaws.{order-in}
+use Rattle.store.proofs.EdgeLaws.{length-put, put-same, put-other}
+use Rattle.kmer_order.specs.Order.{KmerOrder}
+use Rattle.edge_order.specs.Order.{Sortable, EdgeOrder}
+use Rattle.convert.specs.Convert.{Trimmed, Numbers, Places, Convertible, EdgesSorted}
+use Rattle.convert.proofs.PlaceLaws.{stands-once, places-sorted}
+
+-- ---- places
+
+pub record Placing (n : ℕ) (order place₀ place : List ℕ) (i : ℕ) : Type 0 where
+  pub high : i ≤ n
+  pub len : length place ≡ length place₀
+  pub done : (j : ℕ) → j < i → getD place (getD order j 0) 0 ≡ j
+
+pub placing-start : {n : ℕ} {order place : List ℕ} → Placing n order place place 0
+placing-start = record { high = omega arith; len = refl; done = λ j b. absurd (omega arith) }
+
+module _ {n : ℕ} {order place₀ : List ℕ} (N : Numbers n order) {place : List ℕ} {i : ℕ} (P : Placing n order place₀ place i) where
+  pub placing-more : n ≤ length place₀ → i < n → Placing n order place₀ (set place (getD order i 0) i) (i + 1)
+  placing-more r h = record {
+    high = omega arith;
+    len = length-set place _ _ ∙ P .len;
+    done = λ j b. elim (ℕ-discrete j i) [
+      | yes q ↦ rw q (getD-set-same place (getD order i 0) i 0 (omega (arith, N .below i h, P .len)))
+      | no ne ↦ getD-set-other place (getD order i 0) (getD order j 0) i 0 (λ q. ne (stands-once N j i (omega arith) h q)) ∙ P .done j (omega arith)
+    ];
+  }
+
+  pub placing-end : n ≤ i → Places n order place
+  placing-end h = record { at = λ j b. P .done j (omega arith) }
+
+-- ---- edges
+
+pub record Copying (m : ℕ) (es order out₀ out : List ℕ) (i : ℕ) : Type 0 where
+  pub high : i ≤ m
+  pub len : length out ≡ length out₀
+  pub done : (j : ℕ) → j < i → edgeIn out j ≡ edgeIn es (getD order j 0)
+
+pub copying-start : {m : ℕ} {es order out : List ℕ} → Copying m es order out out 0
+copying-start = record { high = omega arith; len = refl; done = λ j b. absurd (omega arith) }
+
+module _ {m : ℕ} {es order out₀ out : List ℕ} {i : ℕ} (C : Copying m es order out₀ out i) where
+  pub copying-more : {a b s r : ℕ} {out′ : List ℕ} → 4 * m ≤ length out₀ → i < m → a ≡ getD es (4 * getD order i 0) 0 → b ≡ getD es (4 * getD order i 0 + 1) 0 → s ≡ getD es (4 * getD order i 0 + 2) 0 → r ≡ getD es (4 * getD order i 0 + 3) 0
+      → out′ ≡ putEdge out i a b s r → Copying m es order out₀ out′ (i + 1)
+  copying-more {a} {b} {s} {r} {out′} room h qa qb qs qr e = record {
+    high = omega arith;
+    len = ap length e ∙ length-put out i a b s r ∙ C .len;
+    done = λ j c. elim (ℕ-discrete j i) [
+      | yes q ↦ rw q (ap (λ (l : List ℕ). edgeIn l i) e ∙ put-same out i a b s r (omega (arith, C .len)) ∙ (λ x. edge (qa x) (qb x) (qs x) (qr x)))
+      | no ne ↦ ap (λ (l : List ℕ). edgeIn l j) e ∙ put-other out i a b s r j ne ∙ C .done j (omega arith)
+    ];
+  }
+
+  pub copying-end : m ≤ i → edgesIn m out ≡ tab m (λ (j : ℕ). edgeIn es (getD order j 0))
+  copying-end h = tab-ext m (edgeIn out) (λ (j : ℕ). edgeIn es (getD order j 0)) (λ j b. C .done j (omega arith))
+
+-- ---- all together
+
+pub vertex-numbers : {n : ℕ} {vs p order : List ℕ} → n ≤ length order → KmerOrder n vs p order → Numbers n order
+vertex-numbers r O = record { room = r; below = O .below; once = O .once }
+
+edge-numbers : {m : ℕ} {es place order : List ℕ} → m ≤ length order → EdgeOrder m es place order → Numbers m order
+edge-numbers r O = record { room = r; below = O .below; once = O .once }
+
+module _ {m n : ℕ} {es vs p order scratch place out : List ℕ} (C : Convertible m n es vs p order scratch place out) where
+  pub edges-sortable : {order′ scratch′ place′ : List ℕ} → length order′ ≡ length order → length scratch′ ≡ length scratch → length place′ ≡ length place → Sortable m order′ scratch′ es place′
+  edges-sortable a b c = record {
+    order-room = omega (arith, C .order-edges);
+    scratch-room = omega (arith, C .scratch-edges);
+    small = C .few-edges;
+    es-room = C .es-room;
+    within = record { at = λ e h. (omega (arith, (C .ends .at e h) .0, C .place-room), omega (arith, (C .ends .at e h) .1, C .place-room)) };
+  }
+
+  pub edges-done : {order₁ place₁ order₂ out′ : List ℕ} → length order₁ ≡ length order → length order₂ ≡ length order → KmerOrder n vs p order₁ → Places n order₁ place₁ → EdgeOrder m es place₁ order₂
+      → edgesIn m out′ ≡ tab m (λ (j : ℕ). edgeIn es (getD order₂ j 0)) → EdgesSorted m n es vs p out′
+  edges-done a b K P O e = record {
+    is = λ k. e ∙ places-sorted (C .separate) (vertex-numbers (omega (arith, C .order-vertices)) K) K P k (C .ends) (edge-numbers (omega (arith, C .order-edges)) O) O;
+  }
+
+-- the sorted edges and the additional sequences are the converted graph
+pub converted : {m n : ℕ} {es vs vs′ out : List ℕ} (k : ℕ) (p : List ℕ) → Within (length p) n vs → Trimmed m n es vs vs′ → EdgesSorted m n es vs p out → graphIn k n m out vs′ p ≡ fromAssemblyGraph (graphIn k n m es vs p)
+unfolding fromAssemblyGraph
+converted {m} {n} {es} {vs} {vs′} {out} k p W T S = λ i. record {
+  k = k;
+  verts = (T .is k p W ∙ ap (λ (x : ℕ). tab x (additionalSequence (graphIn k n m es vs p))) (sym (order-in k n m es vs p))) i;
+  edges = S .is k i;
+}
