@@ -158,7 +158,7 @@ module _ (status k n m : ℕ) (es vs p : List ℕ) (W : Within (length p) n vs) 
   size : (v : ℕ) → v < n → length (seqIn vs p v) ≡ getD vs (2 * v + 1) 0
   size v b = part-length p (getD vs (2 * v) 0) (getD vs (2 * v + 1) 0) (W .at v b)
 
-  bytes-are : sequenceBytes (tab n (seqIn vs p)) ≡ bytesIn n vs
+  pub bytes-are : sequenceBytes (tab n (seqIn vs p)) ≡ bytesIn n vs
   bytes-are = bytes-from 0 n (seqIn vs p) ∙ ap sum (tab-ext n (λ (v : ℕ). length (seqIn vs p v)) (λ (v : ℕ). getD vs (2 * v + 1) 0) size)
 
   lengths-are : concat (map (λ (s : List ℕ). le16 (length s)) (tab n (seqIn vs p))) ≡ concat (tab n (lengthBytes vs))

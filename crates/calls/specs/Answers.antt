@@ -1,0 +1,67 @@
+-- The result structs as the definitions' answers. Assumes nothing.
+use mathlib.Core.Path.{_≡_}
+use mathlib.Core.List.{List}
+use Prim.Native.Nat.{ℕ}
+use lib.ListN.{length}
+use Rattle.defs.specs.Calls as D
+use Rattle.defs.specs.Calls.{Response, refused, accepted, numberOf, lengthOf, fieldOf, tallied}
+use Rattle.defs.specs.Simplify.{Simplified, endNumber}
+use Rattle.defs.specs.Cleanup.{Cleaned, statusNumber}
+use Rattle.calls.specs.declared.Tally.{Tally}
+use Rattle.calls.specs.declared.Answer.{Answer}
+use Rattle.calls.specs.declared.SimplifyAnswer.{SimplifyAnswer}
+use Rattle.calls.specs.declared.CleanupAnswer.{CleanupAnswer}
+
+-- a struct's fields, as the definition has them
+abbrev pub tallyOf : Tally → D.Tally
+tallyOf t = record { answered = t .answered; refused = t .refused; rewrites = t .rewrites }
+
+abbrev pub answerOf : Answer → D.Answer
+answerOf r = record { number = r .number; length = r .length; tally = tallyOf (r .tally) }
+
+abbrev pub simplifyAnswerOf : SimplifyAnswer → D.SimplifyAnswer
+simplifyAnswerOf r = record { number = r .number; length = r .length; rewrites = r .rewrites; rounds = r .rounds; end = r .end; tally = tallyOf (r .tally) }
+
+abbrev pub cleanupAnswerOf : CleanupAnswer → D.CleanupAnswer
+cleanupAnswerOf r = record { number = r .number; length = r .length; status = r .status; tally = tallyOf (r .tally) }
+
+-- the whole answer that goes with a response and what the call made
+abbrev pub simplifyAnswerFor : Response → Simplified → D.Tally → D.SimplifyAnswer
+simplifyAnswerFor r s t = record {
+  number = numberOf r;
+  length = lengthOf r;
+  rewrites = fieldOf r (s .rewrites);
+  rounds = fieldOf r (s .rounds);
+  end = fieldOf r (endNumber (s .end));
+  tally = tallied r (s .rewrites) t;
+}
+
+abbrev pub cleanupAnswerFor : Response → Cleaned → D.Tally → D.CleanupAnswer
+cleanupAnswerFor r c t = record { number = numberOf r; length = lengthOf r; status = fieldOf r (statusNumber (c .status)); tally = tallied r (c .rewrites) t }
+
+pub record TalliesRefused (t r : Tally) : Type 0 where
+  pub is : (number rewrites : ℕ) → tallyOf r ≡ tallied (refused number) rewrites (tallyOf t)
+
+pub record TalliesAnswered (rewrites : ℕ) (t r : Tally) : Type 0 where
+  pub is : (bytes : List ℕ) → tallyOf r ≡ tallied (accepted bytes) rewrites (tallyOf t)
+
+pub record Refuses (number : ℕ) (t : Tally) (r : Answer) : Type 0 where
+  pub is : answerOf r ≡ D.answer (refused number) (tallyOf t)
+
+-- the answer where the result is so many bytes
+pub record Accepts (size : ℕ) (t : Tally) (r : Answer) : Type 0 where
+  pub is : (bytes : List ℕ) → length bytes ≡ size → answerOf r ≡ D.answer (accepted bytes) (tallyOf t)
+
+pub record RefusesSimplify (number : ℕ) (t : Tally) (r : SimplifyAnswer) : Type 0 where
+  pub is : (s : Simplified) → simplifyAnswerOf r ≡ simplifyAnswerFor (refused number) s (tallyOf t)
+
+pub record AcceptsSimplify (size rewrites rounds end : ℕ) (t : Tally) (r : SimplifyAnswer) : Type 0 where
+  pub is : (bytes : List ℕ) (s : Simplified) → length bytes ≡ size → s .rewrites ≡ rewrites → s .rounds ≡ rounds → endNumber (s .end) ≡ end
+      → simplifyAnswerOf r ≡ simplifyAnswerFor (accepted bytes) s (tallyOf t)
+
+pub record RefusesCleanup (number : ℕ) (t : Tally) (r : CleanupAnswer) : Type 0 where
+  pub is : (c : Cleaned) → cleanupAnswerOf r ≡ cleanupAnswerFor (refused number) c (tallyOf t)
+
+pub record AcceptsCleanup (size status rewrites : ℕ) (t : Tally) (r : CleanupAnswer) : Type 0 where
+  pub is : (bytes : List ℕ) (c : Cleaned) → length bytes ≡ size → statusNumber (c .status) ≡ status → c .rewrites ≡ rewrites
+      → cleanupAnswerOf r ≡ cleanupAnswerFor (accepted bytes) c (tallyOf t)
