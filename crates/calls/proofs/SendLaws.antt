@@ -1,9 +1,9 @@
 -- A record is written where it fits. Assumes nothing.
 use mathlib.Core.Path.{_≡_, refl, sym, ap, _∙_}
-use mathlib.Core.List.{List}
+use mathlib.Core.List.{List, _++_}
 use Prim.Native.Nat.{ℕ, _+_, _*_, _≤_, _<_}
 use native.Mathlib.Omega.{arith}
-use lib.ListN.{length}
+use lib.ListN.{length, drop}
 use Rattle.defs.specs.Calls.{Response, numberOf, lengthOf, writtenOf, refused, accepted, fits}
 use Rattle.defs.specs.Record.{sequenceGraph, encode}
 use Rattle.memory.specs.Memory.{graphOf, vertexRoom, edgeRoom, Room, Holds}
@@ -14,6 +14,7 @@ use Rattle.write_record.specs.Written.{Measured, Writable, Written}
 use Rattle.calls.specs.Sending.{Sendable, Sends}
 use Rattle.calls.proofs.AnswerLaws.{fits-short, fits-enough}
 use Rattle.store.specs.Store.{Within}
+use Rattle.laws.proofs.ListLaws.{byOrder}
 use Rattle.write_record.proofs.WriteLaws.{bytes-are, encode-length}
 use Rattle.calls.specs.declared.Sent.{Sent}
 
@@ -69,3 +70,20 @@ module _ {status : ℕ} {h : Held} {es vs p : List ℕ} (S : Sendable status h e
 
   pub send-small : {r : ℕ} {out′ : List ℕ} → Written status h es vs p out r out′ → r < 4294967296
   send-small W = omega (arith, W .long, long, q, S .measured .small)
+
+-- what the number tells
+module _ {result out out′ : List ℕ} {r : Sent} (S : Sends result out r out′) where
+  pub sent-short : (r .number ≡ 0 → ⊥) → (fits (length out) result ≡ refused 11) × ((r .number ≡ 11) × (out′ ≡ out))
+  unfolding numberOf writtenOf
+  sent-short o = byOrder (length result) (length out)
+      (λ l. absurd (o (S .number ∙ ap numberOf (fits-enough (length out) result l))))
+      (λ l. let e = fits-short (length out) result l in (e, (S .number ∙ ap numberOf e, S .written ∙ ap (λ (x : Response). writtenOf x out) e)))
+
+  pub sent-whole : r .number ≡ 0 → (fits (length out) result ≡ accepted result) × ((r .length ≡ length result) × (out′ ≡ result ++ drop (length result) out))
+  unfolding numberOf lengthOf writtenOf
+  sent-whole z = byOrder (length result) (length out)
+      (λ l. let e = fits-enough (length out) result l in (e, (S .size ∙ ap lengthOf e, S .written ∙ ap (λ (x : Response). writtenOf x out) e)))
+      (λ l. absurd (eleven (sym (S .number ∙ ap numberOf (fits-short (length out) result l)) ∙ z)))
+    where
+      eleven : _≡_ {A = ℕ} 11 0 → ⊥
+      eleven q = omega (arith, q)

@@ -1,0 +1,140 @@
+-- The promise of simplify_graph. Assumes nothing.
+use mathlib.Core.Path.{_≡_, refl, sym, ap, _∙_, subst}
+use mathlib.Core.Logic.{_↔_}
+use mathlib.Core.List.{List, _++_}
+use Prim.Native.Nat.{ℕ, _+_, _*_, _≤_, _<_}
+use native.Mathlib.Omega.{arith}
+use lib.ListN.{length, getD, take, drop}
+use lib.Seq.{take-append-seam}
+use Rattle.defs.specs.SeqGraph.{Graph, nodeCount}
+use Rattle.defs.specs.Simplify as S
+use Rattle.defs.specs.Simplify.{simplifyGraphFull, endNumber, sequenceBytes, emptyVertices}
+use Rattle.defs.specs.Strings.{Spells}
+use Rattle.defs.specs.Record.{sequenceGraph, kOf, encode, decode}
+use Rattle.defs.specs.Refusals.{sequenceOnly, recordCauses, recordRefusal}
+use Rattle.defs.specs.Calls as D
+use Rattle.defs.specs.Calls.{Response, refused, accepted, numberOf, lengthOf, fieldOf, writtenOf, fits, respond, simplifyGraphResponse, simplifyGraphAnswer}
+use Rattle.laws.proofs.Fuel.{Good}
+use Rattle.laws.proofs.Measures.{weight}
+use Rattle.laws.proofs.Bound.{Fits, simplify-bound}
+use Rattle.laws.proofs.Room.{narrow-fits, simplify-narrow}
+use Rattle.laws.proofs.Whole.{simplify-spells}
+use Rattle.sound.proofs.Accepted.{accepted-good}
+use Rattle.answers.proofs.Supports.{Fields}
+use Rattle.answers.proofs.Answers.{Bytes, decoded-narrow, k-small, simplified-fields, simplify-read-back}
+use Rattle.memory.specs.Memory.{graphOf, Room, Holds}
+use Rattle.memory.specs.declared.Held.{Held}
+use Rattle.memory.proofs.RoomLaws.{holds-kept}
+use Rattle.accept.specs.Accept.{ReadAs}
+use Rattle.accept.specs.declared.Read.{Read}
+use Rattle.rounds.specs.Rounds.{Answers, Full}
+use Rattle.rounds.specs.declared.Simplified.{Simplified}
+use Rattle.calls.specs.Answers.{tallyOf, simplifyAnswerOf, simplifyAnswerFor, RefusesSimplify, AcceptsSimplify}
+use Rattle.calls.specs.Sending.{Sendable, Sends}
+use Rattle.calls.specs.declared.Tally.{Tally}
+use Rattle.calls.specs.declared.Sent.{Sent}
+use Rattle.calls.specs.declared.SimplifyAnswer.{SimplifyAnswer}
+use Rattle.calls.proofs.AnswerLaws.{respond-refused, respond-fits}
+use Rattle.calls.proofs.SendLaws.{sent-short, sent-whole}
+use Rattle.simplify_graph.specs.MadeOf.{MadeOf}
+use Rattle.simplify_graph.specs.Simplifies.{Simplifies}
+use Rattle.simplify_graph.specs.declared.Made.{Made}
+
+-- reading, then simplifying
+module _ {bs heads nexts : List ℕ} {r : Read} {es vs p : List ℕ} (A : ReadAs bs heads nexts r es vs p) where
+  pub made-refused : (r .number ≡ 0 → ⊥) → {m : Made} {es′ vs′ p′ : List ℕ} → m .number ≡ r .number → MadeOf bs heads nexts m es′ vs′ p′
+  made-refused o q = record { number = q ∙ A .number; answers = λ z. absurd (o (sym q ∙ z)); holds = λ z. absurd (o (sym q ∙ z)) }
+
+  pub made-whole : r .number ≡ 0 → {heads′ nexts′ : List ℕ} {s : Simplified} {es′ vs′ p′ : List ℕ} → length heads′ ≡ length heads → length nexts′ ≡ length nexts → Full 10 (r .held) es vs p heads′ nexts′ s es′ vs′ p′
+      → MadeOf bs heads nexts record { number = 0; simplified = s } es′ vs′ p′
+  made-whole ok {s = s} {es′} {vs′} {p′} d e F = record {
+    number = sym ok ∙ A .number;
+    answers = λ _. subst (λ (g : Graph). Answers (simplifyGraphFull 10 g) s es′ vs′ p′) (A .is ok) (F .answers);
+    holds = λ _. holds-kept (F .holds) (sym d) (sym e);
+  }
+
+-- the answer goes by the response
+answer-by : (bs : List ℕ) (room : ℕ) (t : D.Tally) {x : Response} → simplifyGraphResponse bs room ≡ x → simplifyAnswerFor x (simplifyGraphFull 10 (decode bs)) t ≡ simplifyGraphAnswer bs room t
+unfolding simplifyGraphAnswer
+answer-by bs room t e = ap (λ (x : Response). simplifyAnswerFor x (simplifyGraphFull 10 (decode bs)) t) (sym e)
+
+module _ (bs out : List ℕ) (t : Tally) where
+  abbrev z : S.Simplified
+  z = simplifyGraphFull 10 (decode bs)
+
+  abbrev result : List ℕ
+  result = encode sequenceGraph 0 (z .graph)
+
+  refused-with : (n : ℕ) → (n ≡ 0 → ⊥) → simplifyGraphResponse bs (length out) ≡ refused n → {a : SimplifyAnswer} {out′ : List ℕ} → RefusesSimplify n t a → out′ ≡ out → Simplifies bs out t a out′
+  unfolding writtenOf numberOf fieldOf
+  refused-with n o e {a} R q = record {
+    answer = R .is z ∙ answer-by bs (length out) (tallyOf t) e;
+    written = q ∙ sym (ap (λ (x : Response). writtenOf x out) e);
+    strings = λ i. absurd (other i);
+    bound = omega (arith, ap (λ (x : D.SimplifyAnswer). x .rewrites) (R .is z));
+    vertices = λ i. absurd (other i);
+    edges = λ i. absurd (other i);
+  }
+    where
+      other : a .number ≡ 0 → ⊥
+      other i = o (sym (ap (λ (x : D.SimplifyAnswer). x .number) (R .is z)) ∙ i)
+
+  -- no cause is present: the room decides
+  fitting : recordRefusal sequenceOnly bs ≡ 0 → simplifyGraphResponse bs (length out) ≡ fits (length out) result
+  unfolding simplifyGraphResponse recordRefusal
+  fitting ok = respond-fits (recordCauses sequenceOnly bs) (length out) result ok
+
+  stopped : (n : ℕ) → recordRefusal sequenceOnly bs ≡ n → (n ≡ 0 → ⊥) → simplifyGraphResponse bs (length out) ≡ refused n
+  unfolding simplifyGraphResponse recordRefusal
+  stopped n e o = respond-refused (recordCauses sequenceOnly bs) (length out) result n e o
+
+  module _ (small : Bytes bs) (ok : recordRefusal sequenceOnly bs ≡ 0) where
+    accepted-with : {a : SimplifyAnswer} {out′ : List ℕ} → simplifyGraphResponse bs (length out) ≡ accepted result → simplifyAnswerOf a ≡ simplifyAnswerFor (accepted result) z (tallyOf t) → out′ ≡ result ++ drop (length result) out
+        → Simplifies bs out t a out′
+    unfolding writtenOf lengthOf fieldOf weight
+    accepted-with {a} {out′} e q w = record {
+      answer = q ∙ answer-by bs (length out) (tallyOf t) e;
+      written = w ∙ sym (ap (λ (x : Response). writtenOf x out) e);
+      strings = λ i s. subst (λ (g : Graph). Spells (decode bs) s ↔ Spells g s) (sym written-is) (simplify-spells (decode bs) (good .0) s);
+      bound = omega (arith, ap (λ (x : D.SimplifyAnswer). x .rewrites) q, simplify-bound 10 (omega arith) (decode bs) good);
+      vertices = λ i. omega (arith, ap nodeCount written-is, within .vertices);
+      edges = λ i. omega (arith, ap (λ (g : Graph). length (g .edges)) written-is, within .edges);
+    }
+      where
+        good : Good (decode bs)
+        good = accepted-good sequenceOnly bs ok
+
+        within : Fits (z .graph)
+        within = narrow-fits (z .graph) (simplify-narrow (decode bs) (decoded-narrow bs small ok))
+
+        written-is : decode (take (a .length) out′) ≡ z .graph
+        written-is =
+            ap decode (ap (λ (n : ℕ). take n out′) (ap (λ (x : D.SimplifyAnswer). x .length) q) ∙ ap (take (length result)) w ∙ take-append-seam result (drop (length result) out))
+            ∙ simplify-read-back bs small ok 0
+
+-- the whole call
+module _ {bs heads nexts : List ℕ} {m : Made} {es vs p : List ℕ} (M : MadeOf bs heads nexts m es vs p) (t : Tally) where
+  pub simplifies-refused : (out : List ℕ) {a : SimplifyAnswer} → (m .number ≡ 0 → ⊥) → RefusesSimplify (m .number) t a → Simplifies bs out t a out
+  simplifies-refused out o R = refused-with bs out t (m .number) o (stopped bs out t (m .number) (sym (M .number)) o) R refl
+
+  module _ (small : Bytes bs) (ok : m .number ≡ 0) where
+    none : recordRefusal sequenceOnly bs ≡ 0
+    none = sym (M .number) ∙ ok
+
+    pub made-k : m .simplified .held .k < 65536
+    made-k = omega (arith, ap (λ (g : Graph). g .k) (M .answers ok .graph), (simplified-fields bs small none) .k-is, k-small bs small none)
+
+    module _ {out out′ : List ℕ} {s : Sent} (S : Sends (encode sequenceGraph 0 (graphOf (m .simplified .held) es vs p)) out s out′) where
+      sends : Sends (encode sequenceGraph 0 ((simplifyGraphFull 10 (decode bs)) .graph)) out s out′
+      sends = subst (λ (g : Graph). Sends (encode sequenceGraph 0 g) out s out′) (M .answers ok .graph) S
+
+      pub simplifies-short : {a : SimplifyAnswer} → (s .number ≡ 0 → ⊥) → RefusesSimplify (s .number) t a → Simplifies bs out t a out′
+      simplifies-short o R =
+          let c = sent-short sends o in
+          refused-with bs out t (s .number) o (fitting bs out t none ∙ c .0 ∙ ap refused (sym (c .1 .0))) R (c .1 .1)
+
+      pub simplifies-accepted : {a : SimplifyAnswer} → s .number ≡ 0 → AcceptsSimplify (s .length) (m .simplified .rewrites) (m .simplified .rounds) (m .simplified .end) t a → Simplifies bs out t a out′
+      simplifies-accepted i A =
+          let c = sent-whole sends i in
+          let Z = M .answers ok in
+          accepted-with bs out t small none (fitting bs out t none ∙ c .0) (A .is (encode sequenceGraph 0 ((simplifyGraphFull 10 (decode bs)) .graph)) (simplifyGraphFull 10 (decode bs)) (sym (c .1 .0)) (sym (Z .rewrites)) (sym (Z .rounds)) (sym (Z .end))) (c .1 .1)

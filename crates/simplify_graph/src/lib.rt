@@ -1,0 +1,169 @@
+// simplify_graph: a record in, its simplification's record out. Nothing is asked of the caller.
+ghost use mathlib.Core.Path.{_≡_};
+ghost use Prim.Native.Nat.{ℕ};
+ghost use Rattle.arrays.specs.Sized.{Sized};
+ghost use Rattle.simplify_graph.specs.Simplifies.{Simplifies};
+ghost use Rattle.simplify_graph.specs.MadeOf.{MadeOf};
+use calls::SimplifyAnswer;
+use calls::Tally;
+use memory::Held;
+use rounds::Simplified;
+
+// A record's refusal number, or 0 and its simplification, which the slices hold.
+pub struct Made {
+    pub number: u32,
+    pub simplified: Simplified,
+}
+
+fn refuse(number: u32, held: Held) -> Made
+    ensures { λ r. ⌜ r .number ≡ number ⌝ }
+{
+    let none = Simplified {
+        held: held,
+        rewrites: 0,
+        rounds: 0,
+        end: 0,
+    };
+    Made {
+        number: number,
+        simplified: none,
+    }
+}
+
+pub fn read_and_simplify(
+    rec: &[u8],
+    es: &mut [u32],
+    vs: &mut [u32],
+    p: &mut [u8],
+    heads: &mut [u32],
+    nexts: &mut [u32],
+    nodes: &mut [u32],
+    map: &mut [u32],
+    starts: &mut [u32],
+    tried: &mut [u64],
+    sig: &mut [u32],
+) -> Made
+    requires { ⌜ Sized (now es) (now vs) (now p) (now heads) (now nexts) (now nodes) (now map) (now starts) (now tried) (now sig) ⌝ }
+    ensures { λ r. ⌜ MadeOf (now (rec .entry)) (now (heads .entry)) (now (nexts .entry)) r (now (es .exit)) (now (vs .exit)) (now (p .exit)) ⌝ }
+{
+    let read = accept::read_sequence_graph(rec, es, vs, p, heads, nexts, nodes, map);
+    let number = read.number;
+    if number != 0 {
+        return refuse(number, read.held);
+    }
+    let s = rounds::simplify_graph_full(
+        read.held,
+        10,
+        es,
+        vs,
+        p,
+        heads,
+        nexts,
+        nodes,
+        map,
+        starts,
+        tried,
+        sig,
+    );
+    Made {
+        number: 0,
+        simplified: s,
+    }
+}
+
+fn simplify_graph_in(
+    rec: &[u8],
+    out: &mut [u8],
+    tally: Tally,
+    es: &mut [u32],
+    vs: &mut [u32],
+    p: &mut [u8],
+    heads: &mut [u32],
+    nexts: &mut [u32],
+    nodes: &mut [u32],
+    map: &mut [u32],
+    starts: &mut [u32],
+    tried: &mut [u64],
+    sig: &mut [u32],
+) -> SimplifyAnswer
+    requires { ⌜ Sized (now es) (now vs) (now p) (now heads) (now nexts) (now nodes) (now map) (now starts) (now tried) (now sig) ⌝ }
+    ensures { λ r. ⌜ Simplifies (now (rec .entry)) (now (out .entry)) tally r (now (out .exit)) ⌝ }
+{
+    let made = read_and_simplify(rec, es, vs, p, heads, nexts, nodes, map, starts, tried, sig);
+    let number = made.number;
+    if number != 0 {
+        return calls::refuse_simplify(number, tally);
+    }
+    let s = made.simplified;
+    let sent = calls::send_record(out, 0, s.held, es, vs, p);
+    let short = sent.number;
+    if short != 0 {
+        return calls::refuse_simplify(short, tally);
+    }
+    calls::accept_simplify(sent.length, s.rewrites, s.rounds, s.end, tally)
+}
+
+// Whole arrays, whose lengths are known.
+fn simplify_graph_with(
+    rec: &[u8],
+    out: &mut [u8],
+    tally: Tally,
+    es: &mut [u32; 131072],
+    vs: &mut [u32; 40960],
+    p: &mut [u8; 30720],
+    heads: &mut [u32; 20480],
+    nexts: &mut [u32; 32768],
+    nodes: &mut [u32; 16384],
+    map: &mut [u32; 20480],
+    starts: &mut [u32; 10240],
+    tried: &mut [u64; 10240],
+    sig: &mut [u32; 20482],
+) -> SimplifyAnswer
+    ensures { λ r. ⌜ Simplifies (now (rec .entry)) (now (out .entry)) tally r (now (out .exit)) ⌝ }
+{
+    simplify_graph_in(
+        rec,
+        out,
+        tally,
+        es,
+        vs,
+        p,
+        heads,
+        nexts,
+        nodes,
+        map,
+        starts,
+        tried,
+        sig,
+    )
+}
+
+pub fn simplify_graph(rec: &[u8], out: &mut [u8], tally: Tally) -> SimplifyAnswer
+    ensures { λ r. ⌜ Simplifies (now (rec .entry)) (now (out .entry)) tally r (now (out .exit)) ⌝ }
+{
+    let mut es = [0u32; 131072];
+    let mut vs = [0u32; 40960];
+    let mut p = [0u8; 30720];
+    let mut heads = [0u32; 20480];
+    let mut nexts = [0u32; 32768];
+    let mut nodes = [0u32; 16384];
+    let mut map = [0u32; 20480];
+    let mut starts = [0u32; 10240];
+    let mut tried = [0u64; 10240];
+    let mut sig = [0u32; 20482];
+    simplify_graph_with(
+        rec,
+        out,
+        tally,
+        &mut es,
+        &mut vs,
+        &mut p,
+        &mut heads,
+        &mut nexts,
+        &mut nodes,
+        &mut map,
+        &mut starts,
+        &mut tried,
+        &mut sig,
+    )
+}
