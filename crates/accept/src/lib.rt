@@ -12,7 +12,7 @@ pub struct Read {
     pub held: Held,
 }
 
-fn refuse(number: u32) -> Read
+pub fn refuse(number: u32) -> Read
     ensures { λ r. ⌜ r .number ≡ number ⌝ }
 {
     let held = Held {

@@ -11,9 +11,9 @@ use Rattle.accept.specs.Accept.{Roomy}
 use Rattle.rounds.specs.Rounds.{Scratch, Countable, Simplifiable}
 use Rattle.calls.specs.Sending.{Sendable}
 use Rattle.calls.proofs.SendLaws.{held-sendable}
-use Rattle.arrays.specs.Sized.{Sized}
+use Rattle.arrays.specs.Sized.{SizedGraph, Sized}
 
-module _ {es vs p heads nexts nodes mp starts tried sig : List ℕ} (Z : Sized es vs p heads nexts nodes mp starts tried sig) where
+module _ {es vs p heads nexts nodes mp : List ℕ} (Z : SizedGraph es vs p heads nexts nodes mp) where
   pub sized-room : {es′ vs′ p′ heads′ nexts′ nodes′ mp′ : List ℕ} → length es′ ≡ length es → length vs′ ≡ length vs → length p′ ≡ length p → length heads′ ≡ length heads → length nexts′ ≡ length nexts → length nodes′ ≡ length nodes → length mp′ ≡ length mp
       → Room es′ vs′ p′ heads′ nexts′ nodes′ mp′
   sized-room a b c d e f g = record {
@@ -35,14 +35,15 @@ module _ {es vs p heads nexts nodes mp starts tried sig : List ℕ} (Z : Sized e
   sized-sendable status s k H a b c =
       held-sendable status s k (omega (arith, Z .heads-is)) (omega (arith, Z .nexts-is)) (sized-room {heads′ = heads} {nexts′ = nexts} {nodes′ = nodes} {mp′ = mp} a b c refl refl refl refl) H
 
+module _ {es vs p heads nexts nodes mp starts tried sig : List ℕ} (Z : Sized es vs p heads nexts nodes mp starts tried sig) where
   pub sized-simplifiable : {h : Held} {es′ vs′ p′ heads′ nexts′ nodes′ mp′ : List ℕ} → Holds h es′ vs′ p′ heads nexts
       → length es′ ≡ length es → length vs′ ≡ length vs → length p′ ≡ length p → length heads′ ≡ length heads → length nexts′ ≡ length nexts → length nodes′ ≡ length nodes → length mp′ ≡ length mp
       → Simplifiable 10 h es′ vs′ p′ heads′ nexts′ nodes′ mp′ starts tried sig
   sized-simplifiable H la lb lc ld le lf lg = record {
     least-is = omega arith;
-    room = sized-room la lb lc ld le lf lg;
+    room = sized-room (Z .graph) la lb lc ld le lf lg;
     holds = holds-kept H ld le;
-    scratch = record { starts-room = omega (arith, ld, Z .heads-is, Z .starts-is); tried-room = omega (arith, ld, Z .heads-is, Z .tried-is) };
-    sig-room = omega (arith, ld, Z .heads-is, Z .sig-is);
-    countable = record { small = omega (arith, ld, Z .heads-is) };
+    scratch = record { starts-room = omega (arith, ld, Z .graph .heads-is, Z .starts-is); tried-room = omega (arith, ld, Z .graph .heads-is, Z .tried-is) };
+    sig-room = omega (arith, ld, Z .graph .heads-is, Z .sig-is);
+    countable = record { small = omega (arith, ld, Z .graph .heads-is) };
   }

@@ -4,17 +4,18 @@ use mathlib.Core.Bool.{Bool, true, false}
 use mathlib.Core.List.{List, _++_}
 use Prim.Native.Nat.{ℕ, zero, suc, _≤_, _<_}
 use native.Mathlib.Omega.{arith}
-use lib.ListN.{length}
+use lib.ListN.{length, drop}
 use lib.Dec.{ltb}
 use borrow.Author.Tests.{lt-ltb, le-ltb}
 use Rattle.defs.specs.SeqGraph.{saturatingAdd}
 use Rattle.defs.specs.Calls as D
-use Rattle.defs.specs.Calls.{Response, refused, accepted, numberOf, lengthOf, fieldOf, tallied, fits, respond}
+use Rattle.defs.specs.Calls.{Response, refused, accepted, numberOf, lengthOf, fieldOf, tallied, fits, respond, writtenOf}
 use Rattle.defs.specs.Simplify.{Simplified, endNumber}
 use Rattle.defs.specs.Cleanup.{Cleaned, statusNumber}
 use Rattle.defs.specs.Refusals.{Cause, refusalOf}
-use Rattle.calls.specs.Answers.{tallyOf, TalliesRefused, TalliesAnswered, Refuses, Accepts, RefusesSimplify, AcceptsSimplify, RefusesCleanup, AcceptsCleanup}
+use Rattle.calls.specs.Answers.{tallyOf, TalliesRefused, TalliesAnswered, Refuses, Accepts, Responds, RefusesSimplify, AcceptsSimplify, RefusesCleanup, AcceptsCleanup}
 use Rattle.calls.specs.declared.Tally.{Tally}
+use Rattle.calls.specs.declared.Answer.{Answer}
 
 module _ {t r : Tally} where
   pub tally-refused-is : r .answered ≡ t .answered → r .refused ≡ saturatingAdd (t .refused) 1 → r .rewrites ≡ t .rewrites → TalliesRefused t r
@@ -76,3 +77,12 @@ respond-refused causes room result (suc n) e o = rw (e, respond)
 pub respond-fits : (causes : List Cause) (room : ℕ) (result : List ℕ) → refusalOf causes ≡ 0 → respond causes room result ≡ fits room result
 unfolding respond
 respond-fits causes room result e = rw (e, respond)
+
+module _ {x : Response} {out out′ : List ℕ} {t : Tally} {r : Answer} where
+  pub responds-refused : {n : ℕ} → x ≡ refused n → Refuses n t r → out′ ≡ out → Responds x out t r out′
+  unfolding writtenOf
+  responds-refused e R q = record { answer = R .is ∙ ap (λ (y : Response). D.answer y (tallyOf t)) (sym e); written = q ∙ ap (λ (y : Response). writtenOf y out) (sym e) }
+
+  pub responds-accepted : {bytes : List ℕ} {n : ℕ} → x ≡ accepted bytes → n ≡ length bytes → Accepts n t r → out′ ≡ bytes ++ drop (length bytes) out → Responds x out t r out′
+  unfolding writtenOf
+  responds-accepted {bytes} e l A q = record { answer = A .is bytes (sym l) ∙ ap (λ (y : Response). D.answer y (tallyOf t)) (sym e); written = q ∙ ap (λ (y : Response). writtenOf y out) (sym e) }

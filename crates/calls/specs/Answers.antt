@@ -52,6 +52,11 @@ pub record Refuses (number : ℕ) (t : Tally) (r : Answer) : Type 0 where
 pub record Accepts (size : ℕ) (t : Tally) (r : Answer) : Type 0 where
   pub is : (bytes : List ℕ) → length bytes ≡ size → answerOf r ≡ D.answer (accepted bytes) (tallyOf t)
 
+-- The promise of a call whose answer is number, length and tally: the answer and the output at exit are those of its response.
+pub record Responds (x : Response) (out : List ℕ) (t : Tally) (r : Answer) (out′ : List ℕ) : Type 0 where
+  pub answer : answerOf r ≡ D.answer x (tallyOf t)
+  pub written : out′ ≡ D.writtenOf x out
+
 pub record RefusesSimplify (number : ℕ) (t : Tally) (r : SimplifyAnswer) : Type 0 where
   pub is : (s : Simplified) → simplifyAnswerOf r ≡ simplifyAnswerFor (refused number) s (tallyOf t)
 

@@ -7,14 +7,15 @@ use native.Mathlib.Decide.{ℕ-discrete}
 use lib.ListN.{length, getD, set, length-set}
 use lib.Seq.{getD-set-same, getD-set-other}
 use Rattle.defs.specs.Lists.{tab}
+use Rattle.defs.specs.SeqGraph.{Edge}
 use Rattle.defs.specs.Assembly.{additionalSequence, fromAssemblyGraph}
-use Rattle.tabs.proofs.Tabs.{tab-ext}
-use Rattle.store.specs.Store.{edge, edgeIn, edgesIn, putEdge, graphIn, Within}
+use Rattle.tabs.proofs.Tabs.{tab-ext, getD-tab}
+use Rattle.store.specs.Store.{edge, edgeIn, edgesIn, putEdge, graphIn, EndsBelow, Within}
 use Rattle.compact.proofs.CompactLaws.{order-in}
 use Rattle.store.proofs.EdgeLaws.{length-put, put-same, put-other}
 use Rattle.kmer_order.specs.Order.{KmerOrder}
 use Rattle.edge_order.specs.Order.{Sortable, EdgeOrder}
-use Rattle.convert.specs.Convert.{Trimmed, Numbers, Places, Convertible, EdgesSorted}
+use Rattle.convert.specs.Convert.{Trimmed, Separate, Numbers, Places, Convertible, EdgesSorted}
 use Rattle.convert.proofs.PlaceLaws.{stands-once, places-sorted}
 
 -- ---- places
@@ -68,33 +69,38 @@ module _ {m : ℕ} {es order out₀ out : List ℕ} {i : ℕ} (C : Copying m es 
 
 -- ---- all together
 
-pub vertex-numbers : {n : ℕ} {vs p order : List ℕ} → n ≤ length order → KmerOrder n vs p order → Numbers n order
-vertex-numbers r O = record { room = r; below = O .below; once = O .once }
-
 edge-numbers : {m : ℕ} {es place order : List ℕ} → m ≤ length order → EdgeOrder m es place order → Numbers m order
 edge-numbers r O = record { room = r; below = O .below; once = O .once }
 
-module _ {m n : ℕ} {es vs p order scratch place out : List ℕ} (C : Convertible m n es vs p order scratch place out) where
-  pub edges-sortable : {order′ scratch′ place′ : List ℕ} → length order′ ≡ length order → length scratch′ ≡ length scratch → length place′ ≡ length place → Sortable m order′ scratch′ es place′
-  edges-sortable a b c = record {
-    order-room = omega (arith, C .order-edges);
-    scratch-room = omega (arith, C .scratch-edges);
+module _ {m n : ℕ} {es order scratch place out : List ℕ} (C : Convertible m n es order scratch place out) where
+  pub edges-sortable : {place′ : List ℕ} → length place′ ≡ length place → Sortable m order scratch es place′
+  edges-sortable c = record {
+    order-room = C .order-edges;
+    scratch-room = C .scratch-edges;
     small = C .few-edges;
     es-room = C .es-room;
     within = record { at = λ e h. (omega (arith, (C .ends .at e h) .0, C .place-room), omega (arith, (C .ends .at e h) .1, C .place-room)) };
   }
 
-  pub edges-done : {order₁ place₁ order₂ out′ : List ℕ} → length order₁ ≡ length order → length order₂ ≡ length order → KmerOrder n vs p order₁ → Places n order₁ place₁ → EdgeOrder m es place₁ order₂
-      → edgesIn m out′ ≡ tab m (λ (j : ℕ). edgeIn es (getD order₂ j 0)) → EdgesSorted m n es vs p out′
-  edges-done a b K P O e = record {
-    is = λ k. e ∙ places-sorted (C .separate) (vertex-numbers (omega (arith, C .order-vertices)) K) K P k (C .ends) (edge-numbers (omega (arith, C .order-edges)) O) O;
+  -- an edge of `out` is one of es
+  copied-ends : {place₁ order′ out′ : List ℕ} → EdgeOrder m es place₁ order′ → edgesIn m out′ ≡ tab m (λ (j : ℕ). edgeIn es (getD order′ j 0)) → EndsBelow n m out′
+  copied-ends {order′ = order′} {out′ = out′} O e = record { at = λ j b. let z = C .ends .at (getD order′ j 0) (O .below j b) in let q = same j b in (omega (arith, z .0, ap (λ (x : Edge). x .from) q), omega (arith, z .1, ap (λ (x : Edge). x .to) q)) }
+    where
+      same : (j : ℕ) → j < m → edgeIn out′ j ≡ edgeIn es (getD order′ j 0)
+      same j b = sym (getD-tab m (edgeIn out′) j (edge 0 0 0 0) b) ∙ ap (λ (l : List Edge). getD l j (edge 0 0 0 0)) e ∙ getD-tab m (λ (j : ℕ). edgeIn es (getD order′ j 0)) j (edge 0 0 0 0) b
+
+  pub edges-done : {place₁ order₂ out′ : List ℕ} → length order₂ ≡ length order → Places n order place₁ → EdgeOrder m es place₁ order₂
+      → edgesIn m out′ ≡ tab m (λ (j : ℕ). edgeIn es (getD order₂ j 0)) → EdgesSorted m n es order out′
+  edges-done b P O e = record {
+    is = λ k vs p S K. e ∙ places-sorted S (C .numbers) K P k (C .ends) (edge-numbers (omega (arith, C .order-edges)) O) O;
+    ends = copied-ends O e;
   }
 
 -- the sorted edges and the additional sequences are the converted graph
-pub converted : {m n : ℕ} {es vs vs′ out : List ℕ} (k : ℕ) (p : List ℕ) → Within (length p) n vs → Trimmed m n es vs vs′ → EdgesSorted m n es vs p out → graphIn k n m out vs′ p ≡ fromAssemblyGraph (graphIn k n m es vs p)
+pub converted : {m n : ℕ} {es vs vs′ order out : List ℕ} (k : ℕ) (p : List ℕ) → Within (length p) n vs → Separate m n es vs p → KmerOrder n vs p order → Trimmed m n es vs vs′ → EdgesSorted m n es order out → graphIn k n m out vs′ p ≡ fromAssemblyGraph (graphIn k n m es vs p)
 unfolding fromAssemblyGraph
-converted {m} {n} {es} {vs} {vs′} {out} k p W T S = λ i. record {
+converted {m} {n} {es} {vs} {vs′} k p W A K T S = λ i. record {
   k = k;
   verts = (T .is k p W ∙ ap (λ (x : ℕ). tab x (additionalSequence (graphIn k n m es vs p))) (sym (order-in k n m es vs p))) i;
-  edges = S .is k i;
+  edges = S .is k vs p A K i;
 }

@@ -6,6 +6,7 @@ use mathlib.Core.List.{List, [], _∷_, List·Memᴰ, List·Memᴰ·head, List·
 use Prim.Native.Nat.{ℕ, zero, suc, _+_, _≤_, _<_}
 use native.Mathlib.Omega.{arith}
 use lib.Dec.{eqb}
+use lib.ListN.{length}
 use borrow.Author.Tests.{eq-eqb}
 use Rattle.defs.specs.Lists.{sameList}
 use Rattle.defs.specs.SeqGraph.{Edge, Graph, vertexSequence}
@@ -171,3 +172,15 @@ module _ (g : Graph) where
   unfolding sortEdges
   once-sort [] o = tt
   once-sort (x ∷ l) o = once-insert x (sortEdges g l) (λ m. o .0 (of-sort l x m)) (once-sort l (o .1))
+
+  length-insert : (d : Edge) (l : List Edge) → length (insertEdge g d l) ≡ suc (length l)
+  unfolding insertEdge
+  length-insert d [] = refl
+  length-insert d (e ∷ l) = byTest (edgeBefore g e d)
+      (λ t. ap length (insert-yes d e l t) ∙ ap suc (length-insert d l))
+      (λ t. ap length (insert-no d e l t))
+
+  pub length-sort : (l : List Edge) → length (sortEdges g l) ≡ length l
+  unfolding sortEdges
+  length-sort [] = refl
+  length-sort (x ∷ l) = length-insert x (sortEdges g l) ∙ ap suc (length-sort l)

@@ -6,7 +6,7 @@ use lib.ListN.{length, getD}
 use Rattle.defs.specs.Lists.{tab}
 use Rattle.defs.specs.Assembly.{additionalSequence, edgesSorted}
 use Rattle.store.specs.Store.{edgesIn, seqIn, seqsIn, graphIn, EndsBelow, Within}
-use Rattle.kmer_order.specs.Order.{times}
+use Rattle.kmer_order.specs.Order.{times, KmerOrder}
 
 -- n vertices, none of them empty
 pub record Trimmable (n : ℕ) (vs : List ℕ) : Type 0 where
@@ -41,21 +41,19 @@ pub record Copyable (m : ℕ) (es order out : List ℕ) : Type 0 where
   pub below : (i : ℕ) → i < m → getD order i 0 < m
   pub out-room : 4 * m ≤ length out
 
--- distinct k-mers and edges, and room for the numbers of each, and for the edges once more
-pub record Convertible (m n : ℕ) (es vs p order scratch place out : List ℕ) : Type 0 where
-  pub separate : Separate m n es vs p
+-- the vertices in some order, and room for the numbers of the edges, and for the edges once more
+pub record Convertible (m n : ℕ) (es order scratch place out : List ℕ) : Type 0 where
+  pub numbers : Numbers n order
   pub ends : EndsBelow n m es
   pub es-room : 4 * m ≤ length es
-  pub vs-room : 2 * n ≤ length vs
-  pub within : Within (length p) n vs
-  pub order-vertices : n ≤ length order
   pub order-edges : m ≤ length order
-  pub scratch-vertices : n ≤ length scratch
   pub scratch-edges : m ≤ length scratch
   pub place-room : n ≤ length place
   pub out-room : 4 * m ≤ length out
   pub few-vertices : n < 4294967296
   pub few-edges : m < 4294967296
 
-pub record EdgesSorted (m n : ℕ) (es vs p out : List ℕ) : Type 0 where
-  pub is : (k : ℕ) → edgesIn m out ≡ edgesSorted (graphIn k n m es vs p)
+-- the edges, in the order of the k-mers where the vertices were in that order
+pub record EdgesSorted (m n : ℕ) (es order out : List ℕ) : Type 0 where
+  pub is : (k : ℕ) (vs p : List ℕ) → Separate m n es vs p → KmerOrder n vs p order → edgesIn m out ≡ edgesSorted (graphIn k n m es vs p)
+  pub ends : EndsBelow n m out

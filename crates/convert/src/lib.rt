@@ -5,7 +5,7 @@ ghost use Prim.Native.Nat.{ℕ, _+_, _*_, _<_, _≤_};
 ghost use lib.ListN.{length, getD};
 ghost use Rattle.index.specs.Index.{Indexed};
 ghost use Rattle.defs.specs.Lists.{tab};
-ghost use Rattle.store.specs.Store.{edgeIn, edgesIn, EndsBelow};
+ghost use Rattle.store.specs.Store.{edgeIn, edgesIn};
 ghost use Rattle.convert.specs.Convert.{Trimmable, Trimmed, Numbers, Places, Copyable, Convertible, EdgesSorted};
 
 // The vertices get their additional sequences, which are parts of their k-mers.
@@ -62,22 +62,19 @@ fn copy_edges(es: &[u32], order: &[u32], m: usize, out: &mut [u32])
     }
 }
 
-// Writes the edges to `out`, sorted by the k-mer of from, then of to.
+// Writes the edges to `out`, sorted by the k-mer of from, then of to. `order` has the vertices in the order of their k-mers.
 pub fn edges_sorted(
     es: &[u32],
     m: usize,
     n: usize,
-    vs: &[u32],
-    p: &[u8],
     order: &mut [u32],
     scratch: &mut [u32],
     place: &mut [u32],
     out: &mut [u32],
 )
-    requires { ⌜ Convertible m n (now es) (now vs) (now p) (now order) (now scratch) (now place) (now out) ⌝ }
-    ensures { λ _. ⌜ EdgesSorted m n (now (es .entry)) (now (vs .entry)) (now (p .entry)) (now (out .exit)) ⌝ }
+    requires { ⌜ Convertible m n (now es) (now order) (now scratch) (now place) (now out) ⌝ }
+    ensures { λ _. ⌜ EdgesSorted m n (now (es .entry)) (now (order .entry)) (now (out .exit)) ⌝ }
 {
-    kmer_order::kmer_order(order, scratch, n, vs, p);
     put_places(order, n, place);
     edge_order::edge_order(order, scratch, m, es, place);
     copy_edges(es, order, m, out);

@@ -30,7 +30,7 @@ held-spellable R H = record {
   bytes = omega (arith, fit-bytes (H .fit), R .p-room);
 }
 
-given-yes : {A : Type 0} (b : Bool) (a : A) → b ≡ true → given b a ≡ some a
+pub given-yes : {A : Type 0} (b : Bool) (a : A) → b ≡ true → given b a ≡ some a
 unfolding given
 given-yes b a t = rw t
 

@@ -123,7 +123,7 @@ fn put_sequences(out: &mut [u8], at: usize, vs: &[u32], n: usize, p: &[u8])
 }
 
 // The lengths of the first n vertices together.
-fn sequence_bytes(vs: &[u32], n: usize) -> usize
+pub fn sequence_bytes(vs: &[u32], n: usize) -> usize
     requires { ⌜ (2 * n ≤ length (now vs)) × (bytesIn n (now vs) < 4294967296) ⌝ }
     ensures { λ r. ⌜ r ≡ bytesIn n (now (vs .entry)) ⌝ }
 {

@@ -13,7 +13,7 @@ use Rattle.simplify_graph.proofs.refuse.Reads as refuse-reads
 
 -- src/lib.rt:49:9
 read-sequence-graph-requires : tie.Need-read-sequence-graph-requires
-read-sequence-graph-requires c κs = sized-read (c .before .before .before .before .before .before .before .before .before .before .before .before .before .before .before .before .before .before .pre)
+read-sequence-graph-requires c κs = sized-read (c .before .before .before .before .before .before .before .before .before .before .before .before .before .before .before .before .before .before .pre .graph)
 
 -- src/lib.rt:52:9
 refuse-requires : tie.Need-refuse-requires

@@ -1,0 +1,199 @@
+-- Conversion, step by step. Assumes nothing.
+use mathlib.Core.Path.{_≡_, refl, sym, ap, _∙_}
+use mathlib.Core.Bool.{Bool, true, false}
+use mathlib.Core.Logic.{⊎-elim}
+use mathlib.Core.List.{List, [], _∷_, List·Memᴰ·not-nil, List·Memᴰ·cases-cons}
+use Prim.Native.Nat.{ℕ, _+_, _*_, _≤_, _<_}
+use native.Mathlib.Omega.{arith}
+use native.Mathlib.Decide.{ℕ-discrete}
+use lib.Dec.{ltb}
+use lib.ListN.{length, getD}
+use borrow.Author.Tests.{lt-ltb, le-ltb}
+use Rattle.defs.specs.SeqGraph.{Edge, Graph}
+use Rattle.defs.specs.Simplify.{sequenceBytes}
+use Rattle.defs.specs.Record.{decode}
+use Rattle.defs.specs.Refusals.{Cause, refusalOf, kmerOnly, recordCauses, recordRefusal}
+use Rattle.defs.specs.Assembly.{fromAssemblyGraph}
+use Rattle.laws.proofs.ListLaws.{clash, byOrder}
+use Rattle.tabs.proofs.Tabs.{getD-tab, length-tab}
+use Rattle.store.specs.Store.{edgeIn, graphIn, Within}
+use Rattle.pool.specs.Pool.{bytesIn}
+use Rattle.pool.proofs.PoolLaws.{bytes-below}
+use Rattle.memory.specs.Memory.{graphOf}
+use Rattle.memory.specs.declared.Held.{Held}
+use Rattle.record.specs.Layout.{WellFormed}
+use Rattle.sound.specs.Alike.{noEdge, SameEnds}
+use Rattle.sound.proofs.Accepted.{same-doubled, same-equal, accepted-layout}
+use Rattle.sound.proofs.Causes.{Numbered, refusal-earlier, refusal-later}
+use Rattle.kmer_order.proofs.EqualLaws.{same-kmers}
+use Rattle.convert.specs.Convert.{Trimmable, Trimmed, Separate, Convertible, EdgesSorted}
+use Rattle.convert.proofs.CopyLaws.{converted}
+use Rattle.write_record.specs.Written.{Measured}
+use Rattle.write_record.proofs.WriteLaws.{bytes-are}
+use Rattle.accept.specs.declared.Read.{Read}
+use Rattle.read_kmers.specs.Kmers as K
+use Rattle.read_kmers.specs.Kmers.{HoldsKmers, KmersRead}
+use Rattle.read_kmers.proofs.KmerLaws.{sum-most, accepted-kind}
+use Rattle.from_kmers.specs.Conversion.{conversionCauses, Roomy, ConvertedAs}
+use Rattle.from_kmers.specs.declared.Converted.{Converted}
+
+-- ---- the causes
+
+numbered-more : (n : ℕ) (b : Bool) (cs : List Cause) → 0 < n → Numbered cs → Numbered (record { number = n; present = b } ∷ cs)
+numbered-more n b cs l N = record { at = λ c m. ⊎-elim (λ (q : c ≡ record { number = n; present = b }). omega (arith, ap (λ (x : Cause). x .number) q)) (λ k. N .at c k) (List·Memᴰ·cases-cons m) }
+
+record-numbered : (bs : List ℕ) → Numbered (recordCauses kmerOnly bs)
+unfolding recordCauses
+record-numbered bs =
+    numbered-more 1 _ _ (omega arith) (numbered-more 2 _ _ (omega arith) (numbered-more 3 _ _ (omega arith) (numbered-more 4 _ _ (omega arith)
+    (numbered-more 5 _ _ (omega arith) (numbered-more 6 _ _ (omega arith) (numbered-more 7 _ _ (omega arith) record { at = λ c m. absurd (List·Memᴰ·not-nil m) }))))))
+
+one-cause : (b : Bool) → refusalOf (record { number = 8; present = b } ∷ []) ≡ elim b [ true ↦ 8 | false ↦ 0 ]
+unfolding refusalOf
+one-cause true = refl
+one-cause false = refl
+
+module _ (bs : List ℕ) where
+  early : {i : ℕ} → recordRefusal kmerOnly bs ≡ i → 0 < i → refusalOf (conversionCauses bs) ≡ i
+  unfolding conversionCauses recordRefusal
+  early e l = refusal-earlier (recordCauses kmerOnly bs) _ e l
+
+  late : recordRefusal kmerOnly bs ≡ 0 → {b : Bool} → ltb 8192 (sequenceBytes ((fromAssemblyGraph (decode bs)) .verts)) ≡ b → refusalOf (conversionCauses bs) ≡ elim b [ true ↦ 8 | false ↦ 0 ]
+  unfolding conversionCauses recordRefusal
+  late z {b} q = refusal-later (recordCauses kmerOnly bs) _ (record-numbered bs) z ∙ ap (λ (x : Bool). refusalOf (record { number = 8; present = x } ∷ [])) q ∙ one-cause b
+
+  -- where no cause is present, none lies in the record, and the converted graph is small
+  pub none-early : refusalOf (conversionCauses bs) ≡ 0 → recordRefusal kmerOnly bs ≡ 0
+  none-early z = byOrder 1 (recordRefusal kmerOnly bs) (λ l. absurd (omega (arith, early refl l))) (λ l. omega arith)
+
+  pub none-late : refusalOf (conversionCauses bs) ≡ 0 → sequenceBytes ((fromAssemblyGraph (decode bs)) .verts) ≤ 8192
+  none-late z = byOrder (sequenceBytes ((fromAssemblyGraph (decode bs)) .verts)) 8192
+      (λ l. l)
+      (λ l. absurd (omega (arith, late (none-early z) (lt-ltb 8192 (sequenceBytes ((fromAssemblyGraph (decode bs)) .verts)) l))))
+
+-- ---- no k-mer and no edge is there twice
+
+module _ {bs : List ℕ} {h : Held} {es vs p heads nexts order : List ℕ} (H : HoldsKmers bs h es vs p heads nexts order) where
+  same-ends : (a b : ℕ) → a < b → b < h .m → getD es (4 * a) 0 ≡ getD es (4 * b) 0 → getD es (4 * a + 1) 0 ≡ getD es (4 * b + 1) 0 → SameEnds (graphOf h es vs p)
+  same-ends a b o l qf qt =
+      let ea = getD-tab (h .m) (edgeIn es) a noEdge (omega arith) in
+      let eb = getD-tab (h .m) (edgeIn es) b noEdge l in
+      record {
+        first = a;
+        second = b;
+        order = o;
+        below = omega (arith, length-tab (h .m) (edgeIn es));
+        from = ap (λ (e : Edge). e .from) ea ∙ qf ∙ sym (ap (λ (e : Edge). e .from) eb);
+        to = ap (λ (e : Edge). e .to) ea ∙ qt ∙ sym (ap (λ (e : Edge). e .to) eb);
+      }
+
+  never-same : {X : Type 0} (a b : ℕ) → a < b → b < h .m → getD es (4 * a) 0 ≡ getD es (4 * b) 0 → getD es (4 * a + 1) 0 ≡ getD es (4 * b + 1) 0 → X
+  never-same a b o l qf qt = clash (same-doubled (graphOf h es vs p) (same-ends a b o l qf qt)) (H .single)
+
+  separate : Separate (h .m) (h .n) es vs p
+  separate = record {
+    kmers = λ u v a b q. elim (ℕ-discrete u v) [
+      | yes e ↦ e
+      | no ne ↦ clash (same-equal (graphIn 0 (h .n) 0 [] vs p) (same-kmers (H .ordered) u v a b ne q)) (H .distinct)
+    ];
+    edges = λ a b la lb qf qt. elim (ℕ-discrete a b) [
+      | yes e ↦ e
+      | no ne ↦ byOrder a b (λ o. never-same a b (omega arith) lb qf qt) (λ o. never-same b a o la (sym qf) (sym qt))
+    ];
+  }
+
+-- ---- the steps
+
+module _ {bs es vs p heads nexts order scratch place sorted : List ℕ} (R : Roomy bs es vs p heads nexts order scratch place sorted) {r : Read} {es′ vs′ p′ heads′ nexts′ order′ : List ℕ} (A : KmersRead bs r es′ vs′ p′ heads′ nexts′ order′) where
+  pub refused : {c : Converted} {es₂ vs₂ p₂ : List ℕ} → (r .number ≡ 0 → ⊥) → c .number ≡ r .number → ConvertedAs bs c es₂ vs₂ p₂
+  refused o q = record {
+    number = q ∙ sym (early bs (sym (A .number)) (byOrder 1 (r .number) (λ b. b) (λ b. absurd (o (omega arith)))));
+    is = λ z. absurd (o (sym q ∙ z));
+    sendable = λ z. absurd (o (sym q ∙ z));
+  }
+
+  module _ (ok : r .number ≡ 0) where
+    held : HoldsKmers bs (r .held) es′ vs′ p′ heads′ nexts′ order′
+    held = A .holds ok
+
+    formed : WellFormed bs
+    formed = accepted-layout kmerOnly bs (sym (A .number) ∙ ok)
+
+    room : K.Room bs es vs p heads nexts order scratch place
+    room = R .reading .room formed (accepted-kind bs (sym (A .number) ∙ ok))
+
+    pub convertible : {scratch′ place′ : List ℕ} → length es′ ≡ length es → length order′ ≡ length order → length scratch′ ≡ length scratch → length place′ ≡ length place
+        → Convertible (r .held .m) (r .held .n) es′ order′ scratch′ place′ sorted
+    convertible a b c d = record {
+      numbers = record { room = omega (arith, held .n-is, room .order-room); below = held .ordered .below; once = held .ordered .once };
+      ends = held .ends;
+      es-room = omega (arith, held .m-is, room .es-room);
+      order-edges = omega (arith, held .m-is, R .order-room formed);
+      scratch-edges = omega (arith, held .m-is, R .scratch-room formed);
+      place-room = omega (arith, held .n-is, room .place-room);
+      out-room = omega (arith, held .m-is, R .sorted-room formed);
+      few-vertices = omega (arith, held .vertices);
+      few-edges = omega (arith, held .edges);
+    }
+
+    pub trimmable : length vs′ ≡ length vs → Trimmable (r .held .n) vs′
+    trimmable l = record {
+      vs-room = omega (arith, held .n-is, room .vs-room);
+      whole = λ v b. omega (arith, held .sizes v b, held .k-least);
+      small = λ v b. omega (arith, held .within .at v b, held .used-most);
+    }
+
+    module _ {vs″ : List ℕ} (T : Trimmed (r .held .m) (r .held .n) es′ vs′ vs″) where
+      bytes-most : bytesIn (r .held .n) vs″ < 4294967296
+      bytes-most =
+          let w = T .within (r .held .used) (held .within) in
+          omega (arith, held .vertices, sum-most 262144 (r .held .n) (λ (v : ℕ). getD vs″ (2 * v + 1) 0) (λ v b. omega (arith, w .at v b, held .used-most)))
+
+      pub countable : length vs″ ≡ length vs′ → length vs′ ≡ length vs → (2 * r .held .n ≤ length vs″) × (bytesIn (r .held .n) vs″ < 4294967296)
+      countable a b = (omega (arith, held .n-is, room .vs-room), bytes-most)
+
+      module _ {sorted′ : List ℕ} (S : EdgesSorted (r .held .m) (r .held .n) es′ order′ sorted′) where
+        within : Within (length p′) (r .held .n) vs′
+        within = record { at = λ v b. omega (arith, held .within .at v b, held .used-room) }
+
+        graph-is : graphOf (r .held) sorted′ vs″ p′ ≡ fromAssemblyGraph (decode bs)
+        graph-is = converted (r .held .k) p′ within (separate held) (held .ordered) T S ∙ ap fromAssemblyGraph (held .is)
+
+        bytes-is : sequenceBytes ((fromAssemblyGraph (decode bs)) .verts) ≡ bytesIn (r .held .n) vs″
+        bytes-is = ap (λ (g : Graph). sequenceBytes (g .verts)) (sym graph-is) ∙ bytes-are 0 (r .held .k) (r .held .n) (r .held .m) sorted′ vs″ p′ (T .within (length p′) within)
+
+        module _ {b : ℕ} (q : b ≡ bytesIn (r .held .n) vs″) where
+          pub over : 8192 < b → {c : Converted} {es₂ vs₂ p₂ : List ℕ} → c .number ≡ 8 → ConvertedAs bs c es₂ vs₂ p₂
+          over l e = record {
+            number = e ∙ sym (late bs (sym (A .number) ∙ ok) (lt-ltb 8192 (sequenceBytes ((fromAssemblyGraph (decode bs)) .verts)) (omega (arith, bytes-is))));
+            is = λ z. absurd (omega arith);
+            sendable = λ z. absurd (omega arith);
+          }
+
+          pub done : b ≤ 8192 → length vs″ ≡ length vs′ → length vs′ ≡ length vs → length sorted′ ≡ length sorted → ConvertedAs bs record { number = 0; held = r .held } sorted′ vs″ p′
+          done l lv lw ls = record {
+            number = sym (late bs (sym (A .number) ∙ ok) (le-ltb 8192 (sequenceBytes ((fromAssemblyGraph (decode bs)) .verts)) (omega (arith, bytes-is))));
+            is = λ _. graph-is;
+            sendable = λ _. record {
+              measured = measured;
+              within = inside;
+              writable = λ out enough. record {
+                status-fits = omega arith;
+                k-fits = omega (arith, held .k-most);
+                n-fits = omega (arith, held .vertices);
+                m-fits = omega (arith, held .edges);
+                lengths-fit = λ v c. omega (arith, bytes-below (r .held .n) v vs″ c);
+                ends = S .ends;
+                es-room = omega (arith, held .m-is, R .sorted-room formed);
+                within = inside;
+                measured = measured;
+                room = enough;
+              };
+            };
+          }
+            where
+              inside : Within (length p′) (r .held .n) vs″
+              inside = T .within (length p′) within
+
+              measured : Measured (r .held) vs″
+              measured = record { vs-room = omega (arith, held .n-is, room .vs-room); small = omega (arith, held .vertices, held .edges) }

@@ -1,0 +1,32 @@
+-- A k-mer record that is converted. Assumes nothing.
+use mathlib.Core.Path.{_≡_}
+use mathlib.Core.List.{List, [], _∷_, _++_}
+use Prim.Native.Nat.{ℕ, _*_, _≤_}
+use lib.Dec.{ltb}
+use lib.ListN.{length}
+use Rattle.defs.specs.Simplify.{sequenceBytes}
+use Rattle.defs.specs.Record.{edgesOf, decode}
+use Rattle.defs.specs.Refusals.{Cause, refusalOf, kmerOnly, recordCauses}
+use Rattle.defs.specs.Assembly.{fromAssemblyGraph}
+use Rattle.record.specs.Layout.{WellFormed}
+use Rattle.memory.specs.Memory.{graphOf}
+use Rattle.calls.specs.Sending.{Sendable}
+use Rattle.read_kmers.specs.Kmers as K
+use Rattle.from_kmers.specs.declared.Converted.{Converted}
+
+-- the causes that lie in the record, and 8: the converted graph has over 8,192 bytes
+unfoldable pub conversionCauses : List ℕ → List Cause
+conversionCauses bs = recordCauses kmerOnly bs ++ (record { number = 8; present = ltb 8192 (sequenceBytes ((fromAssemblyGraph (decode bs)) .verts)) } ∷ [])
+
+-- room to read the record, for the numbers of its edges and for the sorted edges, if its layout is that of a k-mer graph
+pub record Roomy (bs es vs p heads nexts order scratch place sorted : List ℕ) : Type 0 where
+  pub reading : K.Roomy bs es vs p heads nexts order scratch place
+  pub order-room : WellFormed bs → edgesOf bs ≤ length order
+  pub scratch-room : WellFormed bs → edgesOf bs ≤ length scratch
+  pub sorted-room : WellFormed bs → 4 * edgesOf bs ≤ length sorted
+
+-- the number, and with number 0 the converted graph, held, and such that its record can be written
+pub record ConvertedAs (bs : List ℕ) (r : Converted) (es vs p : List ℕ) : Type 0 where
+  pub number : r .number ≡ refusalOf (conversionCauses bs)
+  pub is : r .number ≡ 0 → graphOf (r .held) es vs p ≡ fromAssemblyGraph (decode bs)
+  pub sendable : r .number ≡ 0 → Sendable 0 (r .held) es vs p

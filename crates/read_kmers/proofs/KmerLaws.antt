@@ -1,0 +1,200 @@
+-- Reading a k-mer record, check by check. Assumes nothing.
+use mathlib.Core.Path.{_≡_, refl, sym, ap, _∙_}
+use mathlib.Core.Bool.{Bool, true, false, _&&_, _||_}
+use mathlib.Core.List.{List, []}
+use Prim.Native.Nat.{ℕ, zero, suc, _+_, _*_, _≤_, _<_}
+use native.Mathlib.Nat.{mul-zero, mul-suc}
+use native.Mathlib.Numerals.{add-one}
+use native.Mathlib.Omega.{arith}
+use lib.ListN.{length, getD, take}
+use lib.Dec.{eqb}
+use borrow.Author.Tests.{eq-eqb, eqb-true}
+use Rattle.defs.specs.Lists.{tab, sum}
+use Rattle.defs.specs.SeqGraph.{Graph, vertexSequence}
+use Rattle.defs.specs.Record.{kindOf, kOf, verticesOf, bytesOf, lengthAt, decode}
+use Rattle.defs.specs.Refusals.{kmerOnly, takesKind, refusalOf, recordCauses, recordRefusal, doubledEdge, equalKmers, doubled, hasCycle}
+use Rattle.laws.proofs.ListLaws.{clash, byOrder}
+use Rattle.tabs.proofs.Tabs.{getD-tab}
+use Rattle.tabs.proofs.SumTabs.{sum-none, sum-more}
+use Rattle.store.specs.Store.{edgesIn, seqIn, seqsIn}
+use Rattle.index.specs.Index.{Indexed, Indexable}
+use Rattle.pool.proofs.PoolLaws.{part-long}
+use Rattle.memory.specs.declared.Held.{Held}
+use Rattle.record.specs.Kinds.{takesOf}
+use Rattle.record.specs.declared.Takes.the-variants.{KmerOnly}
+use Rattle.record.specs.Layout.{WellFormed}
+use Rattle.record.proofs.Accepted.{well-formed, kind-taken}
+use Rattle.record.proofs.Tests.{or-false}
+use Rattle.record.proofs.Sequences.{vertex-is, length-sequence}
+use Rattle.load.specs.Loaded.{Loadable, Loaded}
+use Rattle.doubled.specs.Doubled.{Markable}
+use Rattle.cycle.specs.Peel.{Peelable, HasCycle}
+use Rattle.sound.proofs.Accepted.{refused-early, refused-6, refused-7, accepted, by-refusal, read-good}
+use Rattle.kmer_order.specs.Order.{Mergeable, Sortable, KmerOrder}
+use Rattle.kmer_order.proofs.RunLaws.{vertex-numbers}
+use Rattle.accept.specs.declared.Read.{Read}
+use Rattle.read_kmers.specs.Kmers.{Room, Roomy, Doubles, KmersRead}
+
+-- ---- doubled edges and k-mers
+
+module _ {m n : ℕ} {es vs p : List ℕ} {d : Bool} {order : List ℕ} (q : d ≡ doubledEdge (edgesIn m es)) where
+  pub edges-double : d ≡ true → Doubles m n es vs p true order
+  edges-double t = record { is = rw (sym q ∙ t); ordered = λ f. clash refl f }
+
+  pub kmers-double : {e : Bool} → d ≡ false → KmerOrder n vs p order → e ≡ equalKmers (seqsIn n vs p) → Doubles m n es vs p e order
+  kmers-double f K r = record { is = rw (sym q ∙ f) r; ordered = λ _. K }
+
+pub sorted-mergeable : {n : ℕ} {order scratch vs p order′ : List ℕ} → Sortable n order scratch vs p → length order′ ≡ length order → KmerOrder n vs p order′ → Mergeable order′ n vs p
+sorted-mergeable S l K = vertex-numbers (K .below) (omega (arith, S .order-room)) (S .vs-room) (S .within)
+
+-- ---- the record
+
+kind-is : (bs : List ℕ) → refusalOf (take 5 (recordCauses kmerOnly bs)) ≡ 0 → kindOf bs ≡ 0
+kind-is bs z = eqb-true (kindOf bs) 0 (unfold takesKind in (kind-taken kmerOnly bs z))
+
+pub sum-most : (w n : ℕ) (f : ℕ → ℕ) → ((i : ℕ) → i < n → f i ≤ w) → sum (tab n f) ≤ w * n
+sum-most w zero f h = omega (arith, sum-none f)
+sum-most w (suc n) f h =
+    let s : sum (tab (suc n) f) ≡ sum (tab n f) + f n = ap (λ (x : ℕ). sum (tab x f)) (sym (add-one n)) ∙ sum-more n f in
+    omega (arith, s, h n (omega arith), sum-most w n f (λ i b. h i (omega arith)), mul-suc w n)
+
+pub sum-least : (w n : ℕ) (f : ℕ → ℕ) → ((i : ℕ) → i < n → w ≤ f i) → w * n ≤ sum (tab n f)
+sum-least w zero f h = omega (arith, mul-zero w)
+sum-least w (suc n) f h =
+    let s : sum (tab (suc n) f) ≡ sum (tab n f) + f n = ap (λ (x : ℕ). sum (tab x f)) (sym (add-one n)) ∙ sum-more n f in
+    omega (arith, s, h n (omega arith), sum-least w n f (λ i b. h i (omega arith)), mul-suc w n)
+
+-- a k-mer graph has 2 to 128 bytes a vertex
+module _ (bs : List ℕ) (W : WellFormed bs) (z : kindOf bs ≡ 0) where
+  pub kmer-bytes-least : 2 * verticesOf bs ≤ bytesOf bs
+  kmer-bytes-least = omega (arith, W .lengths, sum-least 2 (verticesOf bs) (lengthAt bs) (λ i b. omega (arith, W .kmers z i b, W .k-least)))
+
+  pub kmer-bytes-most : bytesOf bs ≤ 262144
+  kmer-bytes-most = omega (arith, W .lengths, W .vertices, sum-most 128 (verticesOf bs) (lengthAt bs) (λ i b. omega (arith, W .kmers z i b, W .k-most)))
+
+module _ (bs : List ℕ) where
+  pub read-refused : {i : ℕ} {r : Read} {es vs p heads nexts order : List ℕ} → i ≡ refusalOf (take 5 (recordCauses kmerOnly bs)) → (i ≡ 0 → ⊥) → r .number ≡ i → KmersRead bs r es vs p heads nexts order
+  read-refused {i} e o q = record {
+    number = q ∙ sym (refused-early kmerOnly bs (sym e) (byOrder 1 i (λ b. b) (λ b. absurd (o (omega arith)))));
+    holds = λ z. absurd (o (sym q ∙ z));
+  }
+
+  module _ (layout : refusalOf (take 5 (recordCauses kmerOnly bs)) ≡ 0) {es vs p heads nexts order scratch place : List ℕ} (Y : Roomy bs es vs p heads nexts order scratch place) where
+    formed : WellFormed bs
+    formed = well-formed kmerOnly bs layout
+
+    R : Room bs es vs p heads nexts order scratch place
+    R = Y .room formed (kind-is bs layout)
+
+    size-is : (i : ℕ) → i < verticesOf bs → lengthAt bs i ≡ kOf bs
+    size-is = formed .kmers (kind-is bs layout)
+
+    pub read-loadable : Loadable bs es vs p
+    read-loadable = record {
+      good = formed;
+      es-room = R .es-room;
+      vs-room = R .vs-room;
+      p-room = R .p-room;
+    }
+
+    module _ {h : Held} {es′ vs′ p′ : List ℕ} (L : Loaded bs h es′ vs′ p′) where
+      n-small : h .n ≤ 2048
+      n-small = omega (arith, L .n, formed .vertices)
+
+      m-small : h .m ≤ 4096
+      m-small = omega (arith, L .m, formed .edges)
+
+      used-small : h .used ≤ 262144
+      used-small = omega (arith, L .used, kmer-bytes-most bs formed (kind-is bs layout))
+
+      pub read-indexable : length es′ ≡ length es → Indexable (h .m) (h .n) es′ heads nexts
+      read-indexable l = record {
+        room = omega (arith, l, L .m, R .es-room);
+        heads-room = omega (arith, L .n, R .heads-room);
+        nexts-room = omega (arith, L .m, R .nexts-room);
+        small = omega (arith, m-small);
+        ends = L .ends;
+      }
+
+      pub read-markable : Markable (h .n) scratch
+      read-markable = record { room = omega (arith, L .n, R .scratch-room); small = omega (arith, n-small) }
+
+      pub read-sortable : length vs′ ≡ length vs → length p′ ≡ length p → Sortable (h .n) order scratch vs′ p′
+      read-sortable a b = record {
+        order-room = omega (arith, L .n, R .order-room);
+        scratch-room = omega (arith, L .n, R .scratch-room);
+        small = omega (arith, n-small);
+        vs-room = omega (arith, a, L .n, R .vs-room);
+        within = record { at = λ v c. omega (arith, L .within .at v c, L .used, b, R .p-room) };
+      }
+
+      pub read-peelable : {scratch′ : List ℕ} → length scratch′ ≡ length scratch → Peelable (h .n) scratch′ place
+      read-peelable l = record { degrees-room = omega (arith, l, L .n, R .scratch-room); queue-room = omega (arith, L .n, R .place-room); small = omega (arith, n-small) }
+
+      pub few-edges : h .m < 4294967296
+      few-edges = omega (arith, m-small)
+
+      doubled-is : doubled bs ≡ (doubledEdge (edgesIn (h .m) es′) || equalKmers (seqsIn (h .n) vs′ p′))
+      unfolding doubled
+      doubled-is = (λ j. doubledEdge ((sym (L .is) j) .edges) || (eqb (kindOf bs) 0 && equalKmers ((sym (L .is) j) .verts))) ∙ rw (eq-eqb (kindOf bs) 0 (kind-is bs layout))
+
+      -- a vertex's k-mer has k bytes
+      size-held : length p′ ≡ length p → (v : ℕ) → v < h .n → getD vs′ (2 * v + 1) 0 ≡ h .k
+      size-held l v b =
+          let below : v < verticesOf bs = omega (arith, L .n) in
+          sym (part-long p′ (getD vs′ (2 * v) 0) (getD vs′ (2 * v + 1) 0) (omega (arith, L .within .at v b, L .used, l, R .p-room)))
+          ∙ ap length (sequence-is ∙ vertex-is bs v below) ∙ length-sequence bs v below formed ∙ size-is v below ∙ sym (L .k)
+        where
+          sequence-is : seqIn vs′ p′ v ≡ vertexSequence (decode bs) v
+          sequence-is = unfold vertexSequence in (sym (getD-tab (h .n) (seqIn vs′ p′) v [] b) ∙ ap (λ (g : Graph). getD (g .verts) v []) (L .is))
+
+      module _ {d : Bool} {order′ : List ℕ} (D : Doubles (h .m) (h .n) es′ vs′ p′ d order′) where
+        pub read-6 : {r : Read} → d ≡ true → r .number ≡ 6 → {es₂ vs₂ p₂ heads₂ nexts₂ order₂ : List ℕ} → KmersRead bs r es₂ vs₂ p₂ heads₂ nexts₂ order₂
+        read-6 t q = record { number = q ∙ sym (refused-6 kmerOnly bs layout (doubled-is ∙ sym (D .is) ∙ t)); holds = λ y. absurd (omega arith) }
+
+        module _ (t : d ≡ false) {c : Bool} (C : HasCycle (h .m) (h .n) es′ c) where
+          none-doubled : doubled bs ≡ false
+          none-doubled = doubled-is ∙ sym (D .is) ∙ t
+
+          cycle-is : hasCycle (decode bs) ≡ c
+          cycle-is = ap hasCycle (sym (L .is)) ∙ sym (C .is (h .k) vs′ p′)
+
+          pub read-7 : {r : Read} → c ≡ true → r .number ≡ 7 → {es₂ vs₂ p₂ heads₂ nexts₂ order₂ : List ℕ} → KmersRead bs r es₂ vs₂ p₂ heads₂ nexts₂ order₂
+          read-7 s q = record { number = q ∙ sym (refused-7 kmerOnly bs layout none-doubled (cycle-is ∙ s)); holds = λ y. absurd (omega arith) }
+
+          pub read-0 : c ≡ false → length p′ ≡ length p → {heads′ nexts′ : List ℕ} → Indexed (h .m) (h .n) es′ heads′ nexts′ → KmersRead bs record { number = 0; held = h } es′ vs′ p′ heads′ nexts′ order′
+          read-0 s l I =
+              let apart = or-false (doubledEdge (edgesIn (h .m) es′)) (equalKmers (seqsIn (h .n) vs′ p′)) (sym (D .is) ∙ t) in
+              record {
+                number = sym (accepted kmerOnly bs layout none-doubled (cycle-is ∙ s));
+                holds = λ _. record {
+                  is = L .is;
+                  n-is = L .n;
+                  m-is = L .m;
+                  good = read-good bs formed none-doubled (cycle-is ∙ s);
+                  single = apart .0;
+                  distinct = apart .1;
+                  k-least = omega (arith, L .k, formed .k-least);
+                  k-most = omega (arith, L .k, formed .k-most);
+                  vertices = n-small;
+                  edges = m-small;
+                  sizes = size-held l;
+                  within = L .within;
+                  used-most = used-small;
+                  used-room = omega (arith, L .used, l, R .p-room);
+                  ends = L .ends;
+                  indexed = I;
+                  ordered = D .ordered t;
+                };
+              }
+
+pub accepted-kind : (bs : List ℕ) → recordRefusal kmerOnly bs ≡ 0 → kindOf bs ≡ 0
+accepted-kind bs z = by-refusal kmerOnly bs (λ l u r. absurd (omega arith)) (λ a d r. kind-is bs a) (λ a d c r. kind-is bs a) (λ a d c r. kind-is bs a)
+
+-- the kinds that the call names are those of the definition
+pub layout-is : (bs : List ℕ) {i : ℕ} → i ≡ refusalOf (take 5 (recordCauses (takesOf KmerOnly) bs)) → i ≡ refusalOf (take 5 (recordCauses kmerOnly bs))
+unfolding takesOf
+layout-is bs e = e
+
+pub layout-zero : (bs : List ℕ) {i : ℕ} → i ≡ refusalOf (take 5 (recordCauses (takesOf KmerOnly) bs)) → i ≡ 0 → refusalOf (take 5 (recordCauses kmerOnly bs)) ≡ 0
+layout-zero bs e z = sym (layout-is bs e) ∙ z

@@ -1,0 +1,61 @@
+-- A record of kind 0 that is read. Assumes nothing.
+use mathlib.Core.Path.{_≡_}
+use mathlib.Core.Bool.{Bool, false, _||_}
+use mathlib.Core.List.{List}
+use Prim.Native.Nat.{ℕ, _+_, _*_, _≤_, _<_}
+use lib.ListN.{length, getD}
+use Rattle.defs.specs.Record.{kindOf, verticesOf, edgesOf, bytesOf, decode}
+use Rattle.defs.specs.Refusals.{kmerOnly, recordRefusal, doubledEdge, equalKmers}
+use Rattle.laws.proofs.Fuel.{Good}
+use Rattle.record.specs.Layout.{WellFormed}
+use Rattle.store.specs.Store.{edgesIn, seqsIn, EndsBelow, Within}
+use Rattle.index.specs.Index.{Indexed}
+use Rattle.memory.specs.Memory.{graphOf}
+use Rattle.memory.specs.declared.Held.{Held}
+use Rattle.accept.specs.declared.Read.{Read}
+use Rattle.kmer_order.specs.Order.{KmerOrder}
+
+-- room for the record's vertices, edges and bytes
+pub record Room (bs es vs p heads nexts order scratch place : List ℕ) : Type 0 where
+  pub es-room : 4 * edgesOf bs ≤ length es
+  pub vs-room : 2 * verticesOf bs ≤ length vs
+  pub p-room : bytesOf bs ≤ length p
+  pub heads-room : 2 * verticesOf bs ≤ length heads
+  pub nexts-room : 2 * edgesOf bs ≤ length nexts
+  pub order-room : verticesOf bs ≤ length order
+  pub scratch-room : verticesOf bs ≤ length scratch
+  pub place-room : verticesOf bs ≤ length place
+
+-- there is room if the record's layout is that of a k-mer graph
+pub record Roomy (bs es vs p heads nexts order scratch place : List ℕ) : Type 0 where
+  pub room : WellFormed bs → kindOf bs ≡ 0 → Room bs es vs p heads nexts order scratch place
+
+-- two edges with the same ends, or two equal k-mers; where neither, the vertices in the order of their k-mers
+pub record Doubles (m n : ℕ) (es vs p : List ℕ) (r : Bool) (order : List ℕ) : Type 0 where
+  pub is : r ≡ (doubledEdge (edgesIn m es) || equalKmers (seqsIn n vs p))
+  pub ordered : r ≡ false → KmerOrder n vs p order
+
+-- the record's graph in the slices, sound and indexed, without doubled edges or k-mers, and its vertices in the order of their k-mers
+pub record HoldsKmers (bs : List ℕ) (h : Held) (es vs p heads nexts order : List ℕ) : Type 0 where
+  pub is : graphOf h es vs p ≡ decode bs
+  pub n-is : h .n ≡ verticesOf bs
+  pub m-is : h .m ≡ edgesOf bs
+  pub good : Good (decode bs)
+  pub single : doubledEdge (edgesIn (h .m) es) ≡ false
+  pub distinct : equalKmers (seqsIn (h .n) vs p) ≡ false
+  pub k-least : 2 ≤ h .k
+  pub k-most : h .k ≤ 128
+  pub vertices : h .n ≤ 2048
+  pub edges : h .m ≤ 4096
+  pub sizes : (v : ℕ) → v < h .n → getD vs (2 * v + 1) 0 ≡ h .k
+  pub within : Within (h .used) (h .n) vs
+  pub used-most : h .used ≤ 262144
+  pub used-room : h .used ≤ length p
+  pub ends : EndsBelow (h .n) (h .m) es
+  pub indexed : Indexed (h .m) (h .n) es heads nexts
+  pub ordered : KmerOrder (h .n) vs p order
+
+-- the number, and with number 0 the record's graph, held
+pub record KmersRead (bs : List ℕ) (r : Read) (es vs p heads nexts order : List ℕ) : Type 0 where
+  pub number : r .number ≡ recordRefusal kmerOnly bs
+  pub holds : r .number ≡ 0 → HoldsKmers bs (r .held) es vs p heads nexts order

@@ -1,0 +1,64 @@
+// Reading a record of kind 0, a k-mer graph: the number of its refusal, 1 to 7, or the graph in the slices, indexed, with the vertices in
+// the order of their k-mers.
+ghost use Rattle.index.specs.Index.{Indexed};
+ghost use Rattle.doubled.specs.Doubled.{Markable};
+ghost use Rattle.kmer_order.specs.Order.{Sortable};
+ghost use Rattle.read_kmers.specs.Kmers.{Roomy, Doubles, KmersRead};
+use accept::Read;
+use record::Takes;
+
+// Whether two edges have the same ends, or two vertices the same k-mer: the cause of 6.
+fn is_doubled(
+    es: &[u32],
+    m: usize,
+    n: usize,
+    vs: &[u32],
+    p: &[u8],
+    heads: &[u32],
+    nexts: &[u32],
+    order: &mut [u32],
+    scratch: &mut [u32],
+) -> bool
+    requires { ⌜ Indexed m n (now es) (now heads) (now nexts) × (Markable n (now scratch) × Sortable n (now order) (now scratch) (now vs) (now p)) ⌝ }
+    ensures { λ r. ⌜ Doubles m n (now (es .entry)) (now (vs .entry)) (now (p .entry)) r (now (order .exit)) ⌝ }
+{
+    if doubled::doubled_edge(es, m, n, heads, nexts, scratch) {
+        return true;
+    }
+    kmer_order::kmer_order(order, scratch, n, vs, p);
+    kmer_order::equal_kmers(order, n, vs, p)
+}
+
+pub fn read_kmer_graph(
+    rec: &[u8],
+    es: &mut [u32],
+    vs: &mut [u32],
+    p: &mut [u8],
+    heads: &mut [u32],
+    nexts: &mut [u32],
+    order: &mut [u32],
+    scratch: &mut [u32],
+    place: &mut [u32],
+) -> Read
+    requires { ⌜ Roomy (now rec) (now es) (now vs) (now p) (now heads) (now nexts) (now order) (now scratch) (now place) ⌝ }
+    ensures { λ r. ⌜ KmersRead (now (rec .entry)) r (now (es .exit)) (now (vs .exit)) (now (p .exit)) (now (heads .exit)) (now (nexts .exit)) (now (order .exit)) ⌝ }
+{
+    let number = record::layout_refusal(rec, Takes::KmerOnly);
+    if number != 0 {
+        return accept::refuse(number);
+    }
+    let held = load::load_graph(rec, es, vs, p);
+    let n = held.n;
+    let m = held.m;
+    index::build_index(es, m, n, heads, nexts);
+    if is_doubled(es, m, n, vs, p, heads, nexts, order, scratch) {
+        return accept::refuse(6);
+    }
+    if cycle::has_cycle(es, m, n, heads, nexts, scratch, place) {
+        return accept::refuse(7);
+    }
+    Read {
+        number: 0,
+        held: held,
+    }
+}
