@@ -1,0 +1,153 @@
+-- The bytes that are told are the call's response. Assumes nothing.
+use mathlib.Core.Path.{_≡_, refl, sym, ap, _∙_, subst}
+use mathlib.Core.Bool.{Bool, true, false, not}
+use mathlib.Core.Option.{Option, none, some}
+use mathlib.Core.List.{List, [], _∷_, _++_}
+use Prim.Native.Nat.{ℕ, _+_, _*_, _≤_, _<_}
+use native.Mathlib.Omega.{arith}
+use lib.ListN.{length, drop}
+use Rattle.defs.specs.Lists.{given}
+use Rattle.defs.specs.SeqGraph.{Graph}
+use Rattle.defs.specs.Simplify.{sequenceBytes}
+use Rattle.defs.specs.Paths.{isPathOf, pathBasesBytes, referencePathBytes}
+use Rattle.defs.specs.Record.{decode}
+use Rattle.defs.specs.Refusals.{Cause, refusalOf, sequenceOnly, recordCauses, recordRefusal}
+use Rattle.defs.specs.Calls.{Response, refused, accepted, fits, isNothing, bytesOrNone, respond, referencePathBytesResponse, pathBasesBytesResponse}
+use Rattle.laws.proofs.Walks.{byTest}
+use Rattle.laws.proofs.ListLaws.{clash, given-some, byOrder}
+use Rattle.laws.proofs.Whole.{no-some}
+use Rattle.memory.specs.Memory.{graphOf, vertexRoom, Room, Holds}
+use Rattle.memory.specs.declared.Held.{Held}
+use Rattle.memory.proofs.RoomLaws.{held-vertices, held-edges, held-ends, fit-bytes}
+use Rattle.index.specs.Index.{Indexable, Indexed}
+use Rattle.accept.specs.Accept.{ReadAs}
+use Rattle.accept.specs.declared.Read.{Read}
+use Rattle.spell.specs.Spell.{Answered, Told}
+use Rattle.spell.specs.declared.Bytes.{Bytes}
+use Rattle.paths.specs.Paths.{Spellable}
+use Rattle.paths.proofs.BytesLaws.{held-spellable, given-yes}
+use Rattle.calls.specs.Answers.{Refuses, Accepts, Responds}
+use Rattle.calls.specs.declared.Tally.{Tally}
+use Rattle.calls.specs.declared.Answer.{Answer}
+use Rattle.string_calls.proofs.LengthLaws.{path-most, reference-most}
+use Rattle.calls.proofs.CauseLaws.{behind-refused, behind-present, behind-absent}
+use Rattle.calls.proofs.AnswerLaws.{fits-short, fits-enough, respond-refused, respond-fits, responds-refused, responds-accepted}
+use Rattle.string_calls.specs.Telling.{ReadIndexed, Tells}
+use Rattle.arrays.specs.Sized.{SizedGraph}
+use Rattle.arrays.proofs.SizedLaws.{sized-room}
+
+-- a held graph can be indexed, and spelled
+module _ {es vs p heads nexts nodes mp : List ℕ} (Z : SizedGraph es vs p heads nexts nodes mp) {h : Held} {es′ vs′ p′ : List ℕ} (H : Holds h es′ vs′ p′ heads nexts)
+    (a : length es′ ≡ length es) (b : length vs′ ≡ length vs) (c : length p′ ≡ length p) where
+  room : Room es′ vs′ p′ heads nexts nodes mp
+  room = sized-room Z {heads′ = heads} {nexts′ = nexts} {nodes′ = nodes} {mp′ = mp} a b c refl refl refl refl
+
+  pub told-indexable : {heads′ nexts′ : List ℕ} → length heads′ ≡ length heads → length nexts′ ≡ length nexts → Indexable (h .m) (h .n) es′ heads′ nexts′
+  told-indexable d e = record {
+    room = omega (arith, held-edges H, room .es-room);
+    heads-room = omega (arith, d, held-vertices H);
+    nexts-room = omega (arith, e, held-edges H);
+    small = omega (arith, held-edges H, room .small);
+    ends = held-ends H;
+  }
+
+  pub told-spellable : {nodes′ : List ℕ} → length nodes′ ≡ length nodes → Spellable h es′ vs′ p′ nodes′
+  told-spellable f = held-spellable (sized-room Z {heads′ = heads} {nexts′ = nexts} {mp′ = mp} a b c refl refl f refl) H
+
+-- a record that was read and indexed
+module _ {bs heads nexts : List ℕ} {r : Read} {es vs p : List ℕ} (A : ReadAs bs heads nexts r es vs p) where
+  pub read-other : (r .number ≡ 0 → ⊥) → {heads′ nexts′ : List ℕ} → ReadIndexed bs heads nexts r es vs p heads′ nexts′
+  read-other o = record { read = A; indexed = λ z. absurd (o z) }
+
+  pub read-indexed : {heads′ nexts′ : List ℕ} → Indexed (r .held .m) (r .held .n) es heads′ nexts′ → ReadIndexed bs heads nexts r es vs p heads′ nexts′
+  read-indexed I = record { read = A; indexed = λ _. I }
+
+  -- what is told can be counted in 32 bits
+  module _ (ok : r .number ≡ 0) (room : vertexRoom heads < 4294967296) where
+    most : {o : Option (List ℕ)} → ((s : List ℕ) → o ≡ some s → length s ≤ sequenceBytes (graphOf (r .held) es vs p .verts)) → {out out′ : List ℕ} {b : Bytes} → Told o out b out′ → b .found ≡ true → b .len < 4294967296
+    most h T t = let y = T .yes t in omega (arith, y .2 .size, h (y .0) (y .1), fit-bytes (A .holds ok .fit), room)
+
+    pub reference-counted : {out out′ : List ℕ} {b : Bytes} → Told (referencePathBytes (graphOf (r .held) es vs p)) out b out′ → b .found ≡ true → b .len < 4294967296
+    reference-counted T = most (reference-most (graphOf (r .held) es vs p) (A .holds ok .fit .good .0)) T
+
+    pub path-counted : (start : ℕ) (list : List ℕ) {out out′ : List ℕ} {b : Bytes} → Told (given (isPathOf (graphOf (r .held) es vs p) start list) (pathBasesBytes (graphOf (r .held) es vs p) start list)) out b out′ → b .found ≡ true → b .len < 4294967296
+    path-counted start list T =
+        let g = graphOf (r .held) es vs p in
+        most (λ s e. let y = given-some (isPathOf g start list) (pathBasesBytes g start list) s e in omega (arith, ap length (y .1), path-most g (A .holds ok .fit .good .0) start list (y .0))) T
+
+-- a call that tells o, or the number n where there is none
+module _ {o : Option (List ℕ)} {out out′ : List ℕ} {b : Bytes} (T : Told o out b out′) {x : Response} {n : ℕ} (none-is : o ≡ none → x ≡ refused n) (some-is : (s : List ℕ) → o ≡ some s → x ≡ fits (length out) s)
+    {t : Tally} {a : Answer} (e : length out′ ≡ length out) (A : Tells b (length out′) n t a) where
+  whole : b .found ≡ true → Responds x out t a out′
+  whole f = let y = T .yes f in byOrder (b .len) (length out′)
+      (λ l. responds-accepted (some-is (y .0) (y .1) ∙ fits-enough (length out) (y .0) (omega (arith, e, y .2 .size))) (y .2 .size) (A .whole f l)
+      (y .2 .is (omega (arith, e)) ∙ ap (λ (k : ℕ). y .0 ++ drop k out) (y .2 .size)))
+      (λ l. responds-refused (some-is (y .0) (y .1) ∙ fits-short (length out) (y .0) (omega (arith, e, y .2 .size))) (A .short f l) (y .2 .kept (omega (arith, e))))
+
+  pub tells : Responds x out t a out′
+  tells = byTest (b .found) whole (λ f. responds-refused (none-is (T .no f)) (A .none f) (T .same f))
+
+-- the responses
+module _ (bs : List ℕ) (room : ℕ) where
+  pub reference-refused : {n : ℕ} → recordRefusal sequenceOnly bs ≡ n → (n ≡ 0 → ⊥) → referencePathBytesResponse bs room ≡ refused n
+  unfolding referencePathBytesResponse
+  reference-refused {n} e o = respond-refused _ room _ n (behind-refused sequenceOnly bs 10 _ e o) o
+
+  module _ (z : recordRefusal sequenceOnly bs ≡ 0) where
+    pub reference-none : referencePathBytes (decode bs) ≡ none → referencePathBytesResponse bs room ≡ refused 10
+    unfolding referencePathBytesResponse isNothing
+    reference-none e = respond-refused _ room _ 10 (behind-present sequenceOnly bs 10 _ z (ap isNothing e)) (λ q. omega arith)
+
+    pub reference-some : (s : List ℕ) → referencePathBytes (decode bs) ≡ some s → referencePathBytesResponse bs room ≡ fits room s
+    unfolding referencePathBytesResponse isNothing bytesOrNone
+    reference-some s e = respond-fits _ room _ (behind-absent sequenceOnly bs 10 _ z (ap isNothing e)) ∙ ap (λ (p : Option (List ℕ)). fits room (bytesOrNone p)) e
+
+module _ (bs : List ℕ) (start : ℕ) (list : List ℕ) (room : ℕ) where
+  abbrev told : Option (List ℕ)
+  told = given (isPathOf (decode bs) start list) (pathBasesBytes (decode bs) start list)
+
+  pub path-refused : {n : ℕ} → recordRefusal sequenceOnly bs ≡ n → (n ≡ 0 → ⊥) → pathBasesBytesResponse bs start list room ≡ refused n
+  unfolding pathBasesBytesResponse
+  path-refused {n} e o = respond-refused _ room _ n (behind-refused sequenceOnly bs 9 _ e o) o
+
+  module _ (z : recordRefusal sequenceOnly bs ≡ 0) where
+    pub path-none : told ≡ none → pathBasesBytesResponse bs start list room ≡ refused 9
+    unfolding pathBasesBytesResponse
+    path-none e = byTest (isPathOf (decode bs) start list)
+        (λ t. no-some e (given-yes _ (pathBasesBytes (decode bs) start list) t))
+        (λ t. respond-refused _ room _ 9 (behind-present sequenceOnly bs 9 _ z (ap not t)) (λ q. omega arith))
+
+    pub path-some : (s : List ℕ) → told ≡ some s → pathBasesBytesResponse bs start list room ≡ fits room s
+    unfolding pathBasesBytesResponse
+    path-some s e =
+        let y = given-some (isPathOf (decode bs) start list) (pathBasesBytes (decode bs) start list) s e in
+        respond-fits _ room _ (behind-absent sequenceOnly bs 9 _ z (ap not (y .0))) ∙ ap (fits room) (y .1)
+
+-- the answer that tells
+module _ {b : Bytes} {room missing : ℕ} {t : Tally} {a : Answer} where
+  pub tell-none : b .found ≡ false → Refuses missing t a → Tells b room missing t a
+  tell-none f R = record { none = λ _. R; short = λ t. clash t f; whole = λ t. clash t f }
+
+  pub tell-short : b .found ≡ true → room < b .len → Refuses 11 t a → Tells b room missing t a
+  tell-short t l R = record { none = λ f. clash t f; short = λ _ _. R; whole = λ _ k. absurd (omega (arith, l, k)) }
+
+  pub tell-whole : b .found ≡ true → b .len ≤ room → Accepts (b .len) t a → Tells b room missing t a
+  tell-whole t l A = record { none = λ f. clash t f; short = λ _ k. absurd (omega (arith, l, k)); whole = λ _ _. A }
+
+-- the two calls
+module _ {bs heads nexts : List ℕ} {r : Read} {es vs p : List ℕ} (A : ReadAs bs heads nexts r es vs p) {t : Tally} {a : Answer} where
+  pub reference-stopped : (out : List ℕ) → (r .number ≡ 0 → ⊥) → Refuses (r .number) t a → Responds (referencePathBytesResponse bs (length out)) out t a out
+  reference-stopped out o R = responds-refused (reference-refused bs (length out) (sym (A .number)) o) R refl
+
+  pub path-stopped : (start : ℕ) (list out : List ℕ) → (r .number ≡ 0 → ⊥) → Refuses (r .number) t a → Responds (pathBasesBytesResponse bs start list (length out)) out t a out
+  path-stopped start list out o R = responds-refused (path-refused bs start list (length out) (sym (A .number)) o) R refl
+
+  module _ (ok : r .number ≡ 0) where
+    pub reference-told : {out out′ : List ℕ} {b : Bytes} → Told (referencePathBytes (graphOf (r .held) es vs p)) out b out′ → length out′ ≡ length out → Tells b (length out′) 10 t a → Responds (referencePathBytesResponse bs (length out)) out t a out′
+    reference-told {out} {out′} {b} T e S =
+        tells (subst (λ (g : Graph). Told (referencePathBytes g) out b out′) (A .is ok) T) (reference-none bs (length out) (sym (A .number) ∙ ok)) (reference-some bs (length out) (sym (A .number) ∙ ok)) e S
+
+    pub path-told : (start : ℕ) (list : List ℕ) {out out′ : List ℕ} {b : Bytes} → Told (given (isPathOf (graphOf (r .held) es vs p) start list) (pathBasesBytes (graphOf (r .held) es vs p) start list)) out b out′ → length out′ ≡ length out → Tells b (length out′) 9 t a
+        → Responds (pathBasesBytesResponse bs start list (length out)) out t a out′
+    path-told start list {out} {out′} {b} T e S =
+        tells (subst (λ (g : Graph). Told (given (isPathOf g start list) (pathBasesBytes g start list)) out b out′) (A .is ok) T) (path-none bs start list (length out) (sym (A .number) ∙ ok)) (path-some bs start list (length out) (sym (A .number) ∙ ok)) e S

@@ -1,0 +1,124 @@
+use native.Mathlib.Omega.{arith}
+use native.Mathlib.Omega.{arith}
+use Rattle.arrays.specs.Sized.{SizedGraph}
+use Rattle.string_calls.proofs.StringLaws.{told-spellable, reference-stopped, reference-counted, reference-told}
+use mathlib.Core.Path.{refl, sym, _∙_}
+use borrow.Author.Needs.{needs}
+use Rattle.string_calls.proofs.reference_path_bytes_in.Statement.{statement}
+use Rattle.string_calls.proofs.reference_path_bytes_in.Tie as tie
+use Rattle.string_calls.proofs.reference_path_bytes_in.Reads as reads
+use Rattle.string_calls.proofs.reference_path_bytes_in.Lts as lts
+use Rattle.calls.proofs.refuse.Reads as refuse-reads
+use Rattle.reference.proofs.reference_path_bytes.Reads as reference-path-bytes-reads
+use Rattle.string_calls.proofs.read_indexed.Reads as read-indexed-reads
+use Rattle.string_calls.proofs.tell.Reads as tell-reads
+
+-- src/lib.rt:67:9
+read-indexed-requires : tie.Need-read-indexed-requires
+read-indexed-requires c κs = search needs
+
+-- src/lib.rt:70:9
+refuse-requires : tie.Need-refuse-requires
+refuse-requires c κs = search needs
+
+-- src/lib.rt:70:9
+same-length : tie.Need-same-length
+same-length c = search needs
+
+-- src/lib.rt:70:9
+same-length-2 : tie.Need-same-length-2
+same-length-2 c = search needs
+
+-- src/lib.rt:70:9
+same-length-3 : tie.Need-same-length-3
+same-length-3 c = search needs
+
+-- src/lib.rt:70:9
+same-length-4 : tie.Need-same-length-4
+same-length-4 c = search needs
+
+-- src/lib.rt:70:9
+same-length-5 : tie.Need-same-length-5
+same-length-5 c = search needs
+
+-- src/lib.rt:70:9
+same-length-6 : tie.Need-same-length-6
+same-length-6 c = search needs
+
+-- src/lib.rt:70:9
+same-length-7 : tie.Need-same-length-7
+same-length-7 c = search needs
+
+-- src/lib.rt:70:9
+returns : tie.Need-returns
+returns c = reference-stopped (c .before .before .before .before .before .before .before .before .before .before .before .before .before .before .before .before .read-indexed .ensures .read) _ (c .before .if1 .taken) (c .refuse .ensures)
+
+-- src/lib.rt:73:9
+reference-path-bytes-requires : tie.Need-reference-path-bytes-requires
+reference-path-bytes-requires c κs = (told-spellable (c .before .before .before .before .before .before .before .before .before .before .before .before .before .before .before .before .before .before .before .before .before .before .before .before .before .before .before .before .before .before .before .before .before .before .before .before .before .before .before .before .pre) (c .before .before .before .before .before .before .before .before .before .before .before .before .before .before .before .before .before .before .before .before .before .before .before .read-indexed .ensures .read .holds (c .before .before .before .before .before .before .before .before .if1 .left)) (c .before .before .before .before .before .before .before .before .before .before .before .before .before .before .before .before .before .before .before .before .before .before .before .read-indexed .kept .1 .0) (c .before .before .before .before .before .before .before .before .before .before .before .before .before .before .before .before .before .before .before .before .before .before .before .read-indexed .kept .1 .1 .0) (c .before .before .before .before .before .before .before .before .before .before .before .before .before .before .before .before .before .before .before .before .before .before .before .read-indexed .kept .1 .1 .1 .0) (c .before .before .before .before .before .before .before .before .before .before .before .before .before .before .before .before .before .before .before .before .before .before .before .read-indexed .kept .1 .1 .1 .1 .1 .1 .0), c .before .before .before .before .before .before .before .before .before .before .before .before .before .before .before .before .before .before .before .before .before .before .before .read-indexed .ensures .indexed (c .before .before .before .before .before .before .before .before .if1 .left))
+
+-- src/lib.rt:74:5
+tell-requires : tie.Need-tell-requires
+tell-requires c κs = reference-counted (c .before .before .before .before .before .before .before .before .before .before .before .before .before .before .before .before .before .before .before .before .before .before .before .before .before .before .before .before .read-indexed .ensures .read) (c .before .before .before .before .before .before .before .before .before .before .before .before .before .if1 .left) (omega (arith, c .before .before .before .before .before .before .before .before .before .before .before .before .before .before .before .before .before .before .before .before .before .before .before .before .before .before .before .before .before .before .before .before .before .before .before .before .before .before .before .before .before .before .before .before .before .pre .heads-is)) (c .before .before .before .before .reference-path-bytes .ensures)
+
+-- src/lib.rt:52:1
+same-length-8 : tie.Need-same-length-8
+same-length-8 c = search needs
+
+-- src/lib.rt:52:1
+same-length-9 : tie.Need-same-length-9
+same-length-9 c = search needs
+
+-- src/lib.rt:52:1
+same-length-10 : tie.Need-same-length-10
+same-length-10 c = search needs
+
+-- src/lib.rt:52:1
+same-length-11 : tie.Need-same-length-11
+same-length-11 c = search needs
+
+-- src/lib.rt:52:1
+same-length-12 : tie.Need-same-length-12
+same-length-12 c = search needs
+
+-- src/lib.rt:52:1
+same-length-13 : tie.Need-same-length-13
+same-length-13 c = search needs
+
+-- src/lib.rt:52:1
+same-length-14 : tie.Need-same-length-14
+same-length-14 c = search needs
+
+-- src/lib.rt:52:1
+same-length-15 : tie.Need-same-length-15
+same-length-15 c = search needs
+
+-- src/lib.rt:52:1
+returns-2 : tie.Need-returns-2
+returns-2 c = reference-told (c .before .before .before .before .before .before .before .before .before .before .before .before .before .before .before .before .before .before .before .before .before .before .before .before .before .before .before .before .before .read-indexed .ensures .read) (c .before .before .before .before .before .before .before .before .before .before .before .before .before .before .if1 .left) (c .before .before .before .before .before .reference-path-bytes .ensures) (c .before .before .before .before .before .reference-path-bytes .kept .1 .1 .1 .1 .1 .1 .1 .0) (c .tell .ensures)
+
+pub reference-path-bytes-in-spec : {M : Type 1} → statement M
+reference-path-bytes-in-spec =
+    tie.close
+    (tie.spec
+    read-indexed-requires
+    refuse-requires
+    same-length
+    same-length-2
+    same-length-3
+    same-length-4
+    same-length-5
+    same-length-6
+    same-length-7
+    returns
+    reference-path-bytes-requires
+    tell-requires
+    same-length-8
+    same-length-9
+    same-length-10
+    same-length-11
+    same-length-12
+    same-length-13
+    same-length-14
+    same-length-15
+    returns-2)
