@@ -8,7 +8,7 @@ use accept::Read;
 use record::Takes;
 
 // Whether two edges have the same ends, or two vertices the same k-mer: the cause of 6.
-fn is_doubled(
+pub fn is_doubled(
     es: &[u32],
     m: usize,
     n: usize,

@@ -6,7 +6,7 @@ ghost use Rattle.record.specs.Layout.{WellFormed};
 ghost use Rattle.sequence.specs.Part.{Part};
 
 // Where the sequence of vertex v starts: behind those of the vertices before it.
-fn sequence_start(rec: &[u8], v: usize) -> usize
+pub fn sequence_start(rec: &[u8], v: usize) -> usize
     requires { ⌜ WellFormed (now rec) × (v < verticesOf (now rec)) ⌝ }
     ensures { λ r. ⌜ r ≡ sequenceStart (now (rec .entry)) v ⌝ }
 {

@@ -1,0 +1,95 @@
+-- Room that stays when vertices go. Assumes nothing.
+use mathlib.Core.Path.{_≡_, refl}
+use mathlib.Core.Logic.{⊎-elim, _⊎_, inl, inr}
+use mathlib.Core.Bool.{Bool}
+use mathlib.Core.List.{List, [], _∷_}
+use Prim.Native.Nat.{ℕ, suc, _+_, _*_, _≤_, _<_}
+use native.Mathlib.Omega.{arith}
+use lib.ListN.{length}
+use Rattle.defs.specs.Lists.{keepAt}
+use Rattle.defs.specs.SeqGraph.{Graph, nodeCount, compactVertices}
+use Rattle.defs.specs.Simplify.{sequenceBytes, emptyVertices, simplifyGraphFull}
+use Rattle.defs.specs.Cleanup.{removeSingletonOrphanVertices, removeVerticesNotConnectedToRef, removePathsNotConnectedToRef}
+use Rattle.laws.proofs.Walks.{byTest}
+use Rattle.laws.proofs.ListLaws.{keepAt-yes, keepAt-no}
+use Rattle.laws.proofs.Counts.{total, heft}
+use Rattle.laws.proofs.Fuel.{Good}
+use Rattle.laws.proofs.Branching.{branching-restrict, surplus-branching}
+use Rattle.laws.proofs.Measures.{weight, load, bytes-is, weight-is, Tame}
+use Rattle.laws.proofs.Bound.{simplify-tame, simplify-bound}
+use Rattle.laws.proofs.Cleaned.{restrict-good, orphans-keep, connected-keeps}
+use Rattle.laws.proofs.Room.{Limits, limits-narrow}
+use Rattle.memory.specs.Memory.{vertexRoom, edgeRoom, Fit}
+use Rattle.choice.specs.Choice.{Lean}
+
+pub lean-fit : {g : Graph} {heads nexts : List ℕ} → Lean g heads nexts → Fit g heads nexts
+unfolding load
+lean-fit {g} L = record { good = L .good; light = omega (arith, L .light); surplus = omega (arith, L .narrow, surplus-branching g (L .good .0 .bounded)) }
+
+pub lean-tame : {g g′ : Graph} {heads nexts : List ℕ} → Lean g heads nexts → Tame g g′ → Lean g′ heads nexts
+lean-tame L t = record { good = t .good; light = omega (arith, L .light, t .light); narrow = omega (arith, L .narrow, t .branches, t .fewer) }
+
+pub lean-as : {g g′ : Graph} {heads nexts : List ℕ} → g ≡ g′ → Lean g′ heads nexts → Lean g heads nexts
+lean-as q L = rw q L
+
+pub lean-kept : {g : Graph} {heads nexts heads′ nexts′ : List ℕ} → Lean g heads nexts → length heads′ ≡ length heads → length nexts′ ≡ length nexts → Lean g heads′ nexts′
+lean-kept L d e = record { good = L .good; light = rw d (L .light); narrow = rw (d, e) (L .narrow) }
+
+-- ---- vertices go
+
+total-less : (f : List ℕ → ℕ) (p : ℕ → Bool) (i : ℕ) (xs : List (List ℕ)) → total f (keepAt p i xs) ≤ total f xs
+unfolding total keepAt
+total-less f p i [] = omega arith
+total-less f p i (x ∷ xs) = byTest (p i)
+    (λ t. rw (keepAt-yes p i x xs t) (omega (arith, total-less f p (suc i) xs)))
+    (λ t. rw (keepAt-no p i x xs t) (omega (arith, total-less f p (suc i) xs)))
+
+pub lean-restrict : {heads nexts : List ℕ} (p : ℕ → Bool) (g : Graph) → Lean g heads nexts → Lean (compactVertices p g) heads nexts
+lean-restrict p g L = record {
+  good = restrict-good p g (L .good);
+  light = omega (arith, L .light, weight-is g, weight-is (compactVertices p g), less heft);
+  narrow = omega (arith, L .narrow, branching-restrict p g, bytes-is (g .verts), bytes-is ((compactVertices p g) .verts), less length);
+}
+  where
+    less : (f : List ℕ → ℕ) → total f ((compactVertices p g) .verts) ≤ total f (g .verts)
+    less f = unfold compactVertices in (total-less f p 0 (g .verts))
+
+module _ {heads nexts : List ℕ} {g : Graph} (L : Lean g heads nexts) where
+  pub lean-connected : Lean (removeVerticesNotConnectedToRef (removeSingletonOrphanVertices g)) heads nexts
+  unfolding removeSingletonOrphanVertices
+  lean-connected = connected-keeps (λ x. Lean x heads nexts) lean-restrict _ (orphans-keep (λ x. Lean x heads nexts) lean-restrict (suc (nodeCount g)) g L)
+
+  pub lean-between : (s t : ℕ) → Lean (removePathsNotConnectedToRef g s t) heads nexts
+  unfolding removePathsNotConnectedToRef
+  lean-between s t = lean-restrict _ g L
+
+  pub lean-simplified : Lean ((simplifyGraphFull 10 g) .graph) heads nexts
+  lean-simplified = lean-tame L (simplify-tame 10 (omega arith) g (L .good))
+
+  pub lean-rewrites : (simplifyGraphFull 10 g) .rewrites ≤ 202 * vertexRoom heads
+  lean-rewrites = omega (arith, simplify-bound 10 (omega arith) g (L .good), L .light)
+
+-- ---- a record's graph: where there are bytes, a vertex at least is not empty
+
+few-empty : (vs : List (List ℕ)) → emptyVertices vs ≤ length vs
+unfolding emptyVertices
+few-empty [] = omega arith
+few-empty ([] ∷ vs) = omega (arith, few-empty vs)
+few-empty ((x ∷ xs) ∷ vs) = omega (arith, few-empty vs)
+
+some-full : (vs : List (List ℕ)) → (sequenceBytes vs ≡ 0) ⊎ (emptyVertices vs < length vs)
+unfolding sequenceBytes emptyVertices
+some-full [] = inl refl
+some-full ([] ∷ vs) = ⊎-elim (λ (q : sequenceBytes vs ≡ 0). inl (omega arith)) (λ (l : emptyVertices vs < length vs). inr (omega arith)) (some-full vs)
+some-full ((x ∷ xs) ∷ vs) = inr (omega (arith, few-empty vs))
+
+limits-light : (g : Graph) → Limits g → weight g < 10240
+unfolding weight nodeCount
+limits-light g l = ⊎-elim
+    (λ (q : sequenceBytes (g .verts) ≡ 0). omega (arith, l .vertices, few-empty (g .verts)))
+    (λ (k : emptyVertices (g .verts) < length (g .verts)). omega (arith, l .vertices, l .few))
+    (some-full (g .verts))
+
+-- document 01's limits, in room for 10,240 vertices and 6,144 edges more than vertices
+pub limits-lean : {heads nexts : List ℕ} (g : Graph) → Good g → Limits g → 10240 ≤ vertexRoom heads → vertexRoom heads + 6144 ≤ edgeRoom nexts → Lean g heads nexts
+limits-lean g h l a b = record { good = h; light = omega (arith, limits-light g l); narrow = omega (arith, limits-narrow g h l .branches, l .few) }

@@ -1,0 +1,2 @@
+pub mod LeanLaws
+pub mod ChoiceLaws

@@ -1,0 +1,76 @@
+-- `cleanNonRefPaths` keeps a graph in its room. Assumes nothing.
+use mathlib.Core.Bool.{Bool, not, _||_}
+use mathlib.Core.List.{List, [], _∷_}
+use Prim.Native.Nat.{ℕ, suc, _-_, _≤_}
+use native.Mathlib.Omega.{arith}
+use lib.Dec.{eqb}
+use lib.ListN.{length}
+use Rattle.defs.specs.Lists.{keepIf}
+use Rattle.defs.specs.SeqGraph.{Edge, Graph, nodeCount, edgesFrom, outDegree}
+use Rattle.defs.specs.Cleanup.{referenceSourceVertex, referenceSinkVertex, removeSingletonOrphanVertices, leadsToSource, leadsFromSink, withoutNonRefEdges, cleanBetween, cleanNonRefPaths}
+use Rattle.laws.proofs.Walks.{byTest}
+use Rattle.laws.proofs.ListLaws.{of-keepIf, keepIf-yes, keepIf-no}
+use Rattle.laws.proofs.Counts.{Single}
+use Rattle.laws.proofs.Fuel.{Good}
+use Rattle.laws.proofs.Branching.{branching, sum-le}
+use Rattle.laws.proofs.Measures.{weight}
+use Rattle.laws.proofs.Whole.{byOption}
+use Rattle.laws.proofs.Cleaned.{orphans-keep}
+use Rattle.choice.specs.Choice.{Lean}
+use Rattle.choice.proofs.LeanLaws.{lean-restrict}
+
+-- ---- edges go
+
+single-keep : (q : Edge → Bool) (l : List Edge) → Single l → Single (keepIf q l)
+unfolding keepIf
+single-keep q [] h = tt
+single-keep q (e ∷ l) h = byTest (q e)
+    (λ t. rw (keepIf-yes q e l t) (λ k. h .0 (k .0, of-keepIf q l (k .1) .0, k .2, k .3), single-keep q l (h .1)))
+    (λ t. rw (keepIf-no q e l t) (single-keep q l (h .1)))
+
+fewer : (p q : Edge → Bool) (l : List Edge) → length (keepIf p (keepIf q l)) ≤ length (keepIf p l)
+unfolding keepIf
+fewer p q [] = omega arith
+fewer p q (e ∷ l) = byTest (q e)
+    (λ t. rw (keepIf-yes q e l t) (byTest (p e)
+    (λ u. rw (keepIf-yes p e l u, keepIf-yes p e (keepIf q l) u) (omega (arith, fewer p q l)))
+    (λ u. rw (keepIf-no p e l u, keepIf-no p e (keepIf q l) u) (fewer p q l))))
+    (λ t. rw (keepIf-no q e l t) (byTest (p e)
+    (λ u. rw (keepIf-yes p e l u) (omega (arith, fewer p q l)))
+    (λ u. rw (keepIf-no p e l u) (fewer p q l))))
+
+module _ (q : Edge → Bool) (g : Graph) where
+  abbrev pub thinned : Graph
+  thinned = record { k = g .k; verts = g .verts; edges = keepIf q (g .edges) }
+
+  thinned-good : Good g → Good thinned
+  unfolding nodeCount
+  thinned-good (s, o) = (
+    record {
+      bounded = λ e m. s .bounded e (of-keepIf q (g .edges) m .0);
+      rank = s .rank;
+      ranks = λ a b l. s .ranks a b (l .0, of-keepIf q (g .edges) (l .1) .0, l .2, l .3);
+    },
+    single-keep q (g .edges) o,
+  )
+
+  thinned-branching : branching thinned ≤ branching g
+  unfolding branching outDegree edgesFrom nodeCount
+  thinned-branching = sum-le (λ v. outDegree thinned v - 1) (λ v. outDegree g v - 1) (length (g .verts)) (λ v l. omega (arith, fewer (λ (e : Edge). eqb (e .from) v) q (g .edges)))
+
+  pub thinned-lean : {heads nexts : List ℕ} → Lean g heads nexts → Lean thinned heads nexts
+  unfolding weight
+  thinned-lean L = record { good = thinned-good (L .good); light = L .light; narrow = omega (arith, L .narrow, thinned-branching) }
+
+-- ---- the call
+
+pub clean-lean : {heads nexts : List ℕ} (g : Graph) → Lean g heads nexts → Lean (cleanNonRefPaths g) heads nexts
+unfolding cleanNonRefPaths cleanBetween
+clean-lean {heads} {nexts} g L = byOption (referenceSourceVertex g)
+    (λ a. rw (a, cleanBetween) L)
+    (λ s a. byOption (referenceSinkVertex g)
+    (λ b. rw (a, b, cleanBetween) L)
+    (λ t b. rw (a, b, cleanBetween) (cleaned s t)))
+  where
+    cleaned : (s t : ℕ) → Lean (removeSingletonOrphanVertices (withoutNonRefEdges g s t)) heads nexts
+    cleaned s t = unfold removeSingletonOrphanVertices withoutNonRefEdges in (orphans-keep (λ x. Lean x heads nexts) lean-restrict (suc (nodeCount (withoutNonRefEdges g s t))) (withoutNonRefEdges g s t) (thinned-lean (λ (e : Edge). not (leadsToSource g s e || leadsFromSink g s t e)) g L))

@@ -1,0 +1,2 @@
+pub mod ReadLean
+pub mod CleanLean

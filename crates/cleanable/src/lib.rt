@@ -1,0 +1,1 @@
+// What cleaning may be asked of, by laws alone: proofs/.

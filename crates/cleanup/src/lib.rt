@@ -1,0 +1,184 @@
+// Cleanup (`cleanup_seq_graph`): the graph of the choice, and of it what lies on a path from the first reference source to the first
+// reference sink, simplified.
+ghost use mathlib.Core.Path.{_≡_};
+ghost use mathlib.Core.Option.{some};
+ghost use Prim.Native.Nat.{_+_, _<_};
+ghost use Rattle.defs.specs.Cleanup.{referenceSourceVertex, referenceSinkVertex};
+ghost use Rattle.index.specs.Index.{Indexed};
+ghost use Rattle.memory.specs.Memory.{graphOf};
+ghost use Rattle.refs.specs.Refs.{FirstSource, FirstSink};
+ghost use Rattle.rounds.specs.Rounds.{Countable};
+ghost use Rattle.choice.specs.Choice.{Cleanable};
+ghost use Rattle.cleanup.specs.CleanUp.{uncleaned, After, CleanUp};
+use memory::Held;
+use memory::Work;
+
+// The cleaned graph, its status (1 just reference, 2 some variation), and the rewrites made.
+pub struct CleanedUp {
+    pub held: Held,
+    pub status: u32,
+    pub rewrites: u32,
+}
+
+// Without a source or a sink the graph of the choice is the answer.
+fn just_reference(w: Work) -> CleanedUp
+    ensures { λ r. ⌜ r ≡ uncleaned w ⌝ }
+{
+    let held = w.held;
+    CleanedUp {
+        held: held,
+        status: 1,
+        rewrites: w.rewrites,
+    }
+}
+
+// What lies on a path from s to t, simplified; a single vertex gains an empty second one.
+fn keep_between(
+    work: Work,
+    s: usize,
+    t: usize,
+    es: &mut [u32],
+    vs: &mut [u32],
+    p: &mut [u8],
+    heads: &mut [u32],
+    nexts: &mut [u32],
+    nodes: &mut [u32],
+    map: &mut [u32],
+    starts: &mut [u32],
+    tried: &mut [u64],
+    sig: &mut [u32],
+) -> CleanedUp
+    requires { ⌜ Cleanable (work .held) (now es) (now vs) (now p) (now heads) (now nexts) (now nodes) (now map) (now starts) (now tried) (now sig) × (Indexed (work .held .m) (work .held .n) (now es) (now heads) (now nexts) × (Countable 202 (work .rewrites) (now heads) × ((s < work .held .n) × (t < work .held .n)))) ⌝ }
+    ensures { λ r. ⌜ After work (some s) (some t) (now (es .entry)) (now (vs .entry)) (now (p .entry)) (now (heads .entry)) (now (nexts .entry)) r (now (es .exit)) (now (vs .exit)) (now (p .exit)) ⌝ }
+{
+    let held = work.held;
+    let b = connected::remove_paths_not_connected_to_ref(
+        held,
+        s,
+        t,
+        es,
+        vs,
+        heads,
+        nexts,
+        nodes,
+        map,
+        tried,
+    );
+    let z = rounds::simplify_graph_full(
+        b,
+        10,
+        es,
+        vs,
+        p,
+        heads,
+        nexts,
+        nodes,
+        map,
+        starts,
+        tried,
+        sig,
+    );
+    let simplified = z.held;
+    let cleaned = dummy_vertex::add_dummy_vertex(simplified, es, vs);
+    CleanedUp {
+        held: cleaned,
+        status: 2,
+        rewrites: work.rewrites + z.rewrites,
+    }
+}
+
+// The source s and the sink t are chosen; the number of vertices stands for none.
+fn after_choice(
+    work: Work,
+    s: usize,
+    t: usize,
+    es: &mut [u32],
+    vs: &mut [u32],
+    p: &mut [u8],
+    heads: &mut [u32],
+    nexts: &mut [u32],
+    nodes: &mut [u32],
+    map: &mut [u32],
+    starts: &mut [u32],
+    tried: &mut [u64],
+    sig: &mut [u32],
+) -> CleanedUp
+    requires { ⌜ Cleanable (work .held) (now es) (now vs) (now p) (now heads) (now nexts) (now nodes) (now map) (now starts) (now tried) (now sig) × (Indexed (work .held .m) (work .held .n) (now es) (now heads) (now nexts) × (Countable 202 (work .rewrites) (now heads) × (FirstSource (work .held .m) (work .held .n) (now es) s × FirstSink (work .held .m) (work .held .n) (now es) t))) ⌝ }
+    ensures { λ r. ⌜ After work (referenceSourceVertex (graphOf (work .held) (now (es .entry)) (now (vs .entry)) (now (p .entry)))) (referenceSinkVertex (graphOf (work .held) (now (es .entry)) (now (vs .entry)) (now (p .entry)))) (now (es .entry)) (now (vs .entry)) (now (p .entry)) (now (heads .entry)) (now (nexts .entry)) r (now (es .exit)) (now (vs .exit)) (now (p .exit)) ⌝ }
+{
+    let held = work.held;
+    let n = held.n;
+    if n <= s {
+        return just_reference(work);
+    }
+    if n <= t {
+        return just_reference(work);
+    }
+    keep_between(
+        work,
+        s,
+        t,
+        es,
+        vs,
+        p,
+        heads,
+        nexts,
+        nodes,
+        map,
+        starts,
+        tried,
+        sig,
+    )
+}
+
+pub fn cleanup_seq_graph(
+    held: Held,
+    es: &mut [u32],
+    vs: &mut [u32],
+    p: &mut [u8],
+    heads: &mut [u32],
+    nexts: &mut [u32],
+    nodes: &mut [u32],
+    map: &mut [u32],
+    starts: &mut [u32],
+    tried: &mut [u64],
+    sig: &mut [u32],
+) -> CleanedUp
+    requires { ⌜ Cleanable held (now es) (now vs) (now p) (now heads) (now nexts) (now nodes) (now map) (now starts) (now tried) (now sig) ⌝ }
+    ensures { λ r. ⌜ CleanUp held (now (es .entry)) (now (vs .entry)) (now (p .entry)) (now (heads .entry)) (now (nexts .entry)) r (now (es .exit)) (now (vs .exit)) (now (p .exit)) ⌝ }
+{
+    let w = choice::before_choice(
+        held,
+        es,
+        vs,
+        p,
+        heads,
+        nexts,
+        nodes,
+        map,
+        starts,
+        tried,
+        sig,
+    );
+    let h = w.held;
+    let m = h.m;
+    let n = h.n;
+    index::build_index(es, m, n, heads, nexts);
+    let s = refs::reference_source_vertex(es, m, n, heads, nexts);
+    let t = refs::reference_sink_vertex(es, m, n, heads, nexts);
+    after_choice(
+        w,
+        s,
+        t,
+        es,
+        vs,
+        p,
+        heads,
+        nexts,
+        nodes,
+        map,
+        starts,
+        tried,
+        sig,
+    )
+}
