@@ -1,0 +1,20 @@
+// The library for C: each public call under its C name, with the promise of the call itself. include/seq_graph.h declares them.
+ghost use Rattle.simplify_graph.specs.Simplifies.{Simplifies};
+ghost use Rattle.from_assembly_graph.specs.Converts.{Converts};
+use calls::Answer;
+use calls::SimplifyAnswer;
+use calls::Tally;
+
+#[no_mangle]
+pub extern "C" fn sg_from_assembly_graph(rec: &[u8], out: &mut [u8], tally: Tally) -> Answer
+    ensures { λ r. ⌜ Converts (now (rec .entry)) (now (out .entry)) tally r (now (out .exit)) ⌝ }
+{
+    from_assembly_graph::from_assembly_graph(rec, out, tally)
+}
+
+#[no_mangle]
+pub extern "C" fn sg_simplify_graph(rec: &[u8], out: &mut [u8], tally: Tally) -> SimplifyAnswer
+    ensures { λ r. ⌜ Simplifies (now (rec .entry)) (now (out .entry)) tally r (now (out .exit)) ⌝ }
+{
+    simplify_graph::simplify_graph(rec, out, tally)
+}
