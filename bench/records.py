@@ -14,6 +14,7 @@ ROOT = os.path.dirname(os.path.dirname(os.path.abspath(__file__)))
 sys.path.insert(0, os.path.join(ROOT, "oracle"))
 sys.dont_write_bytecode = True
 
+import examples  # noqa: E402
 import graphs  # noqa: E402
 import limits  # noqa: E402
 import sgr1  # noqa: E402
@@ -93,6 +94,7 @@ def ladder(rungs):
 
 
 def sequence_records():
+    yield SIMPLIFY, 0, "document 01's case 1, 4 vertices", sequence_record(examples.NINE[0])
     yield SIMPLIFY, 0, "chain of 2,048 vertices", sequence_record(limits.long_chain(sgr1.MAX_VERTICES))
     yield SIMPLIFY, 0, "200 bubbles in a row", sequence_record(limits.many_bubbles(200))
     yield SIMPLIFY, 0, "680 bubbles in a row", sequence_record(limits.many_bubbles(680))

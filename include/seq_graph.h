@@ -61,6 +61,13 @@ sg_answer sg_from_assembly_graph(const uint8_t *record, size_t length, uint8_t *
 /* A sequence graph's record to that of the simplified graph. */
 sg_simplify_answer sg_simplify_graph(const uint8_t *record, size_t length, uint8_t *out, size_t room, sg_tally tally);
 
+/* The bytes that the graph's reference path spells; refused with 10 where it has none. */
+sg_answer sg_reference_path_bytes(const uint8_t *record, size_t length, uint8_t *out, size_t room, sg_tally tally);
+
+/* The bytes of the path that begins at the vertex `start` and goes along `edges`: `count` numbers, from and to of each edge in turn. */
+sg_answer sg_path_bases_bytes(const uint8_t *record, size_t length, uint32_t start, const uint32_t *edges, size_t count,
+                              uint8_t *out, size_t room, sg_tally tally);
+
 #ifdef __cplusplus
 }
 #endif

@@ -1,9 +1,10 @@
 #!/usr/bin/env bash
 # Times our library against the Rust on the benchmark's records, and prints a table.
 #
-#     tools/bench.sh [quick]
+#     tools/bench.sh [quick] [whole]
 #
-# quick leaves the Rust out on the records on which it takes minutes. bench/README.md says what is timed.
+# quick leaves the Rust out on the records on which it takes minutes; whole times the Rust from record to record too.
+# bench/README.md says what is timed.
 # GATK_RS_SRC: where the Rust's sources are, if not in ../shared/docs/src/gatk-haplotypecaller/src.
 set -euo pipefail
 cd "$(dirname "$0")/.."

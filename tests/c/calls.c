@@ -68,9 +68,55 @@ static void test_from_assembly_graph(void) {
     check_output(0);
 }
 
+/* The string of the path 0, 1, 3 of the diamond. */
+static size_t reference(uint8_t *at) {
+    memcpy(at, "AACTGTT", 7);
+    return 7;
+}
+
+static void test_reference_path_bytes(void) {
+    size_t length = diamond(rec), n = reference(want);
+    sg_tally t = {0, 0, 9};
+    fill();
+    sg_answer a = sg_reference_path_bytes(rec, length, out, n, t);
+    assert(a.number == 0 && a.length == n);
+    check_output(n);
+    fill();
+    a = sg_reference_path_bytes(rec, length, out, n - 1, a.tally);
+    assert(a.number == 11 && a.length == 0);
+    const char *sequences[] = {"A", "C"};
+    const edge edges[] = {{0, 1, 1, 0}};
+    length = write_record(rec, SEQUENCES, 10, 2, sequences, 1, edges);
+    a = sg_reference_path_bytes(rec, length, out, ROOM, a.tally);
+    assert(a.number == 10);
+    check_tally(a.tally, 1, 2, 9);
+    check_output(0);
+}
+
+static void test_path_bases_bytes(void) {
+    const uint32_t path[] = {0, 1, 1, 3}, no_path[] = {0, 1, 2, 3};
+    size_t length = diamond(rec), n = reference(want);
+    sg_tally t = {0, 0, 9};
+    fill();
+    sg_answer a = sg_path_bases_bytes(rec, length, 0, path, 4, out, n, t);
+    assert(a.number == 0 && a.length == n);
+    check_output(n);
+    fill();
+    a = sg_path_bases_bytes(rec, length, 0, path, 4, out, n - 1, a.tally);
+    assert(a.number == 11 && a.length == 0);
+    assert(sg_path_bases_bytes(rec, length, 0, no_path, 4, out, ROOM, t).number == 9);
+    assert(sg_path_bases_bytes(rec, length, 0, path, 3, out, ROOM, t).number == 9);
+    a = sg_path_bases_bytes(rec, length, 4, path, 0, out, ROOM, a.tally);
+    assert(a.number == 9);
+    check_tally(a.tally, 1, 2, 9);
+    check_output(0);
+}
+
 int main(void) {
     test_from_assembly_graph();
     test_simplify_graph();
+    test_reference_path_bytes();
+    test_path_bases_bytes();
     puts("C: each call answered and refused as it must");
     return 0;
 }

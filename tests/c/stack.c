@@ -44,6 +44,19 @@ static void *simplify_graph(void *unused) {
     return unused;
 }
 
+static void *reference_path_bytes(void *unused) {
+    assert(sg_reference_path_bytes(rec, chain(SEQUENCES, 4), out, ROOM, none).length == 4 * VERTICES);
+    return unused;
+}
+
+static void *path_bases_bytes(void *unused) {
+    static uint32_t path[2 * (VERTICES - 1)];
+    for (unsigned i = 0; i < 2 * (VERTICES - 1); i++) path[i] = (i + 1) / 2;
+    sg_answer a = sg_path_bases_bytes(rec, chain(SEQUENCES, 4), 0, path, 2 * (VERTICES - 1), out, ROOM, none);
+    assert(a.length == 4 * VERTICES);
+    return unused;
+}
+
 static void run(const char *name, void *(*call)(void *)) {
     pthread_attr_t attr;
     pthread_t thread;
@@ -61,5 +74,7 @@ int main(void) {
     stack = memory + PAGE;
     run("from_assembly_graph", from_assembly_graph);
     run("simplify_graph", simplify_graph);
+    run("reference_path_bytes", reference_path_bytes);
+    run("path_bases_bytes", path_bases_bytes);
     return 0;
 }

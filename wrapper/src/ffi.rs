@@ -41,4 +41,21 @@ extern "C" {
         room: usize,
         tally: Tally,
     ) -> SimplifyAnswer;
+    pub fn sg_reference_path_bytes(
+        record: *const u8,
+        length: usize,
+        out: *mut u8,
+        room: usize,
+        tally: Tally,
+    ) -> Answer;
+    pub fn sg_path_bases_bytes(
+        record: *const u8,
+        length: usize,
+        start: u32,
+        edges: *const u32,
+        count: usize,
+        out: *mut u8,
+        room: usize,
+        tally: Tally,
+    ) -> Answer;
 }

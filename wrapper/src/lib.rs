@@ -51,6 +51,31 @@ pub fn simplify_graph(record: &[u8], out: &mut [u8], tally: &mut Tally) -> Resul
     answered(a.number, Simplified { length: a.length as usize, rewrites, rounds, end })
 }
 
+/// The bytes that the graph's reference path spells; the length written.
+pub fn reference_path_bytes(record: &[u8], out: &mut [u8], tally: &mut Tally) -> Result<usize, Refusal> {
+    let (r, o, room) = (record.as_ptr(), out.as_mut_ptr(), out.len());
+    // As above.
+    let a = unsafe { ffi::sg_reference_path_bytes(r, record.len(), o, room, *tally) };
+    *tally = a.tally;
+    answered(a.number, a.length as usize)
+}
+
+/// The bytes of the path from the vertex `start` along `edges`, from and to of each edge in turn; the length written.
+pub fn path_bases_bytes(
+    record: &[u8],
+    start: u32,
+    edges: &[u32],
+    out: &mut [u8],
+    tally: &mut Tally,
+) -> Result<usize, Refusal> {
+    let (r, o, room) = (record.as_ptr(), out.as_mut_ptr(), out.len());
+    let (e, count) = (edges.as_ptr(), edges.len());
+    // As above, with a third slice.
+    let a = unsafe { ffi::sg_path_bases_bytes(r, record.len(), start, e, count, o, room, *tally) };
+    *tally = a.tally;
+    answered(a.number, a.length as usize)
+}
+
 fn answered<T>(number: u32, answer: T) -> Result<T, Refusal> {
     match Refusal::of(number) {
         None => Ok(answer),

@@ -1,5 +1,6 @@
 //! Each call once answered, once refused for want of room, once for another cause.
-use seq_graph::{from_assembly_graph, simplify_graph, End, Refusal, Simplified, Tally};
+use seq_graph::{from_assembly_graph, path_bases_bytes, reference_path_bytes, simplify_graph};
+use seq_graph::{End, Refusal, Simplified, Tally};
 
 const KMERS: u8 = 0;
 const SEQUENCES: u8 = 1;
@@ -37,10 +38,7 @@ fn sequence_graph(sequences: &[&[u8]], edges: &[Edge]) -> Vec<u8> {
 
 /// Document 01's case 1: a diamond.
 fn diamond() -> Vec<u8> {
-    sequence_graph(
-        &[b"AA", b"CTG", b"CAG", b"TT"],
-        &[(0, 1, 5, 1), (1, 3, 5, 1), (0, 2, 2, 0), (2, 3, 2, 0)],
-    )
+    sequence_graph(&[b"AA", b"CTG", b"CAG", b"TT"], &[(0, 1, 5, 1), (1, 3, 5, 1), (0, 2, 2, 0), (2, 3, 2, 0)])
 }
 
 #[test]
@@ -78,6 +76,30 @@ fn converts() {
     assert_eq!(from_assembly_graph(&diamond(), &mut out, &mut tally), Err(Refusal::Mark));
     assert_eq!(out, want);
     assert_eq!(tally, Tally { answered: 1, refused: 2, rewrites: 0 });
+}
+
+#[test]
+fn spells_the_reference() {
+    let (mut out, mut tally) = ([FILL; 8], Tally::default());
+    assert_eq!(reference_path_bytes(&diamond(), &mut out, &mut tally), Ok(7));
+    assert_eq!(&out, b"AACTGTT\xA5");
+    assert_eq!(reference_path_bytes(&diamond(), &mut out[..6], &mut tally), Err(Refusal::Room));
+    let none = sequence_graph(&[b"A", b"C"], &[(0, 1, 1, 0)]);
+    assert_eq!(reference_path_bytes(&none, &mut out, &mut tally), Err(Refusal::NoReference));
+    assert_eq!(tally, Tally { answered: 1, refused: 2, rewrites: 0 });
+}
+
+#[test]
+fn spells_a_path() {
+    let (mut out, mut tally) = ([FILL; 8], Tally::default());
+    assert_eq!(path_bases_bytes(&diamond(), 0, &[0, 2, 2, 3], &mut out, &mut tally), Ok(7));
+    assert_eq!(&out, b"AACAGTT\xA5");
+    assert_eq!(path_bases_bytes(&diamond(), 3, &[], &mut out[..1], &mut tally), Err(Refusal::Room));
+    for (start, edges) in [(0, vec![0, 3]), (1, vec![0, 1]), (0, vec![0, 1, 2, 3]), (4, vec![]), (0, vec![0])]
+    {
+        assert_eq!(path_bases_bytes(&diamond(), start, &edges, &mut out, &mut tally), Err(Refusal::NoPath));
+    }
+    assert_eq!(tally, Tally { answered: 1, refused: 6, rewrites: 0 });
 }
 
 #[test]

@@ -64,12 +64,18 @@ fn simplified(r: SimplifyAnswer) -> Got {
 }
 
 // The call of that number; a number that no case has where there is no such call.
-fn call(call: u32, rec: &[u8], out: &mut [u8], tally: Tally) -> Got {
+fn call(call: u32, start: u32, rec: &[u8], list: &[u32], out: &mut [u8], tally: Tally) -> Got {
     if call == 1 {
         return plain(sg::sg_from_assembly_graph(rec, out, tally));
     }
     if call == 2 {
         return simplified(sg::sg_simplify_graph(rec, out, tally));
+    }
+    if call == 5 {
+        return plain(sg::sg_reference_path_bytes(rec, out, tally));
+    }
+    if call == 6 {
+        return plain(sg::sg_path_bases_bytes(rec, start, list, out, tally));
     }
     Got {
         number: 4294967295,
@@ -160,9 +166,13 @@ fn compare(case: &[u8], got: Got, out: &[u8], expected: &[u8]) -> Outcome {
     Outcome::Answered
 }
 
-// Makes the call with as much room of out as the case says and compares all that it answers and writes.
-fn run_in(case: &[u8], rec: &[u8], expected: &[u8], out: &mut [u8]) -> Outcome {
+// Makes the call with as much of list and room of out as the case says, and compares all that it answers and writes.
+fn run_in(case: &[u8], rec: &[u8], list: &[u32], expected: &[u8], out: &mut [u8]) -> Outcome {
+    let count = word(case, 15) as usize;
     let room = word(case, 2) as usize;
+    if list.len() < count {
+        return Outcome::Differs;
+    }
     if out.len() < room {
         return Outcome::Differs;
     }
@@ -171,13 +181,36 @@ fn run_in(case: &[u8], rec: &[u8], expected: &[u8], out: &mut [u8]) -> Outcome {
         refused: word(case, 4),
         rewrites: word(case, 5),
     };
-    let got = call(word(case, 0), rec, &mut out[0..room], tally);
+    let got = call(
+        word(case, 0),
+        word(case, 1),
+        rec,
+        &list[0..count],
+        &mut out[0..room],
+        tally,
+    );
     compare(case, got, out, expected)
 }
 
-fn run(case: &[u8], rec: &[u8], expected: &[u8]) -> Outcome {
+// The numbers of four bytes each, as many as the list has room for.
+fn read_list(bytes: &[u8], list: &mut [u32]) {
+    let mut at = 0;
+    let mut i = 0;
+    while 4 <= bytes.len() - at {
+        if i >= list.len() {
+            return;
+        }
+        list[i] = le::u32_at(bytes, at);
+        at += 4;
+        i += 1;
+    }
+}
+
+fn run(case: &[u8], rec: &[u8], numbers: &[u8], expected: &[u8]) -> Outcome {
+    let mut list = [0u32; 16384];
+    read_list(numbers, &mut list);
     let mut out = [165u8; 65536];
-    run_in(case, rec, expected, &mut out)
+    run_in(case, rec, &list, expected, &mut out)
 }
 
 // Takes a case apart: 17 numbers, the record, the list's numbers, the output's bytes.
@@ -196,7 +229,12 @@ fn replay(case: &[u8]) -> Outcome {
         return Outcome::Differs;
     }
     let list_end = record_end + 4 * count;
-    run(case, &case[68..record_end], &case[list_end..])
+    run(
+        case,
+        &case[68..record_end],
+        &case[record_end..list_end],
+        &case[list_end..],
+    )
 }
 
 // Reads n bytes to the start of buf; false where it or the file has fewer.
@@ -320,6 +358,8 @@ fn main() {
         differ: 0,
     };
     let c1 = replay_file(b"from_assembly_graph.bin", b" from_assembly_graph, ", none);
-    let c2 = replay_file(b"simplify_graph.bin", b" simplify_graph; ", c1);
-    print_sum(c2);
+    let c2 = replay_file(b"simplify_graph.bin", b" simplify_graph, ", c1);
+    let c5 = replay_file(b"reference_path_bytes.bin", b" reference_path_bytes, ", c2);
+    let c6 = replay_file(b"path_bases_bytes.bin", b" path_bases_bytes; ", c5);
+    print_sum(c6);
 }

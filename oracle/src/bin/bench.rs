@@ -5,9 +5,10 @@
 //! memory; that the graph is built, copied for each run, and written afterwards is not in the time.
 //! Their answers must be equal. A time is the median of several runs, their number behind it.
 //!
-//! The argument `quick` leaves the Rust out where it takes minutes.
+//! The argument `quick` leaves the Rust out where it takes minutes. With `whole` the Rust's time is also from record
+//! to record: its graph is built from the record, by its own functions, and written.
 use oracle::case::{read_frame, words, Answer, Case, Tally};
-use oracle::oracle::{FROM_ASSEMBLY_GRAPH, SIMPLIFY_GRAPH};
+use oracle::oracle::FROM_ASSEMBLY_GRAPH;
 use oracle::ours;
 use oracle::record::{assembly_graph, seq_graph, write};
 use oracle::seq_graph::SeqGraph;
@@ -77,60 +78,79 @@ fn time_ours(record: &Record) -> ((f64, usize), Answer, Vec<u8>) {
     };
     let (mut out, mut answer) = (vec![0; ROOM], nothing);
     let time = median(|| {
-        timed(|| answer = ours::call(&case, &case.record, &[], &mut out).expect("a call that calls.txt names"))
+        timed(|| {
+            answer = ours::call(&case, &case.record, &[], &mut out).expect("a call that calls.txt names")
+        })
     });
     assert!(answer.number == 0, "{}: refused {}", record.name, answer.number);
     out.truncate(answer.length as usize);
     (time, answer, out)
 }
 
-/// The Rust's time and what its graph is as a record.
-fn time_rust(record: &Record) -> ((f64, usize), Vec<u8>) {
+/// The Rust's time and what its graph is as a record. `whole`: its graph is built and written in the time.
+fn time_rust(record: &Record, whole: bool) -> ((f64, usize), Vec<u8>) {
+    let mut bytes = vec![];
+    if whole {
+        let time = median(|| timed(|| bytes = write(&rust_graph(record), 0)));
+        return (time, bytes);
+    }
     let mut last = None;
-    let time = match record.call {
-        FROM_ASSEMBLY_GRAPH => {
-            let graph = assembly_graph(&record.bytes);
-            median(|| timed(|| last = Some(SeqGraph::from_assembly_graph(&graph))))
-        }
-        SIMPLIFY_GRAPH => {
-            let graph = seq_graph(&record.bytes);
-            median(|| {
-                let mut copy = graph.clone();
-                let time = timed(|| simplify_graph_full(&mut copy));
-                last = Some(copy);
-                time
-            })
-        }
-        call => panic!("no benchmark of call {call}"),
+    let time = if record.call == FROM_ASSEMBLY_GRAPH {
+        let graph = assembly_graph(&record.bytes);
+        median(|| timed(|| last = Some(SeqGraph::from_assembly_graph(&graph))))
+    } else {
+        let graph = seq_graph(&record.bytes);
+        median(|| {
+            let mut copy = graph.clone();
+            let time = timed(|| simplify_graph_full(&mut copy));
+            last = Some(copy);
+            time
+        })
     };
     (time, write(&last.expect("a run"), 0))
 }
 
-fn show((seconds, runs): (f64, usize)) -> String {
-    format!("{:>11.3} {runs:>4}", 1000.0 * seconds)
+fn rust_graph(record: &Record) -> SeqGraph {
+    if record.call == FROM_ASSEMBLY_GRAPH {
+        return SeqGraph::from_assembly_graph(&assembly_graph(&record.bytes));
+    }
+    let mut graph = seq_graph(&record.bytes);
+    simplify_graph_full(&mut graph);
+    graph
+}
+
+fn print_head(whole: bool) {
+    println!("times in ms, with the number of runs that each is the median of; both built for release, one process");
+    println!(
+        "ours: record to record, checks and clearing its arrays included; the output lent is not cleared"
+    );
+    if whole {
+        println!("Rust: record to record, without checks; -: left out, since it takes minutes\n");
+    } else {
+        println!("Rust: its function alone, on a graph in memory; -: left out, since it takes minutes\n");
+    }
+    let (ours, rust) = ("ours", "Rust");
+    println!("{:<46} {ours:>9} runs {rust:>11} runs   ratio rewrites rounds", "record");
 }
 
 fn main() -> io::Result<()> {
-    let quick = args().any(|a| a == "quick");
+    let option = |name: &str| args().any(|a| a == name);
+    let (quick, whole) = (option("quick"), option("whole"));
     let mut input = BufReader::new(io::stdin().lock());
-    println!("times in ms, with the number of runs that each is the median of; both built for release, one process");
-    println!("ours: record to record, checks and clearing its arrays included; the output lent is not cleared");
-    println!("Rust: its function alone, on a graph in memory; -: left out, since it takes minutes\n");
-    let (ours, rust) = ("ours", "Rust");
-    println!("{:<42} {ours:>11} runs {rust:>11} runs   ratio rewrites rounds", "record");
+    print_head(whole);
     while let Some(frame) = read_frame(&mut input)? {
         let record = parse(&frame);
         let (mine, answer, bytes) = time_ours(&record);
         let (theirs, ratio) = if quick && record.slow {
             (format!("{:>11} {:>4}", "-", "-"), format!("{:>7}", "-"))
         } else {
-            let (time, made) = time_rust(&record);
+            let (time, made) = time_rust(&record, whole);
             assert!(made == bytes, "{}: the answers differ", record.name);
-            (show(time), format!("{:>7.1}", time.0 / mine.0))
+            (format!("{:>11.3} {:>4}", 1000.0 * time.0, time.1), format!("{:>7.1}", time.0 / mine.0))
         };
         let what = if record.call == FROM_ASSEMBLY_GRAPH { "convert " } else { "simplify" };
-        let [rewrites, rounds, _] = answer.fields;
-        println!("{what} {:<33} {} {theirs} {ratio} {rewrites:>8} {rounds:>6}", record.name, show(mine));
+        let (ms, runs, [rewrites, rounds, _]) = (1000.0 * mine.0, mine.1, answer.fields);
+        println!("{what} {:<37} {ms:>9.3} {runs:>4} {theirs} {ratio} {rewrites:>8} {rounds:>6}", record.name);
     }
     Ok(())
 }
