@@ -134,8 +134,9 @@ pub fn run(case: &Case) -> Option<Result<Answer, String>> {
     Some(Ok(got))
 }
 
+/// The call itself; the answer's output stays in the lent bytes. None: the call is not linked.
 #[allow(unused_variables)]
-fn call(case: &Case, record: &[u8], list: &[u32], lent: &mut [u8]) -> Option<Answer> {
+pub fn call(case: &Case, record: &[u8], list: &[u32], lent: &mut [u8]) -> Option<Answer> {
     let (r, n, o, room, t) = (record.as_ptr(), record.len(), lent.as_mut_ptr(), case.room, case.tally);
     // The pointers and lengths are those of the slices above, and the calls ask nothing more.
     match case.call {

@@ -1,0 +1,121 @@
+#!/usr/bin/env python3
+"""Writes the benchmark's records to standard output, for oracle's program `bench`. The same on every run.
+
+Each is a frame (four bytes of length, then that many bytes, little-endian): the call in four bytes (1 conversion,
+2 simplification), 1 in four bytes where the Rust takes minutes, else 0, the length of the name in four bytes, the
+name, and the record.
+"""
+import os
+import random
+import struct
+import sys
+
+ROOT = os.path.dirname(os.path.dirname(os.path.abspath(__file__)))
+sys.path.insert(0, os.path.join(ROOT, "oracle"))
+sys.dont_write_bytecode = True
+
+import examples  # noqa: E402
+import graphs  # noqa: E402
+import limits  # noqa: E402
+import sgr1  # noqa: E402
+from model import outcome_of  # noqa: E402
+
+CONVERT, SIMPLIFY = sgr1.FROM_ASSEMBLY_GRAPH, sgr1.SIMPLIFY_GRAPH
+SLOW = 1
+
+
+def sequence_record(graph, k=10):
+    return sgr1.encode(sgr1.SEQUENCE, 0, k, *graph)
+
+
+def accepted_kmers(k, length, count, most):
+    """The k-mers of a reference and its relatives: the first seed whose graph has no cycle and fits."""
+    for seed in range(1000):
+        rng = random.Random("benchmark %d %d %d" % (k, length, seed))
+        graph = graphs.kmer_graph(rng, k, length, count)
+        record = graphs.kmer_record(k, graph)
+        outcome = outcome_of(CONVERT, record, 0, ())
+        if len(graph[0]) <= most and not isinstance(outcome, int):
+            return len(graph[0]), record, outcome[0]
+    raise SystemExit("no k-mer graph without a cycle was found")
+
+
+def kmer_records():
+    for k, length, count in ((10, 300, 8), (10, 1400, 12), (25, 300, 8), (25, 1300, 10)):
+        vertices, kmers, converted = accepted_kmers(k, length, count, sgr1.MAX_VERTICES)
+        name = "haplotypes, k %d, %d k-mers" % (k, vertices)
+        yield CONVERT, 0, name, kmers
+        yield SIMPLIFY, 0, name, converted
+
+
+def dense(vertices, edges, letters, longest):
+    """So many edges among so many vertices, along rising numbers, then renumbered."""
+    rng = random.Random("benchmark, dense, %d" % longest)
+    pairs = set()
+    while len(pairs) < edges:
+        a, b = sorted(rng.sample(range(vertices), 2))
+        pairs.add((a, b))
+    sequences = [graphs.word(rng, 1, longest, letters) for _ in range(vertices)]
+    return graphs.renumbered(rng, sequences, graphs.flagged(rng, vertices, sorted(pairs)))
+
+
+def deep_suffixes(sources, length):
+    """Predecessors of one bottom that end alike, each with a source of its own and a different first byte."""
+    rng = random.Random("benchmark, suffixes")
+    suffix = graphs.word(rng, length, length)
+    sequences, edges = [b"G"], []
+    for s in range(sources):
+        v = len(sequences)
+        sequences += [bytes([s % 256]) + suffix, b"T"]
+        edges += [(v, 0, 1, 0), (v + 1, v, 1, 0)]
+    return sequences, edges
+
+
+def star(sources):
+    """One bottom of so many sources that share their last byte."""
+    sequences = [b"G"] + [bytes([s % 251, s // 251, 65]) for s in range(sources)]
+    return sequences, [(1 + s, 0, 1, int(s == 0)) for s in range(sources)]
+
+
+def nest(depth):
+    """Each diamond's one middle is itself a diamond between two vertices."""
+    sequences, edges = [b"A", b"T"], []
+    top, bottom = 0, 1
+    for _ in range(depth):
+        v = len(sequences)
+        sequences += [b"CAG", b"CA", b"AG"]
+        edges += [(top, v, 1, 0), (v, bottom, 1, 0), (top, v + 1, 2, 1), (v + 2, bottom, 2, 1)]
+        top, bottom = v + 1, v + 2
+    return sequences, edges + [(top, bottom, 2, 1)]
+
+
+def ladder(rungs):
+    return graphs.ladder(random.Random("benchmark, ladder"), rungs)
+
+
+def sequence_records():
+    yield SIMPLIFY, 0, "document 01's case 1, 4 vertices", sequence_record(examples.NINE[0])
+    yield SIMPLIFY, 0, "chain of 2,048 vertices", sequence_record(limits.long_chain(sgr1.MAX_VERTICES))
+    yield SIMPLIFY, 0, "200 bubbles in a row", sequence_record(limits.many_bubbles(200))
+    yield SIMPLIFY, 0, "680 bubbles in a row", sequence_record(limits.many_bubbles(680))
+    yield SIMPLIFY, 0, "dense, 92 vertices, 4,095 edges", sequence_record(limits.dense_before_reference(4095))
+    yield SIMPLIFY, 0, "random, 2,048 vertices, 4,096 edges", sequence_record(dense(2048, 4096, b"AC", 4))
+    yield SIMPLIFY, 0, "random, 1,400 vertices, 4,096 edges", sequence_record(dense(1400, 4096, b"A", 5))
+    yield SIMPLIFY, 0, "64 sources with a suffix of 120", sequence_record(deep_suffixes(64, 120))
+    yield SIMPLIFY, 0, "640 tails of 12", sequence_record(limits.many_tails(640))
+    yield SIMPLIFY, SLOW, "star of 2,047 sources", sequence_record(star(2047))
+    yield SIMPLIFY, SLOW, "nest of 680 diamonds", sequence_record(nest(680))
+    yield SIMPLIFY, 0, "ladder of 102 rungs", sequence_record(ladder(102))
+    yield SIMPLIFY, SLOW, "ladder of 1,023 rungs", sequence_record(ladder(1023))
+
+
+def main():
+    for records in (kmer_records(), sequence_records()):
+        for call, slow, name, record in records:
+            name = name.encode()
+            body = struct.pack("<3I", call, slow, len(name)) + name + record
+            sys.stdout.buffer.write(struct.pack("<I", len(body)) + body)
+
+
+if __name__ == "__main__":
+    main()

@@ -1,0 +1,43 @@
+// The library for C: each public call under its C name, with the promise of the call itself. include/seq_graph.h declares them.
+ghost use lib.ListN.{length};
+ghost use Rattle.defs.specs.Calls.{referencePathBytesResponse, pathBasesBytesResponse};
+ghost use Rattle.calls.specs.Answers.{Responds};
+ghost use Rattle.simplify_graph.specs.Simplifies.{Simplifies};
+ghost use Rattle.from_assembly_graph.specs.Converts.{Converts};
+use calls::Answer;
+use calls::SimplifyAnswer;
+use calls::Tally;
+
+#[no_mangle]
+pub extern "C" fn sg_from_assembly_graph(rec: &[u8], out: &mut [u8], tally: Tally) -> Answer
+    ensures { λ r. ⌜ Converts (now (rec .entry)) (now (out .entry)) tally r (now (out .exit)) ⌝ }
+{
+    from_assembly_graph::from_assembly_graph(rec, out, tally)
+}
+
+#[no_mangle]
+pub extern "C" fn sg_simplify_graph(rec: &[u8], out: &mut [u8], tally: Tally) -> SimplifyAnswer
+    ensures { λ r. ⌜ Simplifies (now (rec .entry)) (now (out .entry)) tally r (now (out .exit)) ⌝ }
+{
+    simplify_graph::simplify_graph(rec, out, tally)
+}
+
+#[no_mangle]
+pub extern "C" fn sg_reference_path_bytes(rec: &[u8], out: &mut [u8], tally: Tally) -> Answer
+    ensures { λ r. ⌜ Responds (referencePathBytesResponse (now (rec .entry)) (length (now (out .entry)))) (now (out .entry)) tally r (now (out .exit)) ⌝ }
+{
+    string_calls::reference_path_bytes(rec, out, tally)
+}
+
+#[no_mangle]
+pub extern "C" fn sg_path_bases_bytes(
+    rec: &[u8],
+    start: u32,
+    edges: &[u32],
+    out: &mut [u8],
+    tally: Tally,
+) -> Answer
+    ensures { λ r. ⌜ Responds (pathBasesBytesResponse (now (rec .entry)) start (now (edges .entry)) (length (now (out .entry)))) (now (out .entry)) tally r (now (out .exit)) ⌝ }
+{
+    string_calls::path_bases_bytes(rec, start, edges, out, tally)
+}

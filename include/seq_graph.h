@@ -1,0 +1,75 @@
+/*
+ * The sequence graph's calls, from libsg.a (`rt staticlib sg` writes target/staticlib/libsg.a).
+ *
+ * A record is read from `record` and `length`. A call that makes a record or a string writes it to `out`, of which `room` bytes
+ * are lent: the first `length` bytes of the answer are written and no others; a refused call writes none. Nothing is asked
+ * of the bytes, and every call returns. No pointer may be null, also where its length is 0, and what is lent to be
+ * written may not overlap what is read. A call keeps nothing, and two may run at once on different memory. A thread
+ * of 2 MiB of stack is enough for each.
+ *
+ * `number` is 0, or why the call was refused; all other fields of the answer but the tally are 0 then:
+ *
+ *    1  under 32 bytes, or not the length it states
+ *    2  mark, kind for this call, or status
+ *    3  a count or k past a limit
+ *    4  offsets, whole length, lengths or byte count disagree
+ *    5  an edge end not below the count of vertices, or a flag other than 0 and 1
+ *    6  two edges with the same ends, or in a k-mer graph two equal k-mers
+ *    7  a cycle, a self edge included
+ *    8  conversion would give over 8,192 bytes
+ *    9  the start or the vertex wanted is not below the count of vertices, or the list of edges is no path
+ *   10  there is no reference path
+ *   11  the output is shorter than the result
+ */
+#ifndef SEQ_GRAPH_H
+#define SEQ_GRAPH_H
+
+#include <stddef.h>
+#include <stdint.h>
+
+#ifdef __cplusplus
+extern "C" {
+#endif
+
+/* Calls answered, calls refused, rewrites made in the answered calls: one for all calls, handed in and handed back.
+ * Each stops at 2^32 - 1. */
+typedef struct {
+    uint32_t answered;
+    uint32_t refused;
+    uint32_t rewrites;
+} sg_tally;
+
+typedef struct {
+    uint32_t number;
+    uint32_t length;
+    sg_tally tally;
+} sg_answer;
+
+/* `end`: 1 quiet, 2 repeated, 3 full. */
+typedef struct {
+    uint32_t number;
+    uint32_t length;
+    uint32_t rewrites;
+    uint32_t rounds;
+    uint32_t end;
+    sg_tally tally;
+} sg_simplify_answer;
+
+/* A k-mer graph's record to the sequence graph's. */
+sg_answer sg_from_assembly_graph(const uint8_t *record, size_t length, uint8_t *out, size_t room, sg_tally tally);
+
+/* A sequence graph's record to that of the simplified graph. */
+sg_simplify_answer sg_simplify_graph(const uint8_t *record, size_t length, uint8_t *out, size_t room, sg_tally tally);
+
+/* The bytes that the graph's reference path spells; refused with 10 where it has none. */
+sg_answer sg_reference_path_bytes(const uint8_t *record, size_t length, uint8_t *out, size_t room, sg_tally tally);
+
+/* The bytes of the path that begins at the vertex `start` and goes along `edges`: `count` numbers, from and to of each edge in turn. */
+sg_answer sg_path_bases_bytes(const uint8_t *record, size_t length, uint32_t start, const uint32_t *edges, size_t count,
+                              uint8_t *out, size_t room, sg_tally tally);
+
+#ifdef __cplusplus
+}
+#endif
+
+#endif

@@ -1,0 +1,156 @@
+//! Times our library and the Rust on the records of standard input (bench/records.py has the layout), in one process.
+//!
+//! Ours: the whole call, from record to record, with all checks; the call clears its own arrays, and that is in the
+//! time. The output lent to it is not cleared between runs. The Rust: only its function, on a graph that it has in
+//! memory; that the graph is built, copied for each run, and written afterwards is not in the time.
+//! Their answers must be equal. A time is the median of several runs, their number behind it.
+//!
+//! The argument `quick` leaves the Rust out where it takes minutes. With `whole` the Rust's time is also from record
+//! to record: its graph is built from the record, by its own functions, and written.
+use oracle::case::{read_frame, words, Answer, Case, Tally};
+use oracle::oracle::FROM_ASSEMBLY_GRAPH;
+use oracle::ours;
+use oracle::record::{assembly_graph, seq_graph, write};
+use oracle::seq_graph::SeqGraph;
+use oracle::seq_graph_simplify::simplify_graph_full;
+use std::env::args;
+use std::io::{self, BufReader};
+use std::time::{Duration, Instant};
+
+const WORDS: usize = 3;
+const ROOM: usize = 1 << 18;
+/// Runs go on until this time has passed, but for at least so many and at most so many; a long one is not repeated.
+const ENOUGH: Duration = Duration::from_millis(1500);
+const LEAST: usize = 5;
+const MOST: usize = 101;
+const LONG: Duration = Duration::from_secs(5);
+
+struct Record {
+    call: u32,
+    slow: bool,
+    name: String,
+    bytes: Vec<u8>,
+}
+
+fn parse(frame: &[u8]) -> Record {
+    let head = words(&frame[..4 * WORDS]);
+    let name_end = 4 * WORDS + head[2] as usize;
+    Record {
+        call: head[0],
+        slow: head[1] != 0,
+        name: String::from_utf8_lossy(&frame[4 * WORDS..name_end]).into_owned(),
+        bytes: frame[name_end..].to_vec(),
+    }
+}
+
+/// The median time of what `run` measures, and how many runs there were.
+fn median(mut run: impl FnMut() -> Duration) -> (f64, usize) {
+    let (begin, mut times) = (Instant::now(), vec![]);
+    while times.len() < MOST && (times.len() < LEAST || begin.elapsed() < ENOUGH) {
+        let time = run();
+        times.push(time);
+        if time > LONG {
+            break;
+        }
+    }
+    times.sort();
+    (times[times.len() / 2].as_secs_f64(), times.len())
+}
+
+fn timed(work: impl FnOnce()) -> Duration {
+    let begin = Instant::now();
+    work();
+    begin.elapsed()
+}
+
+/// Our call's time, its answer and what it wrote.
+fn time_ours(record: &Record) -> ((f64, usize), Answer, Vec<u8>) {
+    let none = Tally { answered: 0, refused: 0, rewrites: 0 };
+    let nothing = Answer { number: 0, length: 0, fields: [0; 3], tally: none, output: vec![] };
+    let case = Case {
+        call: record.call,
+        start: 0,
+        room: ROOM,
+        tally: none,
+        record: record.bytes.clone(),
+        list: vec![],
+        expected: nothing.clone(),
+    };
+    let (mut out, mut answer) = (vec![0; ROOM], nothing);
+    let time = median(|| {
+        timed(|| {
+            answer = ours::call(&case, &case.record, &[], &mut out).expect("a call that calls.txt names")
+        })
+    });
+    assert!(answer.number == 0, "{}: refused {}", record.name, answer.number);
+    out.truncate(answer.length as usize);
+    (time, answer, out)
+}
+
+/// The Rust's time and what its graph is as a record. `whole`: its graph is built and written in the time.
+fn time_rust(record: &Record, whole: bool) -> ((f64, usize), Vec<u8>) {
+    let mut bytes = vec![];
+    if whole {
+        let time = median(|| timed(|| bytes = write(&rust_graph(record), 0)));
+        return (time, bytes);
+    }
+    let mut last = None;
+    let time = if record.call == FROM_ASSEMBLY_GRAPH {
+        let graph = assembly_graph(&record.bytes);
+        median(|| timed(|| last = Some(SeqGraph::from_assembly_graph(&graph))))
+    } else {
+        let graph = seq_graph(&record.bytes);
+        median(|| {
+            let mut copy = graph.clone();
+            let time = timed(|| simplify_graph_full(&mut copy));
+            last = Some(copy);
+            time
+        })
+    };
+    (time, write(&last.expect("a run"), 0))
+}
+
+fn rust_graph(record: &Record) -> SeqGraph {
+    if record.call == FROM_ASSEMBLY_GRAPH {
+        return SeqGraph::from_assembly_graph(&assembly_graph(&record.bytes));
+    }
+    let mut graph = seq_graph(&record.bytes);
+    simplify_graph_full(&mut graph);
+    graph
+}
+
+fn print_head(whole: bool) {
+    println!("times in ms, with the number of runs that each is the median of; both built for release, one process");
+    println!(
+        "ours: record to record, checks and clearing its arrays included; the output lent is not cleared"
+    );
+    if whole {
+        println!("Rust: record to record, without checks; -: left out, since it takes minutes\n");
+    } else {
+        println!("Rust: its function alone, on a graph in memory; -: left out, since it takes minutes\n");
+    }
+    let (ours, rust) = ("ours", "Rust");
+    println!("{:<46} {ours:>9} runs {rust:>11} runs   ratio rewrites rounds", "record");
+}
+
+fn main() -> io::Result<()> {
+    let option = |name: &str| args().any(|a| a == name);
+    let (quick, whole) = (option("quick"), option("whole"));
+    let mut input = BufReader::new(io::stdin().lock());
+    print_head(whole);
+    while let Some(frame) = read_frame(&mut input)? {
+        let record = parse(&frame);
+        let (mine, answer, bytes) = time_ours(&record);
+        let (theirs, ratio) = if quick && record.slow {
+            (format!("{:>11} {:>4}", "-", "-"), format!("{:>7}", "-"))
+        } else {
+            let (time, made) = time_rust(&record, whole);
+            assert!(made == bytes, "{}: the answers differ", record.name);
+            (format!("{:>11.3} {:>4}", 1000.0 * time.0, time.1), format!("{:>7.1}", time.0 / mine.0))
+        };
+        let what = if record.call == FROM_ASSEMBLY_GRAPH { "convert " } else { "simplify" };
+        let (ms, runs, [rewrites, rounds, _]) = (1000.0 * mine.0, mine.1, answer.fields);
+        println!("{what} {:<37} {ms:>9.3} {runs:>4} {theirs} {ratio} {rewrites:>8} {rounds:>6}", record.name);
+    }
+    Ok(())
+}

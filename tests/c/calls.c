@@ -1,0 +1,122 @@
+/* Goes through each call of libsg.a: an answer, a refusal with too little room, and one with another cause. */
+#undef NDEBUG
+#include "../../include/seq_graph.h"
+#include "records.h"
+#include <assert.h>
+#include <stdio.h>
+
+enum { ROOM = 512, FILL = 0xA5 };
+
+static uint8_t rec[ROOM], want[ROOM], out[ROOM];
+
+static void fill(void) { memset(out, FILL, ROOM); }
+
+/* The first n bytes are those wanted, and none behind them was written. */
+static void check_output(size_t n) {
+    assert(memcmp(out, want, n) == 0);
+    for (size_t i = n; i < ROOM; i++) assert(out[i] == FILL);
+}
+
+static void check_tally(sg_tally t, uint32_t answered, uint32_t refused, uint32_t rewrites) {
+    assert(t.answered == answered && t.refused == refused && t.rewrites == rewrites);
+}
+
+/* Document 01's case 1: a diamond. */
+static size_t diamond(uint8_t *at) {
+    const char *sequences[] = {"AA", "CTG", "CAG", "TT"};
+    const edge edges[] = {{0, 1, 5, 1}, {1, 3, 5, 1}, {0, 2, 2, 0}, {2, 3, 2, 0}};
+    return write_record(at, SEQUENCES, 10, 4, sequences, 4, edges);
+}
+
+static void test_simplify_graph(void) {
+    const char *sequences[] = {"AAC", "T", "A", "GTT"};
+    const edge edges[] = {{0, 1, 5, 1}, {0, 2, 2, 0}, {1, 3, 5, 1}, {2, 3, 2, 0}};
+    size_t length = diamond(rec), n = write_record(want, SEQUENCES, 10, 4, sequences, 4, edges);
+    sg_tally t = {7, 8, UINT32_MAX - 1};
+    fill();
+    sg_simplify_answer a = sg_simplify_graph(rec, length, out, n, t);
+    assert(a.number == 0 && a.length == n && a.rewrites == 3 && a.rounds == 2 && a.end == 1);
+    check_tally(a.tally, 8, 8, UINT32_MAX);
+    check_output(n);
+    fill();
+    a = sg_simplify_graph(rec, length, out, n - 1, a.tally);
+    assert(a.number == 11 && a.length == 0 && a.rewrites == 0 && a.rounds == 0 && a.end == 0);
+    check_tally(a.tally, 8, 9, UINT32_MAX);
+    a = sg_simplify_graph(rec, length - 1, out, ROOM, a.tally);
+    assert(a.number == 1);
+    check_tally(a.tally, 8, 10, UINT32_MAX);
+    check_output(0);
+}
+
+static void test_from_assembly_graph(void) {
+    const char *kmers[] = {"CGT", "ACG", "CGA"}, *sequences[] = {"T", "ACG", "A"};
+    const edge edges[] = {{1, 0, 5, 1}, {1, 2, 2, 0}}, sorted[] = {{1, 2, 2, 0}, {1, 0, 5, 1}};
+    size_t length = write_record(rec, KMERS, 3, 3, kmers, 2, edges);
+    size_t n = write_record(want, SEQUENCES, 3, 3, sequences, 2, sorted);
+    sg_tally t = {0, 0, 0};
+    fill();
+    sg_answer a = sg_from_assembly_graph(rec, length, out, ROOM, t);
+    assert(a.number == 0 && a.length == n);
+    check_tally(a.tally, 1, 0, 0);
+    check_output(n);
+    fill();
+    a = sg_from_assembly_graph(rec, length, out, n - 1, a.tally);
+    assert(a.number == 11 && a.length == 0);
+    a = sg_from_assembly_graph(out, 0, out + 1, 0, a.tally);
+    assert(a.number == 1);
+    check_tally(a.tally, 1, 2, 0);
+    check_output(0);
+}
+
+/* The string of the path 0, 1, 3 of the diamond. */
+static size_t reference(uint8_t *at) {
+    memcpy(at, "AACTGTT", 7);
+    return 7;
+}
+
+static void test_reference_path_bytes(void) {
+    size_t length = diamond(rec), n = reference(want);
+    sg_tally t = {0, 0, 9};
+    fill();
+    sg_answer a = sg_reference_path_bytes(rec, length, out, n, t);
+    assert(a.number == 0 && a.length == n);
+    check_output(n);
+    fill();
+    a = sg_reference_path_bytes(rec, length, out, n - 1, a.tally);
+    assert(a.number == 11 && a.length == 0);
+    const char *sequences[] = {"A", "C"};
+    const edge edges[] = {{0, 1, 1, 0}};
+    length = write_record(rec, SEQUENCES, 10, 2, sequences, 1, edges);
+    a = sg_reference_path_bytes(rec, length, out, ROOM, a.tally);
+    assert(a.number == 10);
+    check_tally(a.tally, 1, 2, 9);
+    check_output(0);
+}
+
+static void test_path_bases_bytes(void) {
+    const uint32_t path[] = {0, 1, 1, 3}, no_path[] = {0, 1, 2, 3};
+    size_t length = diamond(rec), n = reference(want);
+    sg_tally t = {0, 0, 9};
+    fill();
+    sg_answer a = sg_path_bases_bytes(rec, length, 0, path, 4, out, n, t);
+    assert(a.number == 0 && a.length == n);
+    check_output(n);
+    fill();
+    a = sg_path_bases_bytes(rec, length, 0, path, 4, out, n - 1, a.tally);
+    assert(a.number == 11 && a.length == 0);
+    assert(sg_path_bases_bytes(rec, length, 0, no_path, 4, out, ROOM, t).number == 9);
+    assert(sg_path_bases_bytes(rec, length, 0, path, 3, out, ROOM, t).number == 9);
+    a = sg_path_bases_bytes(rec, length, 4, path, 0, out, ROOM, a.tally);
+    assert(a.number == 9);
+    check_tally(a.tally, 1, 2, 9);
+    check_output(0);
+}
+
+int main(void) {
+    test_from_assembly_graph();
+    test_simplify_graph();
+    test_reference_path_bytes();
+    test_path_bases_bytes();
+    puts("C: each call answered and refused as it must");
+    return 0;
+}

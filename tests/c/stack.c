@@ -1,0 +1,80 @@
+/*
+ * Runs each call on a thread of 2 MiB of stack, on records at the limits, and prints how much of the stack was touched.
+ * The stack is this program's own memory, filled beforehand, below it a page that faults.
+ */
+#undef NDEBUG
+#define _GNU_SOURCE
+#include "../../include/seq_graph.h"
+#include "records.h"
+#include <assert.h>
+#include <pthread.h>
+#include <stdio.h>
+#include <stdlib.h>
+#include <sys/mman.h>
+
+enum { STACK = 2 << 20, PAGE = 4096, FILL = 0x5A, VERTICES = 2048, K = 128, ROOM = 1 << 19 };
+
+static uint8_t rec[ROOM], out[ROOM];
+static uint8_t *stack;
+
+/* A chain of 2,048 vertices of this many bytes, each different from the others. */
+static size_t chain(unsigned kind, unsigned each) {
+    const unsigned v = VERTICES, e = VERTICES - 1;
+    uint8_t *bytes = rec + HEADER + 2 * v + 9 * e;
+    put_header(rec, kind, K, v, e, v * each);
+    for (unsigned i = 0; i < v; i++) {
+        put(rec + HEADER + 2 * i, 2, each);
+        memset(bytes + each * i, 'A', each);
+        put(bytes + each * i, 2, i);
+    }
+    for (unsigned i = 0; i < e; i++) put_edge(rec, v, i, (edge){i, i + 1, 1, 1});
+    return HEADER + 2 * v + 9 * e + v * each;
+}
+
+static const sg_tally none = {0, 0, 0};
+
+static void *from_assembly_graph(void *unused) {
+    assert(sg_from_assembly_graph(rec, chain(KMERS, K), out, ROOM, none).number == 0);
+    return unused;
+}
+
+static void *simplify_graph(void *unused) {
+    sg_simplify_answer a = sg_simplify_graph(rec, chain(SEQUENCES, 4), out, ROOM, none);
+    assert(a.number == 0 && a.rewrites == 1);
+    return unused;
+}
+
+static void *reference_path_bytes(void *unused) {
+    assert(sg_reference_path_bytes(rec, chain(SEQUENCES, 4), out, ROOM, none).length == 4 * VERTICES);
+    return unused;
+}
+
+static void *path_bases_bytes(void *unused) {
+    static uint32_t path[2 * (VERTICES - 1)];
+    for (unsigned i = 0; i < 2 * (VERTICES - 1); i++) path[i] = (i + 1) / 2;
+    sg_answer a = sg_path_bases_bytes(rec, chain(SEQUENCES, 4), 0, path, 2 * (VERTICES - 1), out, ROOM, none);
+    assert(a.length == 4 * VERTICES);
+    return unused;
+}
+
+static void run(const char *name, void *(*call)(void *)) {
+    pthread_attr_t attr;
+    pthread_t thread;
+    size_t untouched = 0;
+    memset(stack, FILL, STACK);
+    assert(pthread_attr_init(&attr) == 0 && pthread_attr_setstack(&attr, stack, STACK) == 0);
+    assert(pthread_create(&thread, &attr, call, NULL) == 0 && pthread_join(thread, NULL) == 0);
+    while (untouched < STACK && stack[untouched] == FILL) untouched++;
+    printf("stack: %7zu bytes of %d in %s\n", STACK - untouched, STACK, name);
+}
+
+int main(void) {
+    uint8_t *memory = mmap(NULL, STACK + PAGE, PROT_READ | PROT_WRITE, MAP_PRIVATE | MAP_ANONYMOUS, -1, 0);
+    assert(memory != MAP_FAILED && mprotect(memory, PAGE, PROT_NONE) == 0);
+    stack = memory + PAGE;
+    run("from_assembly_graph", from_assembly_graph);
+    run("simplify_graph", simplify_graph);
+    run("reference_path_bytes", reference_path_bytes);
+    run("path_bases_bytes", path_bases_bytes);
+    return 0;
+}

@@ -1,0 +1,24 @@
+#!/usr/bin/env bash
+# Tests libsg.a from outside: from C, on a thread of 2 MiB of stack, and from Rust through wrapper/.
+# What is not present (gcc, cargo) is told and left out.
+set -eu
+cd "$(dirname "$0")/.."
+
+rt staticlib sg
+made=target/tests
+mkdir -p "$made"
+
+if command -v gcc >/dev/null 2>&1; then
+    for name in calls stack; do
+        gcc -std=c11 -O2 -Wall -Wextra -Werror -o "$made/$name" "tests/c/$name.c" target/staticlib/libsg.a -lpthread
+        "$made/$name"
+    done
+else
+    echo "note: no gcc: the tests from C are left out"
+fi
+
+if command -v cargo >/dev/null 2>&1; then
+    cargo test --quiet --offline --manifest-path wrapper/Cargo.toml --test calls
+else
+    echo "note: no cargo: the tests of the Rust wrapper are left out"
+fi

@@ -1,0 +1,84 @@
+//! The sequence graph's calls from Rust, over libsg.a. Every function is safe and takes any bytes.
+//!
+//! A call that makes a record or a string writes it to the start of `out` and tells its length. A refused call
+//! leaves `out` as it was. Every call but `vertex_sequence` is counted in the tally handed in.
+mod ffi;
+mod refusal;
+
+pub use ffi::Tally;
+pub use refusal::Refusal;
+
+/// How a simplification came to its end.
+#[derive(Debug, Clone, Copy, PartialEq, Eq)]
+pub enum End {
+    /// A round without work.
+    Quiet,
+    /// From the seventh round on, a round that gave the vertices of the one before.
+    Repeated,
+    /// A hundred rounds.
+    Full,
+}
+
+#[derive(Debug, Clone, Copy, PartialEq, Eq)]
+pub struct Simplified {
+    pub length: usize,
+    pub rewrites: u32,
+    pub rounds: u32,
+    pub end: End,
+}
+
+/// A k-mer graph's record to the sequence graph's; the length written.
+pub fn from_assembly_graph(record: &[u8], out: &mut [u8], tally: &mut Tally) -> Result<usize, Refusal> {
+    let (r, o, room) = (record.as_ptr(), out.as_mut_ptr(), out.len());
+    // The pointers and lengths are those of two slices that do not overlap; the call asks nothing more.
+    let a = unsafe { ffi::sg_from_assembly_graph(r, record.len(), o, room, *tally) };
+    *tally = a.tally;
+    answered(a.number, a.length as usize)
+}
+
+/// A sequence graph's record to that of the simplified graph.
+pub fn simplify_graph(record: &[u8], out: &mut [u8], tally: &mut Tally) -> Result<Simplified, Refusal> {
+    let (r, o, room) = (record.as_ptr(), out.as_mut_ptr(), out.len());
+    // As above.
+    let a = unsafe { ffi::sg_simplify_graph(r, record.len(), o, room, *tally) };
+    *tally = a.tally;
+    let end = match a.end {
+        2 => End::Repeated,
+        3 => End::Full,
+        _ => End::Quiet,
+    };
+    let (rewrites, rounds) = (a.rewrites, a.rounds);
+    answered(a.number, Simplified { length: a.length as usize, rewrites, rounds, end })
+}
+
+/// The bytes that the graph's reference path spells; the length written.
+pub fn reference_path_bytes(record: &[u8], out: &mut [u8], tally: &mut Tally) -> Result<usize, Refusal> {
+    let (r, o, room) = (record.as_ptr(), out.as_mut_ptr(), out.len());
+    // As above.
+    let a = unsafe { ffi::sg_reference_path_bytes(r, record.len(), o, room, *tally) };
+    *tally = a.tally;
+    answered(a.number, a.length as usize)
+}
+
+/// The bytes of the path from the vertex `start` along `edges`, from and to of each edge in turn; the length written.
+pub fn path_bases_bytes(
+    record: &[u8],
+    start: u32,
+    edges: &[u32],
+    out: &mut [u8],
+    tally: &mut Tally,
+) -> Result<usize, Refusal> {
+    let (r, o, room) = (record.as_ptr(), out.as_mut_ptr(), out.len());
+    let (e, count) = (edges.as_ptr(), edges.len());
+    // As above, with a third slice.
+    let a = unsafe { ffi::sg_path_bases_bytes(r, record.len(), start, e, count, o, room, *tally) };
+    *tally = a.tally;
+    answered(a.number, a.length as usize)
+}
+
+fn answered<T>(number: u32, answer: T) -> Result<T, Refusal> {
+    match Refusal::of(number) {
+        None => Ok(answer),
+        Some(refusal) => Err(refusal),
+    }
+}

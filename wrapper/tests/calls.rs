@@ -1,0 +1,115 @@
+//! Each call once answered, once refused for want of room, once for another cause.
+use seq_graph::{from_assembly_graph, path_bases_bytes, reference_path_bytes, simplify_graph};
+use seq_graph::{End, Refusal, Simplified, Tally};
+
+const KMERS: u8 = 0;
+const SEQUENCES: u8 = 1;
+const FILL: u8 = 0xA5;
+
+type Edge = (u16, u16, u32, u8);
+
+fn record(kind: u8, k: u16, sequences: &[&[u8]], edges: &[Edge]) -> Vec<u8> {
+    let bytes = sequences.concat();
+    let edges_at = 32 + 2 * sequences.len();
+    let bytes_at = edges_at + 9 * edges.len();
+    let mut out = b"SGR1".to_vec();
+    out.extend([kind, 0]);
+    for n in [k, sequences.len() as u16, edges.len() as u16] {
+        out.extend(n.to_le_bytes());
+    }
+    for n in [bytes.len(), 32, edges_at, bytes_at, bytes_at + bytes.len()] {
+        out.extend((n as u32).to_le_bytes());
+    }
+    for s in sequences {
+        out.extend((s.len() as u16).to_le_bytes());
+    }
+    for (from, to, support, flag) in edges {
+        out.extend(from.to_le_bytes());
+        out.extend(to.to_le_bytes());
+        out.extend(support.to_le_bytes());
+        out.push(*flag);
+    }
+    [out, bytes].concat()
+}
+
+fn sequence_graph(sequences: &[&[u8]], edges: &[Edge]) -> Vec<u8> {
+    record(SEQUENCES, 10, sequences, edges)
+}
+
+/// Document 01's case 1: a diamond.
+fn diamond() -> Vec<u8> {
+    sequence_graph(&[b"AA", b"CTG", b"CAG", b"TT"], &[(0, 1, 5, 1), (1, 3, 5, 1), (0, 2, 2, 0), (2, 3, 2, 0)])
+}
+
+#[test]
+fn simplifies() {
+    let want = sequence_graph(
+        &[b"AAC", b"T", b"A", b"GTT"],
+        &[(0, 1, 5, 1), (0, 2, 2, 0), (1, 3, 5, 1), (2, 3, 2, 0)],
+    );
+    let (mut out, mut tally) = (vec![FILL; 200], Tally::default());
+    let made = simplify_graph(&diamond(), &mut out, &mut tally).unwrap();
+    assert_eq!(made, Simplified { length: want.len(), rewrites: 3, rounds: 2, end: End::Quiet });
+    assert_eq!(out[..want.len()], want);
+    assert!(out[want.len()..].iter().all(|&b| b == FILL));
+    assert_eq!(tally, Tally { answered: 1, refused: 0, rewrites: 3 });
+}
+
+#[test]
+fn refuses_to_simplify() {
+    let (mut out, mut tally) = (vec![FILL; 40], Tally { answered: 1, refused: u32::MAX, rewrites: 5 });
+    assert_eq!(simplify_graph(&diamond(), &mut out, &mut tally), Err(Refusal::Room));
+    assert_eq!(simplify_graph(&[], &mut [], &mut tally), Err(Refusal::Length));
+    assert_eq!(out, [FILL; 40]);
+    assert_eq!(tally, Tally { answered: 1, refused: u32::MAX, rewrites: 5 });
+}
+
+#[test]
+fn converts() {
+    let kmers = record(KMERS, 3, &[b"CGT", b"ACG", b"CGA"], &[(1, 0, 5, 1), (1, 2, 2, 0)]);
+    let want = record(SEQUENCES, 3, &[b"T", b"ACG", b"A"], &[(1, 2, 2, 0), (1, 0, 5, 1)]);
+    let (mut out, mut tally) = (vec![FILL; want.len()], Tally::default());
+    assert_eq!(from_assembly_graph(&kmers, &mut out, &mut tally), Ok(want.len()));
+    assert_eq!(out, want);
+    let short = &mut out[..want.len() - 1];
+    assert_eq!(from_assembly_graph(&kmers, short, &mut tally), Err(Refusal::Room));
+    assert_eq!(from_assembly_graph(&diamond(), &mut out, &mut tally), Err(Refusal::Mark));
+    assert_eq!(out, want);
+    assert_eq!(tally, Tally { answered: 1, refused: 2, rewrites: 0 });
+}
+
+#[test]
+fn spells_the_reference() {
+    let (mut out, mut tally) = ([FILL; 8], Tally::default());
+    assert_eq!(reference_path_bytes(&diamond(), &mut out, &mut tally), Ok(7));
+    assert_eq!(&out, b"AACTGTT\xA5");
+    assert_eq!(reference_path_bytes(&diamond(), &mut out[..6], &mut tally), Err(Refusal::Room));
+    let none = sequence_graph(&[b"A", b"C"], &[(0, 1, 1, 0)]);
+    assert_eq!(reference_path_bytes(&none, &mut out, &mut tally), Err(Refusal::NoReference));
+    assert_eq!(tally, Tally { answered: 1, refused: 2, rewrites: 0 });
+}
+
+#[test]
+fn spells_a_path() {
+    let (mut out, mut tally) = ([FILL; 8], Tally::default());
+    assert_eq!(path_bases_bytes(&diamond(), 0, &[0, 2, 2, 3], &mut out, &mut tally), Ok(7));
+    assert_eq!(&out, b"AACAGTT\xA5");
+    assert_eq!(path_bases_bytes(&diamond(), 3, &[], &mut out[..1], &mut tally), Err(Refusal::Room));
+    for (start, edges) in [(0, vec![0, 3]), (1, vec![0, 1]), (0, vec![0, 1, 2, 3]), (4, vec![]), (0, vec![0])]
+    {
+        assert_eq!(path_bases_bytes(&diamond(), start, &edges, &mut out, &mut tally), Err(Refusal::NoPath));
+    }
+    assert_eq!(tally, Tally { answered: 1, refused: 6, rewrites: 0 });
+}
+
+#[test]
+fn tells_each_refusal() {
+    assert_eq!(Refusal::of(0), None);
+    assert_eq!(Refusal::of(12), None);
+    for number in 1..=11 {
+        let refusal = Refusal::of(number).unwrap();
+        assert_eq!(refusal.number(), number);
+        assert!(!refusal.to_string().is_empty());
+    }
+    assert_eq!(Refusal::Cycle.to_string(), "a cycle, a self edge included");
+}
