@@ -1,0 +1,56 @@
+-- The text of a held graph, and the room that it needs. Assumes nothing.
+use mathlib.Core.Bool.{cond}
+use mathlib.Core.List.{List}
+use Prim.Native.Nat.{ℕ, _+_, _*_, _≤_, _<_}
+use lib.Dec.{eqb}
+use lib.ListN.{length, getD}
+use Rattle.defs.specs.Simplify.{End, quiet, repeated, full, Simplified}
+use Rattle.store.specs.Store.{Within}
+use Rattle.pool.specs.Pool.{bytesIn}
+use Rattle.memory.specs.Memory.{graphOf}
+use Rattle.memory.specs.declared.Held.{Held}
+
+-- the end that a number stands for: 1 quiet, 2 repeated, 3 full
+unfoldable pub endOf : ℕ → End
+endOf n = cond (eqb n 1) quiet (cond (eqb n 2) repeated full)
+
+-- the simplification whose graph is held
+abbrev pub simplifiedIn : Held → ℕ → ℕ → ℕ → List ℕ → List ℕ → List ℕ → Simplified
+simplifiedIn h rewrites rounds end es vs p = record { graph = graphOf h es vs p; rewrites = rewrites; rounds = rounds; end = endOf end }
+
+-- how long a vertex's sequence is
+abbrev pub sizeIn : List ℕ → ℕ → ℕ
+sizeIn vs v = getD vs (2 * v + 1) 0
+
+-- a vertex with its sequence in the pool, and room for its line
+pub record VertexFits (vs p : List ℕ) (v : ℕ) (text : List ℕ) (at : ℕ) : Type 0 where
+  pub vs-room : 2 * v + 2 ≤ length vs
+  pub within : getD vs (2 * v) 0 + sizeIn vs v ≤ length p
+  pub room : at + 15 + 4 * sizeIn vs v ≤ length text
+
+-- at most so many bytes of text for the first n vertices, and for the whole graph
+abbrev pub verticesMost : ℕ → List ℕ → ℕ
+verticesMost n vs = 15 * n + 4 * bytesIn n vs
+
+abbrev pub graphMost : Held → List ℕ → ℕ
+graphMost h vs = 138 + verticesMost (h .n) vs + 37 * h .m
+
+pub record VerticesFit (n : ℕ) (vs p text : List ℕ) (at : ℕ) : Type 0 where
+  pub vs-room : 2 * n ≤ length vs
+  pub within : Within (length p) n vs
+  pub small : n < 65536
+  pub room : at + verticesMost n vs ≤ length text
+
+pub record EdgesFit (m : ℕ) (es text : List ℕ) (at : ℕ) : Type 0 where
+  pub es-room : 4 * m ≤ length es
+  pub room : at + 37 * m ≤ length text
+
+-- a held graph whose counts fit 16 bits, and room for its text
+pub record Printable (h : Held) (es vs p text : List ℕ) : Type 0 where
+  pub n-fits : h .n < 65536
+  pub m-fits : h .m < 65536
+  pub bytes-fit : bytesIn (h .n) vs < 4294967296
+  pub es-room : 4 * h .m ≤ length es
+  pub vs-room : 2 * h .n ≤ length vs
+  pub within : Within (length p) (h .n) vs
+  pub room : graphMost h vs ≤ length text

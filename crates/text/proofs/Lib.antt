@@ -1,0 +1,3 @@
+pub mod TextLaws
+pub mod SignLaws
+pub mod Table

@@ -1,0 +1,228 @@
+-- A record of either kind is checked; a vertex's part of it is handed back. Assumes nothing.
+use mathlib.Core.Path.{_≡_, refl, sym, ap, _∙_}
+use mathlib.Core.Bool.{Bool, true, false, cond, _&&_, _||_}
+use mathlib.Core.List.{List, []}
+use Prim.Native.Nat.{ℕ, zero, suc, _+_, _*_, _≤_, _<_}
+use native.Mathlib.Omega.{arith}
+use native.Mathlib.Decide.{ℕ-discrete}
+use lib.ListN.{length, getD, take, drop}
+use lib.Dec.{eqb, leb}
+use borrow.Author.Tests.{eq-eqb, ne-eqb, eqb-true, le-leb, lt-leb}
+use Rattle.defs.specs.SeqGraph.{Graph, vertexSequence}
+use Rattle.defs.specs.Record.{kindOf, verticesOf, edgesOf, bytesOf, lengthAt, sequenceStart, sequenceAt, decode}
+use Rattle.defs.specs.Refusals.{bothKinds, refusalOf, recordCauses, recordRefusal, doubledEdge, equalKmers, doubled, hasCycle}
+use Rattle.defs.specs.Calls.{vertexSequenceNumber, vertexSequencePart}
+use Rattle.laws.proofs.Walks.{byTest}
+use Rattle.laws.proofs.ListLaws.{byOrder}
+use Rattle.record.specs.Kinds.{takesOf}
+use Rattle.record.specs.declared.Takes.the-variants.{BothKinds}
+use Rattle.record.specs.Layout.{WellFormed}
+use Rattle.record.proofs.Accepted.{well-formed}
+use Rattle.record.proofs.Fields.{sequenceAt-is}
+use Rattle.record.proofs.Sequences.{vertex-is, sequence-inside, length-is}
+use Rattle.store.specs.Store.{edgesIn, seqsIn, graphIn}
+use Rattle.index.specs.Index.{Indexed, Indexable}
+use Rattle.doubled.specs.Doubled.{Markable}
+use Rattle.cycle.specs.Peel.{Peelable, HasCycle}
+use Rattle.kmer_order.specs.Order.{Sortable}
+use Rattle.memory.specs.declared.Held.{Held}
+use Rattle.load.specs.Loaded.{Loadable, Loaded}
+use Rattle.sound.proofs.Accepted.{refused-early, refused-6, refused-7, accepted, accepted-layout}
+use Rattle.sequence.specs.Part.{Part}
+use Rattle.read_kmers.specs.Kmers.{Room, Doubles}
+use Rattle.read_kmers.proofs.KmerLaws.{kmer-bytes-most}
+use Rattle.calls.proofs.CauseLaws.{behind-refused, behind-present, behind-absent}
+use Rattle.vertex_sequence.specs.Checks.{Roomy, Checkable, Checks}
+use Rattle.vertex_sequence.specs.Handed.{Handed, Placed}
+use Rattle.vertex_sequence.specs.declared.SequencePlace.{SequencePlace}
+
+-- ---- the checks behind the layout
+
+pub peelable-kept : {n : ℕ} {degrees queue degrees′ : List ℕ} → Peelable n degrees queue → length degrees′ ≡ length degrees → Peelable n degrees′ queue
+peelable-kept P l = record { degrees-room = omega (arith, l, P .degrees-room); queue-room = P .queue-room; small = P .small }
+
+module _ (m n : ℕ) (es vs p : List ℕ) where
+  -- what is doubled, in graphs of k-mers and of sequences
+  pub kmers-doubled : {kmers d : Bool} {order : List ℕ} → kmers ≡ true → Doubles m n es vs p d order → d ≡ (doubledEdge (edgesIn m es) || (kmers && equalKmers (seqsIn n vs p)))
+  kmers-doubled t D = rw t (D .is)
+
+  pub edges-doubled : {kmers d : Bool} → kmers ≡ false → d ≡ doubledEdge (edgesIn m es) → d ≡ (doubledEdge (edgesIn m es) || (kmers && equalKmers (seqsIn n vs p)))
+  edges-doubled f e = rw f (e ∙ sym (or-none (doubledEdge (edgesIn m es))))
+    where
+      or-none : (b : Bool) → (b || false) ≡ b
+      or-none true = refl
+      or-none false = refl
+
+  module _ {kmers d : Bool} (q : d ≡ (doubledEdge (edgesIn m es) || (kmers && equalKmers (seqsIn n vs p)))) where
+    pub checks-6 : d ≡ true → Checks kmers m n es vs p 6
+    checks-6 t = record { is = λ k. rw (sym q ∙ t) refl }
+
+    pub checks-7 : d ≡ false → {c : Bool} → HasCycle m n es c → c ≡ true → Checks kmers m n es vs p 7
+    checks-7 f C t = record { is = λ k. rw (sym q ∙ f) (rw (sym (C .is k vs p) ∙ t) refl) }
+
+    pub checks-0 : d ≡ false → {c : Bool} → HasCycle m n es c → c ≡ false → Checks kmers m n es vs p 0
+    checks-0 f C t = record { is = λ k. rw (sym q ∙ f) (rw (sym (C .is k vs p) ∙ t) refl) }
+
+-- ---- the record
+
+-- arrays for every record whose layout is right
+pub record Lengths (es vs p heads nexts order scratch place : List ℕ) : Type 0 where
+  pub es-is : length es ≡ 16384
+  pub vs-is : length vs ≡ 4096
+  pub p-is : length p ≡ 262144
+  pub heads-is : length heads ≡ 4096
+  pub nexts-is : length nexts ≡ 8192
+  pub order-is : length order ≡ 2048
+  pub scratch-is : length scratch ≡ 2048
+  pub place-is : length place ≡ 2048
+
+module _ (bs : List ℕ) where
+  bytes-most : WellFormed bs → bytesOf bs ≤ 262144
+  bytes-most W = split (kindOf bs) (W .kind) (λ z. kmer-bytes-most bs W z) (λ o. omega (arith, W .bytes o))
+    where
+      split : {X : Type 0} (n : ℕ) → n ≤ 1 → (n ≡ 0 → X) → (n ≡ 1 → X) → X
+      split zero h f g = f refl
+      split (suc zero) h f g = g refl
+      split (suc (suc n)) h f g = absurd (omega arith)
+
+  pub roomy : {es vs p heads nexts order scratch place : List ℕ} → Lengths es vs p heads nexts order scratch place → Roomy bs es vs p heads nexts order scratch place
+  roomy Z = record {
+    room = λ W. record {
+      es-room = omega (arith, Z .es-is, W .edges);
+      vs-room = omega (arith, Z .vs-is, W .vertices);
+      p-room = omega (arith, Z .p-is, bytes-most W);
+      heads-room = omega (arith, Z .heads-is, W .vertices);
+      nexts-room = omega (arith, Z .nexts-is, W .edges);
+      order-room = omega (arith, Z .order-is, W .vertices);
+      scratch-room = omega (arith, Z .scratch-is, W .vertices);
+      place-room = omega (arith, Z .place-is, W .vertices);
+    };
+  }
+
+  pub number-early : {i : ℕ} → i ≡ refusalOf (take 5 (recordCauses (takesOf BothKinds) bs)) → (i ≡ 0 → ⊥) → i ≡ recordRefusal bothKinds bs
+  unfolding takesOf
+  number-early {i} e o = sym (refused-early bothKinds bs (sym e) (byOrder 1 i (λ b. b) (λ b. absurd (o (omega arith)))))
+
+  pub layout-zero : {i : ℕ} → i ≡ refusalOf (take 5 (recordCauses (takesOf BothKinds) bs)) → i ≡ 0 → refusalOf (take 5 (recordCauses bothKinds bs)) ≡ 0
+  unfolding takesOf
+  layout-zero e z = sym e ∙ z
+
+  module _ (layout : refusalOf (take 5 (recordCauses bothKinds bs)) ≡ 0) where
+    formed : WellFormed bs
+    formed = well-formed bothKinds bs layout
+
+    pub long-enough : 32 ≤ length bs
+    long-enough = omega (arith, length-is bs formed)
+
+    module _ {es vs p heads nexts order scratch place : List ℕ} (Y : Roomy bs es vs p heads nexts order scratch place) where
+      R : Room bs es vs p heads nexts order scratch place
+      R = Y .room formed
+
+      pub number-loadable : Loadable bs es vs p
+      number-loadable = record { good = formed; es-room = R .es-room; vs-room = R .vs-room; p-room = R .p-room }
+
+      module _ {h : Held} {es′ vs′ p′ : List ℕ} (L : Loaded bs h es′ vs′ p′) where
+        pub number-indexable : length es′ ≡ length es → Indexable (h .m) (h .n) es′ heads nexts
+        number-indexable l = record {
+          room = omega (arith, l, L .m, R .es-room);
+          heads-room = omega (arith, L .n, R .heads-room);
+          nexts-room = omega (arith, L .m, R .nexts-room);
+          small = omega (arith, L .m, formed .edges);
+          ends = L .ends;
+        }
+
+        pub number-checkable : length vs′ ≡ length vs → length p′ ≡ length p → {heads′ nexts′ : List ℕ} → Indexed (h .m) (h .n) es′ heads′ nexts′ → Checkable (h .m) (h .n) es′ vs′ p′ heads′ nexts′ order scratch place
+        number-checkable a b I = record {
+          indexed = I;
+          markable = record { room = omega (arith, L .n, R .scratch-room); small = omega (arith, L .n, formed .vertices) };
+          sortable = record {
+            order-room = omega (arith, L .n, R .order-room);
+            scratch-room = omega (arith, L .n, R .scratch-room);
+            small = omega (arith, L .n, formed .vertices);
+            vs-room = omega (arith, a, L .n, R .vs-room);
+            within = record { at = λ v c. omega (arith, L .within .at v c, L .used, b, R .p-room) };
+          };
+          peelable = record { degrees-room = omega (arith, L .n, R .scratch-room); queue-room = omega (arith, L .n, R .place-room); small = omega (arith, L .n, formed .vertices) };
+          few = omega (arith, L .m, formed .edges);
+        }
+
+    module _ {h : Held} {es vs p : List ℕ} (L : Loaded bs h es vs p) where
+      number-is : {kmers : Bool} {r : ℕ} → kmers ≡ eqb (kindOf bs) 0 → Checks kmers (h .m) (h .n) es vs p r → r ≡ cond (doubled bs) 6 (cond (hasCycle (decode bs)) 7 0)
+      unfolding doubled
+      number-is q C = C .is (h .k) ∙ (λ i. cond (doubledEdge ((L .is i) .edges) || (q i && equalKmers ((L .is i) .verts))) 6 (cond (hasCycle (L .is i)) 7 0))
+
+      by-tests : cond (doubled bs) 6 (cond (hasCycle (decode bs)) 7 0) ≡ recordRefusal bothKinds bs
+      by-tests = byTest (doubled bs)
+          (λ d. rw d (sym (refused-6 bothKinds bs layout d)))
+          (λ d. byTest (hasCycle (decode bs))
+          (λ c. rw (d, c) (sym (refused-7 bothKinds bs layout d c)))
+          (λ c. rw (d, c) (sym (accepted bothKinds bs layout d c))))
+
+      pub number-late : {kmers : Bool} {r : ℕ} → kmers ≡ eqb (kindOf bs) 0 → Checks kmers (h .m) (h .n) es vs p r → r ≡ recordRefusal bothKinds bs
+      number-late q C = number-is q C ∙ by-tests
+
+-- ---- the vertex
+
+module _ (bs : List ℕ) (v : ℕ) where
+  pub vertex-refused : {r : ℕ} → r ≡ recordRefusal bothKinds bs → (r ≡ 0 → ⊥) → r ≡ vertexSequenceNumber bs v
+  unfolding vertexSequenceNumber
+  vertex-refused e o = sym (behind-refused bothKinds bs 9 _ (sym e) o)
+
+  module _ (z : recordRefusal bothKinds bs ≡ 0) where
+    pub vertex-9 : verticesOf bs ≤ v → 9 ≡ vertexSequenceNumber bs v
+    unfolding vertexSequenceNumber
+    vertex-9 l = sym (behind-present bothKinds bs 9 _ z (le-leb (verticesOf bs) v l))
+
+    pub vertex-0 : v < verticesOf bs → 0 ≡ vertexSequenceNumber bs v
+    unfolding vertexSequenceNumber
+    vertex-0 l = sym (behind-absent bothKinds bs 9 _ z (lt-leb (verticesOf bs) v l))
+
+  -- an accepted call's record and vertex
+  pub record-zero : {r : ℕ} → r ≡ recordRefusal bothKinds bs → r ≡ 0 → recordRefusal bothKinds bs ≡ 0
+  record-zero e z = sym e ∙ z
+
+  pub record-long : recordRefusal bothKinds bs ≡ 0 → 32 ≤ length bs
+  record-long z = omega (arith, length-is bs (accepted-layout bothKinds bs z))
+
+  pub vertex-known : vertexSequenceNumber bs v ≡ 0 → WellFormed bs × (v < verticesOf bs)
+  vertex-known z = elim (ℕ-discrete (recordRefusal bothKinds bs) 0) [
+    | no ne ↦ absurd (ne (vertex-refused refl ne ∙ z))
+    | yes y ↦ byOrder (verticesOf bs) v (λ l. absurd (nine (vertex-9 y l ∙ z))) (λ l. (accepted-layout bothKinds bs y, l))
+  ]
+    where
+      nine : _≡_ {A = ℕ} 9 0 → ⊥
+      nine q = omega (arith, q)
+
+  part-none : {told : ℕ} → told ≡ vertexSequenceNumber bs v → (told ≡ 0 → ⊥) → [] ≡ vertexSequencePart bs v
+  unfolding vertexSequencePart
+  part-none e o = rw (ne-eqb (vertexSequenceNumber bs v) 0 (λ q. o (e ∙ q)), vertexSequencePart) refl
+
+  part-some : vertexSequenceNumber bs v ≡ 0 → vertexSequence (decode bs) v ≡ vertexSequencePart bs v
+  unfolding vertexSequencePart
+  part-some z = rw (eq-eqb (vertexSequenceNumber bs v) 0 z, vertexSequencePart) refl
+
+  module _ {told : ℕ} (e : told ≡ vertexSequenceNumber bs v) where
+    pub handed-none : (told ≡ 0 → ⊥) → Handed bs v told []
+    handed-none o = record { number = e; part = part-none e o }
+
+    pub handed-part : told ≡ 0 → {r : List ℕ} → Part bs v r → Handed bs v told r
+    handed-part z P = record { number = e; part = P .vertex ∙ part-some (sym e ∙ z) }
+
+    pub known : told ≡ 0 → WellFormed bs × (v < verticesOf bs)
+    known z = vertex-known (sym e ∙ z)
+
+    pub placed-none : (told ≡ 0 → ⊥) → Placed bs v told record { offset = 0; length = 0 }
+    placed-none o = record { number = e; offset = rw (ne-eqb told 0 o) refl; size = rw (ne-eqb told 0 o) refl; part = part-none e o }
+
+    pub placed-part : (z : told ≡ 0) {at len : ℕ} → at ≡ sequenceStart bs v → len ≡ lengthAt bs v → Placed bs v told record { offset = at; length = len }
+    placed-part z {at} {len} a b = record {
+      number = e;
+      offset = rw (eq-eqb told 0 z) a;
+      size = rw (eq-eqb told 0 z) b;
+      part = (λ i. take (b i) (drop (a i) bs)) ∙ sym (sequenceAt-is bs v) ∙ sym (vertex-is bs v ((known z) .1)) ∙ part-some (sym e ∙ z);
+    }
+
+    pub placed-small : (z : told ≡ 0) → sequenceStart bs v + lengthAt bs v < 4294967296
+    placed-small z =
+        let W = (known z) .0 in
+        omega (arith, sequence-inside bs v ((known z) .1) W, length-is bs W, W .vertices, W .edges, bytes-most bs W)

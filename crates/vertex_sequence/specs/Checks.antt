@@ -1,0 +1,29 @@
+-- The checks behind the layout, for a graph of either kind. Assumes nothing.
+use mathlib.Core.Path.{_≡_}
+use mathlib.Core.Bool.{Bool, cond, _&&_, _||_}
+use mathlib.Core.List.{List}
+use Prim.Native.Nat.{ℕ, _<_}
+use Rattle.defs.specs.Refusals.{doubledEdge, equalKmers, hasCycle}
+use Rattle.record.specs.Layout.{WellFormed}
+use Rattle.store.specs.Store.{edgesIn, seqsIn, graphIn}
+use Rattle.index.specs.Index.{Indexed}
+use Rattle.doubled.specs.Doubled.{Markable}
+use Rattle.cycle.specs.Peel.{Peelable}
+use Rattle.kmer_order.specs.Order.{Sortable}
+use Rattle.read_kmers.specs.Kmers.{Room}
+
+-- there is room for a record whose layout is right
+pub record Roomy (bs es vs p heads nexts order scratch place : List ℕ) : Type 0 where
+  pub room : WellFormed bs → Room bs es vs p heads nexts order scratch place
+
+-- a graph in slices that can be checked
+pub record Checkable (m n : ℕ) (es vs p heads nexts order scratch place : List ℕ) : Type 0 where
+  pub indexed : Indexed m n es heads nexts
+  pub markable : Markable n scratch
+  pub sortable : Sortable n order scratch vs p
+  pub peelable : Peelable n scratch place
+  pub few : m < 4294967296
+
+-- 6 for two edges with the same ends or, among k-mers, two equal ones; 7 for a cycle; else 0
+pub record Checks (kmers : Bool) (m n : ℕ) (es vs p : List ℕ) (r : ℕ) : Type 0 where
+  pub is : (k : ℕ) → r ≡ cond (doubledEdge (edgesIn m es) || (kmers && equalKmers (seqsIn n vs p))) 6 (cond (hasCycle (graphIn k n m es vs p)) 7 0)

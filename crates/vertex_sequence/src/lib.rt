@@ -1,0 +1,189 @@
+// A vertex's sequence of a record of either kind, as the part of the record's bytes that holds it. Nothing is asked of the caller.
+ghost use mathlib.Core.Path.{_≡_};
+ghost use mathlib.Core.Bool.{_&&_, _||_};
+ghost use Rattle.defs.specs.Refusals.{bothKinds, recordRefusal, doubledEdge, equalKmers};
+ghost use Rattle.defs.specs.Calls.{vertexSequenceNumber};
+ghost use Rattle.store.specs.Store.{edgesIn, seqsIn};
+ghost use Rattle.index.specs.Index.{Indexed};
+ghost use Rattle.doubled.specs.Doubled.{Markable};
+ghost use Rattle.kmer_order.specs.Order.{Sortable};
+ghost use Rattle.vertex_sequence.specs.Checks.{Roomy, Checkable, Checks};
+ghost use Rattle.vertex_sequence.specs.Handed.{Handed, Placed};
+use record::Takes;
+
+// Where a vertex's sequence stands in the record, and how long it is.
+#[repr(C)]
+pub struct SequencePlace {
+    pub offset: u32,
+    pub length: u32,
+}
+
+// Whether two edges have the same ends or, in a graph of k-mers, two vertices the same k-mer.
+fn is_doubled(
+    kmers: bool,
+    es: &[u32],
+    m: usize,
+    n: usize,
+    vs: &[u32],
+    p: &[u8],
+    heads: &[u32],
+    nexts: &[u32],
+    order: &mut [u32],
+    scratch: &mut [u32],
+) -> bool
+    requires { ⌜ Indexed m n (now es) (now heads) (now nexts) × (Markable n (now scratch) × Sortable n (now order) (now scratch) (now vs) (now p)) ⌝ }
+    ensures { λ r. ⌜ r ≡ (doubledEdge (edgesIn m (now (es .entry))) || (kmers && equalKmers (seqsIn n (now (vs .entry)) (now (p .entry))))) ⌝ }
+{
+    if kmers {
+        return read_kmers::is_doubled(es, m, n, vs, p, heads, nexts, order, scratch);
+    }
+    doubled::doubled_edge(es, m, n, heads, nexts, scratch)
+}
+
+// 6, 7 or 0 for a graph in slices.
+fn graph_number(
+    kmers: bool,
+    es: &[u32],
+    m: usize,
+    n: usize,
+    vs: &[u32],
+    p: &[u8],
+    heads: &[u32],
+    nexts: &[u32],
+    order: &mut [u32],
+    scratch: &mut [u32],
+    place: &mut [u32],
+) -> u32
+    requires { ⌜ Checkable m n (now es) (now vs) (now p) (now heads) (now nexts) (now order) (now scratch) (now place) ⌝ }
+    ensures { λ r. ⌜ Checks kmers m n (now (es .entry)) (now (vs .entry)) (now (p .entry)) r ⌝ }
+{
+    if is_doubled(kmers, es, m, n, vs, p, heads, nexts, order, scratch) {
+        return 6;
+    }
+    if cycle::has_cycle(es, m, n, heads, nexts, scratch, place) {
+        return 7;
+    }
+    0
+}
+
+// The refusal number of a record, 1 to 7, or 0.
+fn record_number(
+    rec: &[u8],
+    es: &mut [u32],
+    vs: &mut [u32],
+    p: &mut [u8],
+    heads: &mut [u32],
+    nexts: &mut [u32],
+    order: &mut [u32],
+    scratch: &mut [u32],
+    place: &mut [u32],
+) -> u32
+    requires { ⌜ Roomy (now rec) (now es) (now vs) (now p) (now heads) (now nexts) (now order) (now scratch) (now place) ⌝ }
+    ensures { λ r. ⌜ r ≡ recordRefusal bothKinds (now (rec .entry)) ⌝ }
+{
+    let number = record::layout_refusal(rec, Takes::BothKinds);
+    if number != 0 {
+        return number;
+    }
+    let held = load::load_graph(rec, es, vs, p);
+    index::build_index(es, held.m, held.n, heads, nexts);
+    graph_number(
+        rec[4] == 0,
+        es,
+        held.m,
+        held.n,
+        vs,
+        p,
+        heads,
+        nexts,
+        order,
+        scratch,
+        place,
+    )
+}
+
+// Whole arrays, whose lengths are known.
+fn record_number_with(
+    rec: &[u8],
+    es: &mut [u32; 16384],
+    vs: &mut [u32; 4096],
+    p: &mut [u8; 262144],
+    heads: &mut [u32; 4096],
+    nexts: &mut [u32; 8192],
+    order: &mut [u32; 2048],
+    scratch: &mut [u32; 2048],
+    place: &mut [u32; 2048],
+) -> u32
+    ensures { λ r. ⌜ r ≡ recordRefusal bothKinds (now (rec .entry)) ⌝ }
+{
+    record_number(rec, es, vs, p, heads, nexts, order, scratch, place)
+}
+
+fn checked_record(rec: &[u8]) -> u32
+    ensures { λ r. ⌜ r ≡ recordRefusal bothKinds (now (rec .entry)) ⌝ }
+{
+    let mut es = [0u32; 16384];
+    let mut vs = [0u32; 4096];
+    let mut p = [0u8; 262144];
+    let mut heads = [0u32; 4096];
+    let mut nexts = [0u32; 8192];
+    let mut order = [0u32; 2048];
+    let mut scratch = [0u32; 2048];
+    let mut place = [0u32; 2048];
+    record_number_with(
+        rec,
+        &mut es,
+        &mut vs,
+        &mut p,
+        &mut heads,
+        &mut nexts,
+        &mut order,
+        &mut scratch,
+        &mut place,
+    )
+}
+
+// The record's number, or 9 where v is no vertex, or 0.
+fn vertex_number(rec: &[u8], v: u32) -> u32
+    ensures { λ r. ⌜ r ≡ vertexSequenceNumber (now (rec .entry)) v ⌝ }
+{
+    let number = checked_record(rec);
+    if number != 0 {
+        return number;
+    }
+    if record::vertex_count(rec) <= v as usize {
+        return 9;
+    }
+    0
+}
+
+pub fn vertex_sequence<'a>(rec: &'a [u8], v: u32, number: &mut u32) -> &'a [u8]
+    ensures { λ r. ⌜ Handed (now (rec .entry)) v (now (number .exit)) (now r) ⌝ }
+{
+    let told = vertex_number(rec, v);
+    *number = told;
+    if told != 0 {
+        return &rec[0..0];
+    }
+    sequence::sequence_part(rec, v as usize)
+}
+
+// The same as a place in the record.
+pub fn vertex_sequence_place(rec: &[u8], v: u32, number: &mut u32) -> SequencePlace
+    ensures { λ r. ⌜ Placed (now (rec .entry)) v (now (number .exit)) r ⌝ }
+{
+    let told = vertex_number(rec, v);
+    *number = told;
+    if told != 0 {
+        return SequencePlace {
+            offset: 0,
+            length: 0,
+        };
+    }
+    let at = sequence::sequence_start(rec, v as usize);
+    let len = record::length_at(rec, v as usize);
+    SequencePlace {
+        offset: at as u32,
+        length: len as u32,
+    }
+}

@@ -1,0 +1,42 @@
+"""The text that sgshow writes, as document 01 states it ("Printed graph"), from the model's answer."""
+import struct
+
+from model import outcome_of
+from sgr1 import HEADER, SIMPLIFY_GRAPH, layout
+
+MOST = 65536
+END = {1: "quiet", 2: "repeated", 3: "full"}
+LETTERS = frozenset(b"ABCDEFGHIJKLMNOPQRSTUVWXYZabcdefghijklmnopqrstuvwxyz")
+
+
+def byte(b):
+    return chr(b) if b in LETTERS else "\\x%02x" % b
+
+
+def sequence(s):
+    return "".join(map(byte, s)) or "."
+
+
+def graph_lines(record):
+    """k, counts and the lines of an answer's record, whose limits are wider than those of a record handed in."""
+    k, v, e, b = struct.unpack_from("<HHHI", record, 6)
+    _, edges_at, bytes_at, _ = layout(v, e, b)
+    lines, at = [], bytes_at
+    for i, n in enumerate(struct.unpack_from("<%dH" % v, record, HEADER)):
+        lines.append("v %d %s" % (i, sequence(record[at : at + n])))
+        at += n
+    for source, target, support, flag in struct.iter_unpack("<HHIB", record[edges_at:bytes_at]):
+        lines.append("e %d %d %d %s" % (source, target, support, "r" if flag else "-"))
+    return "k %d vertices %d edges %d bytes %d surplus %d" % (k, v, e, b, e - v), lines
+
+
+def text_of(data):
+    outcome = 1 if len(data) > MOST else outcome_of(SIMPLIFY_GRAPH, data, 0, ())
+    if not isinstance(outcome, int) and len(outcome[0]) > MOST:
+        outcome = 11
+    if isinstance(outcome, int):
+        return "refused %d\n" % outcome
+    record, (rewrites, rounds, end), _ = outcome
+    first, lines = graph_lines(record)
+    second = "rewrites %d rounds %d end %s" % (rewrites, rounds, END[end])
+    return "".join(line + "\n" for line in [first, second, *lines])
