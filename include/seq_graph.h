@@ -55,6 +55,15 @@ typedef struct {
     sg_tally tally;
 } sg_simplify_answer;
 
+/* Where a vertex's sequence stands in the record, and how long it is: both 0 when refused. */
+typedef struct {
+    uint32_t offset;
+    uint32_t length;
+} sg_sequence_place;
+
+/* A vertex's sequence in a record of either kind: bytes of the record itself. The call is not tallied; its number is put in `number`. */
+sg_sequence_place sg_vertex_sequence(const uint8_t *record, size_t length, uint32_t vertex, uint32_t *number);
+
 /* A k-mer graph's record to the sequence graph's. */
 sg_answer sg_from_assembly_graph(const uint8_t *record, size_t length, uint8_t *out, size_t room, sg_tally tally);
 

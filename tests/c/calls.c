@@ -28,6 +28,18 @@ static size_t diamond(uint8_t *at) {
     return write_record(at, SEQUENCES, 10, 4, sequences, 4, edges);
 }
 
+static void test_vertex_sequence(void) {
+    size_t length = diamond(rec);
+    uint32_t number = 99;
+    sg_sequence_place p = sg_vertex_sequence(rec, length, 2, &number);
+    assert(number == 0 && p.length == 3 && p.offset + 5 == length && memcmp(rec + p.offset, "CAG", 3) == 0);
+    p = sg_vertex_sequence(rec, length, 4, &number);
+    assert(number == 9 && p.length == 0 && p.offset == 0);
+    rec[0] = 'T';
+    p = sg_vertex_sequence(rec, length, 2, &number);
+    assert(number == 2 && p.length == 0 && p.offset == 0);
+}
+
 static void test_simplify_graph(void) {
     const char *sequences[] = {"AAC", "T", "A", "GTT"};
     const edge edges[] = {{0, 1, 5, 1}, {0, 2, 2, 0}, {1, 3, 5, 1}, {2, 3, 2, 0}};
@@ -113,6 +125,7 @@ static void test_path_bases_bytes(void) {
 }
 
 int main(void) {
+    test_vertex_sequence();
     test_from_assembly_graph();
     test_simplify_graph();
     test_reference_path_bytes();

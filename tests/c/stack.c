@@ -33,6 +33,12 @@ static size_t chain(unsigned kind, unsigned each) {
 
 static const sg_tally none = {0, 0, 0};
 
+static void *vertex_sequence(void *unused) {
+    uint32_t number = 99;
+    assert(sg_vertex_sequence(rec, chain(KMERS, K), VERTICES - 1, &number).length == K && number == 0);
+    return unused;
+}
+
 static void *from_assembly_graph(void *unused) {
     assert(sg_from_assembly_graph(rec, chain(KMERS, K), out, ROOM, none).number == 0);
     return unused;
@@ -72,6 +78,7 @@ int main(void) {
     uint8_t *memory = mmap(NULL, STACK + PAGE, PROT_READ | PROT_WRITE, MAP_PRIVATE | MAP_ANONYMOUS, -1, 0);
     assert(memory != MAP_FAILED && mprotect(memory, PAGE, PROT_NONE) == 0);
     stack = memory + PAGE;
+    run("vertex_sequence", vertex_sequence);
     run("from_assembly_graph", from_assembly_graph);
     run("simplify_graph", simplify_graph);
     run("reference_path_bytes", reference_path_bytes);

@@ -26,7 +26,19 @@ pub struct SimplifyAnswer {
     pub tally: Tally,
 }
 
+#[repr(C)]
+pub struct SequencePlace {
+    pub offset: u32,
+    pub length: u32,
+}
+
 extern "C" {
+    pub fn sg_vertex_sequence(
+        record: *const u8,
+        length: usize,
+        vertex: u32,
+        number: *mut u32,
+    ) -> SequencePlace;
     pub fn sg_from_assembly_graph(
         record: *const u8,
         length: usize,

@@ -27,6 +27,15 @@ pub struct Simplified {
     pub end: End,
 }
 
+/// A vertex's sequence in a record of either kind: the part of the record that holds it.
+pub fn vertex_sequence(record: &[u8], vertex: u32) -> Result<&[u8], Refusal> {
+    let mut number = 0;
+    // The pointer and the length are those of a slice; the call asks nothing more.
+    let place = unsafe { ffi::sg_vertex_sequence(record.as_ptr(), record.len(), vertex, &mut number) };
+    let (at, length) = (place.offset as usize, place.length as usize);
+    answered(number, &record[at..at + length])
+}
+
 /// A k-mer graph's record to the sequence graph's; the length written.
 pub fn from_assembly_graph(record: &[u8], out: &mut [u8], tally: &mut Tally) -> Result<usize, Refusal> {
     let (r, o, room) = (record.as_ptr(), out.as_mut_ptr(), out.len());

@@ -13,7 +13,7 @@ pub enum Refusal {
     Doubled = 6,
     Cycle = 7,
     Bytes = 8,
-    NoPath = 9,
+    NotThere = 9,
     NoReference = 10,
     Room = 11,
 }
@@ -27,7 +27,7 @@ const ALL: [(Refusal, &str); 11] = [
     (Refusal::Doubled, "two edges with the same ends, or in a k-mer graph two equal k-mers"),
     (Refusal::Cycle, "a cycle, a self edge included"),
     (Refusal::Bytes, "conversion would give over 8,192 bytes"),
-    (Refusal::NoPath, "the start or the vertex wanted is not there, or the list of edges is no path"),
+    (Refusal::NotThere, "the start or the vertex wanted is not there, or the list of edges is no path"),
     (Refusal::NoReference, "there is no reference path"),
     (Refusal::Room, "the output is shorter than the result"),
 ];

@@ -1,5 +1,7 @@
 //! Each call once answered, once refused for want of room, once for another cause.
-use seq_graph::{from_assembly_graph, path_bases_bytes, reference_path_bytes, simplify_graph};
+use seq_graph::{
+    from_assembly_graph, path_bases_bytes, reference_path_bytes, simplify_graph, vertex_sequence,
+};
 use seq_graph::{End, Refusal, Simplified, Tally};
 
 const KMERS: u8 = 0;
@@ -39,6 +41,14 @@ fn sequence_graph(sequences: &[&[u8]], edges: &[Edge]) -> Vec<u8> {
 /// Document 01's case 1: a diamond.
 fn diamond() -> Vec<u8> {
     sequence_graph(&[b"AA", b"CTG", b"CAG", b"TT"], &[(0, 1, 5, 1), (1, 3, 5, 1), (0, 2, 2, 0), (2, 3, 2, 0)])
+}
+
+#[test]
+fn finds_a_sequence() {
+    let record = diamond();
+    assert_eq!(vertex_sequence(&record, 1), Ok(&b"CTG"[..]));
+    assert_eq!(vertex_sequence(&record, 4), Err(Refusal::NotThere));
+    assert_eq!(vertex_sequence(&record[1..], 0), Err(Refusal::Length));
 }
 
 #[test]
@@ -97,7 +107,7 @@ fn spells_a_path() {
     assert_eq!(path_bases_bytes(&diamond(), 3, &[], &mut out[..1], &mut tally), Err(Refusal::Room));
     for (start, edges) in [(0, vec![0, 3]), (1, vec![0, 1]), (0, vec![0, 1, 2, 3]), (4, vec![]), (0, vec![0])]
     {
-        assert_eq!(path_bases_bytes(&diamond(), start, &edges, &mut out, &mut tally), Err(Refusal::NoPath));
+        assert_eq!(path_bases_bytes(&diamond(), start, &edges, &mut out, &mut tally), Err(Refusal::NotThere));
     }
     assert_eq!(tally, Tally { answered: 1, refused: 6, rewrites: 0 });
 }

@@ -152,6 +152,13 @@ fn same_output(out: &[u8], expected: &[u8]) -> bool {
     false
 }
 
+fn accepted(number: u32) -> Outcome {
+    if number != 0 {
+        return Outcome::Refused;
+    }
+    Outcome::Answered
+}
+
 fn compare(case: &[u8], got: Got, out: &[u8], expected: &[u8]) -> Outcome {
     let number = got.number;
     if !same_answer(case, got) {
@@ -160,10 +167,50 @@ fn compare(case: &[u8], got: Got, out: &[u8], expected: &[u8]) -> Outcome {
     if !same_output(out, expected) {
         return Outcome::Differs;
     }
-    if number != 0 {
-        return Outcome::Refused;
+    accepted(number)
+}
+
+fn tally_of(case: &[u8]) -> Tally {
+    Tally {
+        answered: word(case, 3),
+        refused: word(case, 4),
+        rewrites: word(case, 5),
     }
-    Outcome::Answered
+}
+
+// Whether this part of the record is handed back, and not another number than that one.
+fn same_part(vertex: u32, rec: &[u8], expected: &[u8], number: u32) -> bool {
+    let mut told = 0;
+    let part = vertex_sequence::vertex_sequence(rec, vertex, &mut told);
+    if told != number {
+        return false;
+    }
+    if part.len() != expected.len() {
+        return false;
+    }
+    begins_with(part, expected)
+}
+
+// A vertex's sequence, as a place for C and as a part of the record.
+fn run_vertex(case: &[u8], rec: &[u8], expected: &[u8]) -> Outcome {
+    let mut number = 0;
+    let place = sg::sg_vertex_sequence(rec, word(case, 1), &mut number);
+    let tally = tally_of(case);
+    let got = Got {
+        number: number,
+        length: place.length,
+        field1: place.offset,
+        field2: 0,
+        field3: 0,
+        tally: tally,
+    };
+    if !same_answer(case, got) {
+        return Outcome::Differs;
+    }
+    if !same_part(word(case, 1), rec, expected, number) {
+        return Outcome::Differs;
+    }
+    accepted(number)
 }
 
 // Makes the call with as much of list and room of out as the case says, and compares all that it answers and writes.
@@ -176,11 +223,7 @@ fn run_in(case: &[u8], rec: &[u8], list: &[u32], expected: &[u8], out: &mut [u8]
     if out.len() < room {
         return Outcome::Differs;
     }
-    let tally = Tally {
-        answered: word(case, 3),
-        refused: word(case, 4),
-        rewrites: word(case, 5),
-    };
+    let tally = tally_of(case);
     let got = call(
         word(case, 0),
         word(case, 1),
@@ -207,6 +250,9 @@ fn read_list(bytes: &[u8], list: &mut [u32]) {
 }
 
 fn run(case: &[u8], rec: &[u8], numbers: &[u8], expected: &[u8]) -> Outcome {
+    if word(case, 0) == 0 {
+        return run_vertex(case, rec, expected);
+    }
     let mut list = [0u32; 16384];
     read_list(numbers, &mut list);
     let mut out = [165u8; 65536];
@@ -357,7 +403,8 @@ fn main() {
         refused: 0,
         differ: 0,
     };
-    let c1 = replay_file(b"from_assembly_graph.bin", b" from_assembly_graph, ", none);
+    let c0 = replay_file(b"vertex_sequence.bin", b" vertex_sequence, ", none);
+    let c1 = replay_file(b"from_assembly_graph.bin", b" from_assembly_graph, ", c0);
     let c2 = replay_file(b"simplify_graph.bin", b" simplify_graph, ", c1);
     let c5 = replay_file(b"reference_path_bytes.bin", b" reference_path_bytes, ", c2);
     let c6 = replay_file(b"path_bases_bytes.bin", b" path_bases_bytes; ", c5);

@@ -4,9 +4,18 @@ ghost use Rattle.defs.specs.Calls.{referencePathBytesResponse, pathBasesBytesRe
 ghost use Rattle.calls.specs.Answers.{Responds};
 ghost use Rattle.simplify_graph.specs.Simplifies.{Simplifies};
 ghost use Rattle.from_assembly_graph.specs.Converts.{Converts};
+ghost use Rattle.vertex_sequence.specs.Handed.{Placed};
 use calls::Answer;
 use calls::SimplifyAnswer;
 use calls::Tally;
+use vertex_sequence::SequencePlace;
+
+#[no_mangle]
+pub extern "C" fn sg_vertex_sequence(rec: &[u8], vertex: u32, number: &mut u32) -> SequencePlace
+    ensures { λ r. ⌜ Placed (now (rec .entry)) vertex (now (number .exit)) r ⌝ }
+{
+    vertex_sequence::vertex_sequence_place(rec, vertex, number)
+}
 
 #[no_mangle]
 pub extern "C" fn sg_from_assembly_graph(rec: &[u8], out: &mut [u8], tally: Tally) -> Answer
