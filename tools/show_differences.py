@@ -33,6 +33,7 @@ def given(name, call, graph, expected, number, k=10, start=0, numbers=()):
 CONVERT, SIMPLIFY = sgr1.FROM_ASSEMBLY_GRAPH, sgr1.SIMPLIFY_GRAPH
 CLEAN, REFERENCE, PATH = sgr1.CLEAN_NON_REF_PATHS, sgr1.REFERENCE_PATH_BYTES, sgr1.PATH_BASES_BYTES
 LOOP = [(0, 1, 1, 1), (1, 1, 1, 1), (0, 2, 1, 1)]
+LONG_KMERS = [bytes([65 + i // 8, 65 + i % 8]) + b"A" * 126 for i in range(65)]
 
 INPUTS = [
     given("doubled edge", CLEAN, ([b"A", b"C"], [(0, 1, 1, 0), (0, 1, 2, 0)]), "A C; 0>1 3 -", 6),
@@ -51,9 +52,7 @@ INPUTS = [
     given("2,049 vertices", CLEAN, limits.many_vertices(2049), "A A; 0>1 1 r", 3),
     given("8,193 bytes", CLEAN, limits.many_bytes(8193), "8193 bytes in 3 vertices, 2 edges", 3),
     given("4,097 edges", CLEAN, limits.dense_before_reference(4097), "A A A; 1>2 1 r; 0>2 1 -", 3),
-    given(
-        "8,193 converted bytes", CONVERT, limits.kmers_of_bytes(8193), "8193 bytes in 192 vertices, 129 edges", 8, k=128
-    ),
+    given("8,320 converted bytes", CONVERT, (LONG_KMERS, []), "8320 bytes in 65 vertices, 0 edges", 8, k=128),
 ]
 
 
