@@ -1,6 +1,6 @@
 #!/usr/bin/env bash
-# The test command: checks the kit's identity, tests the library from C and Rust, compares with the Rust where cargo is present, then proves
-# everything and runs every program.
+# The test command: checks the kit's identity, tests the library from C and Rust, sgshow and the record tool, compares with the Rust where cargo is
+# present, then proves everything and runs every program.
 set -eu
 cd "$(dirname "$0")/.."
 
@@ -9,6 +9,9 @@ kit=$(rt version)
 [ "$kit" = "$pinned" ] || echo "note: this kit is '$kit'; the repository was proved with '$pinned'"
 
 tools/test_library.sh
+rt check sgshow
+tools/test_sgshow.py
+tools/test_sgr.py
 
 if command -v cargo >/dev/null 2>&1 && [ -d "${GATK_RS_SRC:-../shared/docs/src/gatk-haplotypecaller/src}" ]; then
     tools/compare.sh short
