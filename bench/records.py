@@ -2,7 +2,7 @@
 """Writes the benchmark's records to standard output, for oracle's program `bench`. The same on every run.
 
 Each is a frame (four bytes of length, then that many bytes, little-endian): the call in four bytes (1 conversion,
-2 simplification), 1 in four bytes where the Rust takes minutes, else 0, the length of the name in four bytes, the
+2 simplification, 3 cleanup), 1 in four bytes where the Rust takes minutes, else 0, the length of the name in four bytes, the
 name, and the record.
 """
 import os
@@ -20,7 +20,7 @@ import limits  # noqa: E402
 import sgr1  # noqa: E402
 from model import outcome_of  # noqa: E402
 
-CONVERT, SIMPLIFY = sgr1.FROM_ASSEMBLY_GRAPH, sgr1.SIMPLIFY_GRAPH
+CONVERT, SIMPLIFY, CLEAN_UP = sgr1.FROM_ASSEMBLY_GRAPH, sgr1.SIMPLIFY_GRAPH, sgr1.CLEANUP_SEQ_GRAPH
 SLOW = 1
 
 
@@ -46,6 +46,7 @@ def kmer_records():
         name = "haplotypes, k %d, %d k-mers" % (k, vertices)
         yield CONVERT, 0, name, kmers
         yield SIMPLIFY, 0, name, converted
+        yield CLEAN_UP, 0, name, converted
 
 
 def dense(vertices, edges, letters, longest):
@@ -103,8 +104,8 @@ def sequence_records():
     yield SIMPLIFY, 0, "random, 1,400 vertices, 4,096 edges", sequence_record(dense(1400, 4096, b"A", 5))
     yield SIMPLIFY, 0, "64 sources with a suffix of 120", sequence_record(deep_suffixes(64, 120))
     yield SIMPLIFY, 0, "640 tails of 12", sequence_record(limits.many_tails(640))
-    yield SIMPLIFY, SLOW, "star of 2,047 sources", sequence_record(star(2047))
-    yield SIMPLIFY, SLOW, "nest of 680 diamonds", sequence_record(nest(680))
+    yield SIMPLIFY, 0, "star of 2,047 sources", sequence_record(star(2047))
+    yield SIMPLIFY, 0, "nest of 680 diamonds", sequence_record(nest(680))
     yield SIMPLIFY, 0, "ladder of 102 rungs", sequence_record(ladder(102))
     yield SIMPLIFY, SLOW, "ladder of 1,023 rungs", sequence_record(ladder(1023))
 

@@ -1,10 +1,10 @@
 use Prim.Native.Nat.{_≤_, _-_}
 use lib.ListN.{length}
 use native.Mathlib.Omega.{arith}
-use Rattle.replay.proofs.begins_with.Statement.{statement}
-use Rattle.replay.proofs.begins_with.Tie as tie
-use Rattle.replay.proofs.begins_with.Reads as reads
-use Rattle.replay.proofs.begins_with.Lts as lts
+use Rattle.replay.proofs.expected.begins_with.Statement.{statement}
+use Rattle.replay.proofs.expected.begins_with.Tie as tie
+use Rattle.replay.proofs.expected.begins_with.Reads as reads
+use Rattle.replay.proofs.expected.begins_with.Lts as lts
 
 abbrev Inv-loop : tie.InvT-loop
 Inv-loop out expected i₀ i = (i ≤ length expected) × (length expected ≤ length out)

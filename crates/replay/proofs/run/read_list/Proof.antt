@@ -3,10 +3,10 @@ use mathlib.Core.Path.{_≡_}
 use lib.ListN.{length}
 use borrow.Author.Needs.{needs}
 use native.Mathlib.Omega.{arith}
-use Rattle.replay.proofs.read_list.Statement.{statement}
-use Rattle.replay.proofs.read_list.Tie as tie
-use Rattle.replay.proofs.read_list.Reads as reads
-use Rattle.replay.proofs.read_list.Lts as lts
+use Rattle.replay.proofs.run.read_list.Statement.{statement}
+use Rattle.replay.proofs.run.read_list.Tie as tie
+use Rattle.replay.proofs.run.read_list.Reads as reads
+use Rattle.replay.proofs.run.read_list.Lts as lts
 use Rattle.le.proofs.u32_at.Reads as u32-at-reads
 
 abbrev Inv-loop : tie.InvT-loop

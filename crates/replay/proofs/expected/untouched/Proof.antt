@@ -1,10 +1,10 @@
 use Prim.Native.Nat.{_≤_, _-_}
 use lib.ListN.{length}
 use native.Mathlib.Omega.{arith}
-use Rattle.replay.proofs.untouched.Statement.{statement}
-use Rattle.replay.proofs.untouched.Tie as tie
-use Rattle.replay.proofs.untouched.Reads as reads
-use Rattle.replay.proofs.untouched.Lts as lts
+use Rattle.replay.proofs.expected.untouched.Statement.{statement}
+use Rattle.replay.proofs.expected.untouched.Tie as tie
+use Rattle.replay.proofs.expected.untouched.Reads as reads
+use Rattle.replay.proofs.expected.untouched.Lts as lts
 
 abbrev Inv-loop : tie.InvT-loop
 Inv-loop out i₀ i = i ≤ length out

@@ -1,0 +1,95 @@
+// The numbers of a stored case, and what an answer must have in common with them.
+use calls::Tally;
+
+// Result fields behind the length that a call does not have are 0.
+pub struct Got {
+    pub number: u32,
+    pub length: u32,
+    pub field1: u32,
+    pub field2: u32,
+    pub field3: u32,
+    pub tally: Tally,
+}
+
+// The case's number i of 17; 0 where the case is too short.
+pub fn word(case: &[u8], i: usize) -> u32 {
+    if i < 17 {
+        if 68 <= case.len() {
+            return le::u32_at(case, 4 * i);
+        }
+    }
+    0
+}
+
+pub fn tally_of(case: &[u8]) -> Tally {
+    Tally {
+        answered: word(case, 3),
+        refused: word(case, 4),
+        rewrites: word(case, 5),
+    }
+}
+
+fn same_tally(case: &[u8], t: Tally) -> bool {
+    if t.answered != word(case, 11) {
+        return false;
+    }
+    if t.refused != word(case, 12) {
+        return false;
+    }
+    t.rewrites == word(case, 13)
+}
+
+pub fn same_answer(case: &[u8], got: Got) -> bool {
+    if got.number != word(case, 6) {
+        return false;
+    }
+    if got.length != word(case, 7) {
+        return false;
+    }
+    if got.field1 != word(case, 8) {
+        return false;
+    }
+    if got.field2 != word(case, 9) {
+        return false;
+    }
+    if got.field3 != word(case, 10) {
+        return false;
+    }
+    same_tally(case, got.tally)
+}
+
+pub fn begins_with(out: &[u8], expected: &[u8]) -> bool {
+    if out.len() < expected.len() {
+        return false;
+    }
+    let mut i = 0;
+    while i < expected.len() {
+        if out[i] != expected[i] {
+            return false;
+        }
+        i += 1;
+    }
+    true
+}
+
+// Every byte is as it was before the call.
+fn untouched(out: &[u8]) -> bool {
+    let mut i = 0;
+    while i < out.len() {
+        if out[i] != 165 {
+            return false;
+        }
+        i += 1;
+    }
+    true
+}
+
+pub fn same_output(out: &[u8], expected: &[u8]) -> bool {
+    if begins_with(out, expected) {
+        let n = expected.len();
+        if n <= out.len() {
+            return untouched(&out[n..]);
+        }
+    }
+    false
+}

@@ -1,0 +1,208 @@
+// Makes the call of a stored case.
+use crate::expected::Got;
+use crate::expected::begins_with;
+use crate::expected::same_answer;
+use crate::expected::same_output;
+use crate::expected::tally_of;
+use crate::expected::word;
+use calls::Answer;
+use calls::CleanupAnswer;
+use calls::SimplifyAnswer;
+use calls::Tally;
+
+// What a case came to; End: there was none.
+pub enum Outcome {
+    Answered,
+    Refused,
+    Differs,
+    End,
+}
+
+fn plain(r: Answer) -> Got {
+    let tally = r.tally;
+    Got {
+        number: r.number,
+        length: r.length,
+        field1: 0,
+        field2: 0,
+        field3: 0,
+        tally: tally,
+    }
+}
+
+fn simplified(r: SimplifyAnswer) -> Got {
+    let tally = r.tally;
+    Got {
+        number: r.number,
+        length: r.length,
+        field1: r.rewrites,
+        field2: r.rounds,
+        field3: r.end,
+        tally: tally,
+    }
+}
+
+fn cleaned(r: CleanupAnswer) -> Got {
+    let tally = r.tally;
+    Got {
+        number: r.number,
+        length: r.length,
+        field1: r.status,
+        field2: 0,
+        field3: 0,
+        tally: tally,
+    }
+}
+
+// The call of that number; a number that no case has where there is no such call.
+fn call(call: u32, start: u32, rec: &[u8], list: &[u32], out: &mut [u8], tally: Tally) -> Got {
+    if call == 1 {
+        return plain(sg::sg_from_assembly_graph(rec, out, tally));
+    }
+    if call == 2 {
+        return simplified(sg::sg_simplify_graph(rec, out, tally));
+    }
+    if call == 3 {
+        return cleaned(sg::sg_cleanup_seq_graph(rec, out, tally));
+    }
+    if call == 4 {
+        return plain(sg::sg_clean_non_ref_paths(rec, out, tally));
+    }
+    if call == 5 {
+        return plain(sg::sg_reference_path_bytes(rec, out, tally));
+    }
+    if call == 6 {
+        return plain(sg::sg_path_bases_bytes(rec, start, list, out, tally));
+    }
+    Got {
+        number: 4294967295,
+        length: 0,
+        field1: 0,
+        field2: 0,
+        field3: 0,
+        tally: tally,
+    }
+}
+
+fn accepted(number: u32) -> Outcome {
+    if number != 0 {
+        return Outcome::Refused;
+    }
+    Outcome::Answered
+}
+
+fn compare(case: &[u8], got: Got, out: &[u8], expected: &[u8]) -> Outcome {
+    let number = got.number;
+    if !same_answer(case, got) {
+        return Outcome::Differs;
+    }
+    if !same_output(out, expected) {
+        return Outcome::Differs;
+    }
+    accepted(number)
+}
+
+// Whether this part of the record is handed back, and not another number than that one.
+fn same_part(vertex: u32, rec: &[u8], expected: &[u8], number: u32) -> bool {
+    let mut told = 0;
+    let part = vertex_sequence::vertex_sequence(rec, vertex, &mut told);
+    if told != number {
+        return false;
+    }
+    if part.len() != expected.len() {
+        return false;
+    }
+    begins_with(part, expected)
+}
+
+// A vertex's sequence, as a place for C and as a part of the record.
+fn run_vertex(case: &[u8], rec: &[u8], expected: &[u8]) -> Outcome {
+    let mut number = 0;
+    let place = sg::sg_vertex_sequence(rec, word(case, 1), &mut number);
+    let tally = tally_of(case);
+    let got = Got {
+        number: number,
+        length: place.length,
+        field1: place.offset,
+        field2: 0,
+        field3: 0,
+        tally: tally,
+    };
+    if !same_answer(case, got) {
+        return Outcome::Differs;
+    }
+    if !same_part(word(case, 1), rec, expected, number) {
+        return Outcome::Differs;
+    }
+    accepted(number)
+}
+
+// Makes the call with as much of list and room of out as the case says, and compares all that it answers and writes.
+fn run_in(case: &[u8], rec: &[u8], list: &[u32], expected: &[u8], out: &mut [u8]) -> Outcome {
+    let count = word(case, 15) as usize;
+    let room = word(case, 2) as usize;
+    if list.len() < count {
+        return Outcome::Differs;
+    }
+    if out.len() < room {
+        return Outcome::Differs;
+    }
+    let tally = tally_of(case);
+    let got = call(
+        word(case, 0),
+        word(case, 1),
+        rec,
+        &list[0..count],
+        &mut out[0..room],
+        tally,
+    );
+    compare(case, got, out, expected)
+}
+
+// The numbers of four bytes each, as many as the list has room for.
+fn read_list(bytes: &[u8], list: &mut [u32]) {
+    let mut at = 0;
+    let mut i = 0;
+    while 4 <= bytes.len() - at {
+        if i >= list.len() {
+            return;
+        }
+        list[i] = le::u32_at(bytes, at);
+        at += 4;
+        i += 1;
+    }
+}
+
+fn run(case: &[u8], rec: &[u8], numbers: &[u8], expected: &[u8]) -> Outcome {
+    if word(case, 0) == 0 {
+        return run_vertex(case, rec, expected);
+    }
+    let mut list = [0u32; 16384];
+    read_list(numbers, &mut list);
+    let mut out = [165u8; 65536];
+    run_in(case, rec, &list, expected, &mut out)
+}
+
+// Takes a case apart: 17 numbers, the record, the list's numbers, the output's bytes.
+pub fn replay(case: &[u8]) -> Outcome {
+    if case.len() < 68 {
+        return Outcome::Differs;
+    }
+    let rest = case.len() - 68;
+    let length = word(case, 14) as usize;
+    if rest < length {
+        return Outcome::Differs;
+    }
+    let record_end = 68 + length;
+    let count = word(case, 15) as usize;
+    if (rest - length) / 4 < count {
+        return Outcome::Differs;
+    }
+    let list_end = record_end + 4 * count;
+    run(
+        case,
+        &case[68..record_end],
+        &case[record_end..list_end],
+        &case[list_end..],
+    )
+}
