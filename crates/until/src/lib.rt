@@ -27,21 +27,9 @@ pub fn try_rewrite(
     requires { ⌜ Ready least held (now es) (now vs) (now p) (now heads) (now nexts) (now nodes) (now map) × (v < held .n) ⌝ }
     ensures { λ r. ⌜ Left (rewriteOf kind least (graphOf held (now (es .entry)) (now (vs .entry)) (now (p .entry))) v) held (now (es .entry)) (now (vs .entry)) (now (p .entry)) (now (heads .entry)) (now (nexts .entry)) r (now (es .exit)) (now (vs .exit)) (now (p .exit)) ⌝ }
 {
-    if kind == 1 {
-        return merge_diamond::try_merge_diamond(
-            held,
-            es,
-            vs,
-            p,
-            heads,
-            nexts,
-            nodes,
-            map,
-            v as u32,
-        );
-    }
-    if kind == 2 {
-        return merge_diamond::try_merge_tails(
+    match kind {
+        1 => merge_diamond::try_merge_diamond(held, es, vs, p, heads, nexts, nodes, map, v as u32),
+        2 => merge_diamond::try_merge_tails(
             held,
             es,
             vs,
@@ -52,9 +40,19 @@ pub fn try_rewrite(
             map,
             v as u32,
             least,
-        );
+        ),
+        _ => merge_suffices::try_merge_common_suffices(
+            held,
+            es,
+            vs,
+            p,
+            heads,
+            nexts,
+            nodes,
+            map,
+            v,
+        ),
     }
-    merge_suffices::try_merge_common_suffices(held, es, vs, p, heads, nexts, nodes, map, v)
 }
 
 // The rewrite at the first vertex that allows it.
