@@ -1,0 +1,75 @@
+/*
+ * How long a record's checks take (refusals 1 to 7, by the call for a vertex's sequence), against reading its bytes once: records at the limits
+ * of both kinds, and 2^20 bytes that are no record. Times are medians; a sum of the bytes stands for reading.
+ */
+#define _GNU_SOURCE
+#include "../include/seq_graph.h"
+#include "../tests/c/records.h"
+#include <stdio.h>
+#include <stdlib.h>
+#include <time.h>
+
+enum { RUNS = 101, VERTICES = 2048, EDGES = 4096, K = 128, ROOM = 1 << 20 };
+
+static uint8_t rec[ROOM];
+static volatile unsigned long sink;
+
+/* 2,048 vertices of this many bytes, each different from the others; each leads to the next two. */
+static size_t at_the_limits(unsigned kind, unsigned each) {
+    const unsigned v = VERTICES, e = 2 * VERTICES - 3;
+    uint8_t *bytes = rec + HEADER + 2 * v + 9 * e;
+    put_header(rec, kind, K, v, e, v * each);
+    for (unsigned i = 0; i < v; i++) {
+        put(rec + HEADER + 2 * i, 2, each);
+        memset(bytes + each * i, 'A', each);
+        put(bytes + each * i + each - 2, 2, i);
+    }
+    for (unsigned i = 0; i < e; i++) put_edge(rec, v, i, (edge){i / 2, i / 2 + 1 + i % 2, 1, 1});
+    return HEADER + 2 * v + 9 * e + v * each;
+}
+
+static size_t random_bytes(void) {
+    for (size_t i = 0; i < ROOM; i++) rec[i] = (uint8_t)rand();
+    return ROOM;
+}
+
+static int by_size(const void *a, const void *b) {
+    double x = *(const double *)a, y = *(const double *)b;
+    return (x > y) - (x < y);
+}
+
+static double microseconds(void) {
+    struct timespec t;
+    clock_gettime(CLOCK_MONOTONIC, &t);
+    return 1e6 * (double)t.tv_sec + 1e-3 * (double)t.tv_nsec;
+}
+
+static double median(double *times) {
+    qsort(times, RUNS, sizeof *times, by_size);
+    return times[RUNS / 2];
+}
+
+static void show(const char *name, size_t length) {
+    double check[RUNS], once[RUNS];
+    uint32_t number = 0;
+    for (int i = 0; i < RUNS; i++) {
+        double begin = microseconds();
+        sink += sg_vertex_sequence(rec, length, 0, &number).length;
+        double middle = microseconds();
+        unsigned long sum = 0;
+        for (size_t j = 0; j < length; j++) sum += rec[j];
+        sink += sum;
+        check[i] = middle - begin;
+        once[i] = microseconds() - middle;
+    }
+    double c = median(check), o = median(once);
+    printf("%-36s %9zu %7u %10.1f %10.1f %8.1f\n", name, length, number, c, o, c / o);
+}
+
+int main(void) {
+    printf("%-36s %9s %7s %10s %10s %8s\n", "record", "bytes", "number", "check us", "read us", "ratio");
+    show("k-mers, 2,048 of 128, 4,093 edges", at_the_limits(KMERS, K));
+    show("sequences, 2,048 of 4, 4,093 edges", at_the_limits(SEQUENCES, 4));
+    show("no record", random_bytes());
+    return 0;
+}
