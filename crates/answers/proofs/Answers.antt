@@ -137,3 +137,9 @@ module _ (bs : List ℕ) (small : Bytes bs) (ok : recordRefusal sequenceOnly bs 
   pub cleanup-read-back : (status : ℕ) → decode (encode sequenceGraph status ((cleanupSeqGraph (decode bs)) .graph)) ≡ (cleanupSeqGraph (decode bs)) .graph
   cleanup-read-back status =
       decode-encode sequenceGraph status _ (fields-encodable _ k-small cleaned-fields (cleanup-fits (decode bs) decoded-narrow) (cleanup-bytes (decode bs) decoded-narrow))
+
+  pub clean-paths-fields : Fields (kOf bs) (cleanNonRefPaths (decode bs))
+  clean-paths-fields = clean-fields (decode bs) decoded-fields
+
+  pub clean-paths-read-back : Narrow (cleanNonRefPaths (decode bs)) → (status : ℕ) → decode (encode sequenceGraph status (cleanNonRefPaths (decode bs))) ≡ cleanNonRefPaths (decode bs)
+  clean-paths-read-back N status = decode-encode sequenceGraph status _ (fields-encodable _ k-small clean-paths-fields (narrow-fits _ N) (N .few))

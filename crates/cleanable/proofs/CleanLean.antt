@@ -6,7 +6,7 @@ use native.Mathlib.Omega.{arith}
 use lib.Dec.{eqb}
 use lib.ListN.{length}
 use Rattle.defs.specs.Lists.{keepIf}
-use Rattle.defs.specs.SeqGraph.{Edge, Graph, nodeCount, edgesFrom, outDegree}
+use Rattle.defs.specs.SeqGraph.{Edge, Graph, nodeCount, edgesFrom, outDegree, compactVertices}
 use Rattle.defs.specs.Cleanup.{referenceSourceVertex, referenceSinkVertex, removeSingletonOrphanVertices, leadsToSource, leadsFromSink, withoutNonRefEdges, cleanBetween, cleanNonRefPaths}
 use Rattle.laws.proofs.Walks.{byTest}
 use Rattle.laws.proofs.ListLaws.{of-keepIf, keepIf-yes, keepIf-no}
@@ -16,6 +16,7 @@ use Rattle.laws.proofs.Branching.{branching, sum-le}
 use Rattle.laws.proofs.Measures.{weight}
 use Rattle.laws.proofs.Whole.{byOption}
 use Rattle.laws.proofs.Cleaned.{orphans-keep}
+use Rattle.laws.proofs.Room.{Narrow, narrow-restrict}
 use Rattle.choice.specs.Choice.{Lean}
 use Rattle.choice.proofs.LeanLaws.{lean-restrict}
 
@@ -62,15 +63,28 @@ module _ (q : Edge → Bool) (g : Graph) where
   unfolding weight
   thinned-lean L = record { good = thinned-good (L .good); light = L .light; narrow = omega (arith, L .narrow, thinned-branching) }
 
+  pub thinned-narrow : Narrow g → Narrow thinned
+  unfolding weight
+  thinned-narrow N = record { good = thinned-good (N .good); branches = omega (arith, N .branches, thinned-branching); few = N .few; size = N .size }
+
 -- ---- the call
 
+-- what the removal of edges and of vertices keeps
+module _ (P : Graph → Type 0) (thin : (q : Edge → Bool) (g : Graph) → P g → P (thinned q g)) (restrict : (p : ℕ → Bool) (g : Graph) → P g → P (compactVertices p g)) where
+  between-keeps : (g : Graph) (s t : ℕ) → P g → P (removeSingletonOrphanVertices (withoutNonRefEdges g s t))
+  unfolding removeSingletonOrphanVertices withoutNonRefEdges
+  between-keeps g s t h = orphans-keep P restrict (suc (nodeCount (withoutNonRefEdges g s t))) (withoutNonRefEdges g s t) (thin (λ (e : Edge). not (leadsToSource g s e || leadsFromSink g s t e)) g h)
+
+  clean-keeps : (g : Graph) → P g → P (cleanNonRefPaths g)
+  unfolding cleanNonRefPaths cleanBetween
+  clean-keeps g h = byOption (referenceSourceVertex g)
+      (λ a. rw (a, cleanBetween) h)
+      (λ s a. byOption (referenceSinkVertex g)
+      (λ b. rw (a, b, cleanBetween) h)
+      (λ t b. rw (a, b, cleanBetween) (between-keeps g s t h)))
+
 pub clean-lean : {heads nexts : List ℕ} (g : Graph) → Lean g heads nexts → Lean (cleanNonRefPaths g) heads nexts
-unfolding cleanNonRefPaths cleanBetween
-clean-lean {heads} {nexts} g L = byOption (referenceSourceVertex g)
-    (λ a. rw (a, cleanBetween) L)
-    (λ s a. byOption (referenceSinkVertex g)
-    (λ b. rw (a, b, cleanBetween) L)
-    (λ t b. rw (a, b, cleanBetween) (cleaned s t)))
-  where
-    cleaned : (s t : ℕ) → Lean (removeSingletonOrphanVertices (withoutNonRefEdges g s t)) heads nexts
-    cleaned s t = unfold removeSingletonOrphanVertices withoutNonRefEdges in (orphans-keep (λ x. Lean x heads nexts) lean-restrict (suc (nodeCount (withoutNonRefEdges g s t))) (withoutNonRefEdges g s t) (thinned-lean (λ (e : Edge). not (leadsToSource g s e || leadsFromSink g s t e)) g L))
+clean-lean {heads} {nexts} g L = clean-keeps (λ x. Lean x heads nexts) (λ q x. thinned-lean q x) lean-restrict g L
+
+pub clean-narrow : (g : Graph) → Narrow g → Narrow (cleanNonRefPaths g)
+clean-narrow g N = clean-keeps Narrow (λ q x. thinned-narrow q x) narrow-restrict g N

@@ -1,0 +1,136 @@
+-- The promise of clean_non_ref_paths. Assumes nothing.
+use mathlib.Core.Path.{_≡_, refl, sym, ap, _∙_, subst}
+use mathlib.Core.List.{List, _++_}
+use Prim.Native.Nat.{ℕ, _<_}
+use native.Mathlib.Omega.{arith}
+use lib.ListN.{length, take, drop}
+use lib.Seq.{take-append-seam}
+use Rattle.defs.specs.SeqGraph.{Graph, nodeCount}
+use Rattle.defs.specs.Cleanup.{cleanNonRefPaths}
+use Rattle.defs.specs.Record.{sequenceGraph, encode, decode}
+use Rattle.defs.specs.Refusals.{sequenceOnly, recordCauses, recordRefusal}
+use Rattle.defs.specs.Calls as D
+use Rattle.defs.specs.Calls.{refused, accepted, numberOf, lengthOf, fits, cleanNonRefPathsResponse, cleanNonRefPathsAnswer}
+use Rattle.laws.proofs.Bound.{Fits}
+use Rattle.laws.proofs.Room.{Narrow, narrow-fits}
+use Rattle.answers.proofs.Answers.{Bytes, decoded-narrow, k-small, clean-paths-fields, clean-paths-read-back}
+use Rattle.compact.specs.Compact.{Compactable}
+use Rattle.index.specs.Index.{Indexable}
+use Rattle.memory.specs.Memory.{graphOf}
+use Rattle.memory.specs.declared.Held.{Held}
+use Rattle.memory.proofs.RoomLaws.{holds-kept}
+use Rattle.reach.specs.Reach.{Walkable}
+use Rattle.orphans.specs.Orphans.{Reduced}
+use Rattle.accept.specs.Accept.{Roomy, ReadAs}
+use Rattle.accept.specs.declared.Read.{Read}
+use Rattle.choice.proofs.ChoiceLaws.{lean-holds, reduced-lean, held-compactable, held-indexable, held-walkable}
+use Rattle.cleanable.proofs.ReadLean.{read-lean}
+use Rattle.cleanable.proofs.CleanLean.{clean-lean, clean-narrow}
+use Rattle.arrays.specs.Sized.{SizedGraph}
+use Rattle.arrays.proofs.SizedLaws.{sized-room}
+use Rattle.calls.specs.Answers.{Refuses, Accepts}
+use Rattle.calls.specs.Sending.{Sends}
+use Rattle.calls.specs.declared.Tally.{Tally}
+use Rattle.calls.specs.declared.Sent.{Sent}
+use Rattle.calls.specs.declared.Answer.{Answer}
+use Rattle.calls.proofs.AnswerLaws.{respond-refused, respond-fits, responds-refused, responds-accepted}
+use Rattle.calls.proofs.SendLaws.{sent-short, sent-whole}
+use Rattle.clean_non_ref_paths.specs.MadeOf.{MadeOf}
+use Rattle.clean_non_ref_paths.specs.CleansPaths.{CleansPaths}
+
+-- the arrays are room enough to clean what was read
+module _ {es vs p heads nexts nodes mp : List ℕ} (Z : SizedGraph es vs p heads nexts nodes mp) {tried : List ℕ} (marks : length tried ≡ 10240) where
+  pub sized-walkable : {bs : List ℕ} {r : Read} {es′ vs′ p′ heads′ nexts′ nodes′ mp′ : List ℕ} → ReadAs bs heads nexts r es′ vs′ p′ → r .number ≡ 0
+      → length es′ ≡ length es → length vs′ ≡ length vs → length p′ ≡ length p → length heads′ ≡ length heads → length nexts′ ≡ length nexts → length nodes′ ≡ length nodes → length mp′ ≡ length mp
+      → Compactable (r .held .n) (r .held .m) es′ vs′ mp′ × (Indexable (r .held .m) (r .held .n) es′ heads′ nexts′ × Walkable (r .held .n) tried nodes′)
+  sized-walkable A ok la lb lc ld le lf lg =
+      let R = sized-room Z la lb lc ld le lf lg in
+      let H = holds-kept (A .holds ok) ld le in
+      (held-compactable R H, (held-indexable R H, held-walkable R H (omega (arith, ld, Z .heads-is, marks))))
+
+-- reading, then cleaning
+module _ {bs heads nexts : List ℕ} {r : Read} {es vs p : List ℕ} (A : ReadAs bs heads nexts r es vs p) where
+  pub made-refused : (r .number ≡ 0 → ⊥) → MadeOf bs heads nexts r es vs p
+  made-refused o = record { number = A .number; is = λ z. absurd (o z); holds = λ z. absurd (o z) }
+
+  pub made-whole : Roomy heads nexts → r .number ≡ 0 → {c : Held} {es′ vs′ : List ℕ} → Reduced cleanNonRefPaths (r .held) es vs c es′ vs′ → MadeOf bs heads nexts record { number = 0; held = c } es′ vs′ p
+  made-whole Y ok R =
+      let H = read-lean A Y ok in
+      record {
+        number = sym ok ∙ A .number;
+        is = λ _. R .is p ∙ ap cleanNonRefPaths (A .is ok);
+        holds = λ _. lean-holds (reduced-lean R H (clean-lean (graphOf (r .held) es vs p) (H .lean)));
+      }
+
+-- the answer and the output go by the response
+module _ (bs out : List ℕ) (t : Tally) where
+  abbrev result : List ℕ
+  result = encode sequenceGraph 0 (cleanNonRefPaths (decode bs))
+
+  refused-with : (n : ℕ) → (n ≡ 0 → ⊥) → cleanNonRefPathsResponse bs (length out) ≡ refused n → {a : Answer} {out′ : List ℕ} → Refuses n t a → out′ ≡ out → CleansPaths bs out t a out′
+  unfolding cleanNonRefPathsAnswer D.answer numberOf
+  refused-with n o e {a} R q =
+      let P = responds-refused e R q in
+      record { answer = P .answer; written = P .written; graph = λ i. absurd (other i); vertices = λ i. absurd (other i); edges = λ i. absurd (other i) }
+    where
+      other : a .number ≡ 0 → ⊥
+      other i = o (sym (ap (λ (x : D.Answer). x .number) (R .is)) ∙ i)
+
+  -- no cause is present: the room decides
+  fitting : recordRefusal sequenceOnly bs ≡ 0 → cleanNonRefPathsResponse bs (length out) ≡ fits (length out) result
+  unfolding cleanNonRefPathsResponse recordRefusal
+  fitting ok = respond-fits (recordCauses sequenceOnly bs) (length out) result ok
+
+  stopped : (n : ℕ) → recordRefusal sequenceOnly bs ≡ n → (n ≡ 0 → ⊥) → cleanNonRefPathsResponse bs (length out) ≡ refused n
+  unfolding cleanNonRefPathsResponse recordRefusal
+  stopped n e o = respond-refused (recordCauses sequenceOnly bs) (length out) result n e o
+
+  module _ (small : Bytes bs) (ok : recordRefusal sequenceOnly bs ≡ 0) where
+    accepted-with : {n : ℕ} {a : Answer} {out′ : List ℕ} → cleanNonRefPathsResponse bs (length out) ≡ accepted result → n ≡ length result → Accepts n t a → out′ ≡ result ++ drop (length result) out → CleansPaths bs out t a out′
+    unfolding cleanNonRefPathsAnswer D.answer lengthOf
+    accepted-with {n} {a} {out′} e l A w =
+        let P = responds-accepted e l A w in
+        record {
+          answer = P .answer;
+          written = P .written;
+          graph = λ i. written-is;
+          vertices = λ i. omega (arith, ap nodeCount written-is, within .vertices);
+          edges = λ i. omega (arith, ap (λ (g : Graph). length (g .edges)) written-is, within .edges);
+        }
+      where
+        narrow : Narrow (cleanNonRefPaths (decode bs))
+        narrow = clean-narrow (decode bs) (decoded-narrow bs small ok)
+
+        within : Fits (cleanNonRefPaths (decode bs))
+        within = narrow-fits (cleanNonRefPaths (decode bs)) narrow
+
+        written-is : decode (take (a .length) out′) ≡ cleanNonRefPaths (decode bs)
+        written-is =
+            ap decode (ap (λ (k : ℕ). take k out′) (ap (λ (x : D.Answer). x .length) (A .is result (sym l))) ∙ ap (take (length result)) w ∙ take-append-seam result (drop (length result) out))
+            ∙ clean-paths-read-back bs small ok narrow 0
+
+-- the whole call
+module _ {bs heads nexts : List ℕ} {m : Read} {es vs p : List ℕ} (M : MadeOf bs heads nexts m es vs p) (t : Tally) where
+  pub paths-refused : (out : List ℕ) {a : Answer} → (m .number ≡ 0 → ⊥) → Refuses (m .number) t a → CleansPaths bs out t a out
+  paths-refused out o R = refused-with bs out t (m .number) o (stopped bs out t (m .number) (sym (M .number)) o) R refl
+
+  module _ (small : Bytes bs) (ok : m .number ≡ 0) where
+    none : recordRefusal sequenceOnly bs ≡ 0
+    none = sym (M .number) ∙ ok
+
+    pub made-k : m .held .k < 65536
+    made-k = omega (arith, ap (λ (g : Graph). g .k) (M .is ok), (clean-paths-fields bs small none) .k-is, k-small bs small none)
+
+    module _ {out out′ : List ℕ} {s : Sent} (S : Sends (encode sequenceGraph 0 (graphOf (m .held) es vs p)) out s out′) where
+      sends : Sends (encode sequenceGraph 0 (cleanNonRefPaths (decode bs))) out s out′
+      sends = subst (λ (g : Graph). Sends (encode sequenceGraph 0 g) out s out′) (M .is ok) S
+
+      pub paths-short : {a : Answer} → (s .number ≡ 0 → ⊥) → Refuses (s .number) t a → CleansPaths bs out t a out′
+      paths-short o R =
+          let c = sent-short sends o in
+          refused-with bs out t (s .number) o (fitting bs out t none ∙ c .0 ∙ ap refused (sym (c .1 .0))) R (c .1 .1)
+
+      pub paths-accepted : {a : Answer} → s .number ≡ 0 → Accepts (s .length) t a → CleansPaths bs out t a out′
+      paths-accepted i A =
+          let c = sent-whole sends i in
+          accepted-with bs out t small none (fitting bs out t none ∙ c .0) (c .1 .0) A (c .1 .1)

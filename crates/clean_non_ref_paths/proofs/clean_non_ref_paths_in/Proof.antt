@@ -1,0 +1,187 @@
+use native.Mathlib.Omega.{arith}
+use Rattle.arrays.proofs.SizedLaws.{sized-sendable}
+use Rattle.clean_non_ref_paths.proofs.PathsLaws.{paths-refused, made-k, paths-short, paths-accepted}
+use borrow.Author.Needs.{needs}
+use Rattle.clean_non_ref_paths.proofs.clean_non_ref_paths_in.Statement.{statement}
+use Rattle.clean_non_ref_paths.proofs.clean_non_ref_paths_in.Tie as tie
+use Rattle.clean_non_ref_paths.proofs.clean_non_ref_paths_in.Reads as reads
+use Rattle.clean_non_ref_paths.proofs.clean_non_ref_paths_in.Lts as lts
+use Rattle.calls.proofs.accept.Reads as accept-reads
+use Rattle.calls.proofs.refuse.Reads as refuse-reads
+use Rattle.calls.proofs.send_record.Reads as send-record-reads
+use Rattle.clean_non_ref_paths.proofs.read_and_clean.Reads as read-and-clean-reads
+
+-- src/lib.rt:63:9
+read-and-clean-requires : tie.Need-read-and-clean-requires
+read-and-clean-requires c κs = search needs
+
+-- src/lib.rt:66:9
+refuse-requires : tie.Need-refuse-requires
+refuse-requires c κs = search needs
+
+-- src/lib.rt:66:9
+same-length : tie.Need-same-length
+same-length c = search needs
+
+-- src/lib.rt:66:9
+same-length-2 : tie.Need-same-length-2
+same-length-2 c = search needs
+
+-- src/lib.rt:66:9
+same-length-3 : tie.Need-same-length-3
+same-length-3 c = search needs
+
+-- src/lib.rt:66:9
+same-length-4 : tie.Need-same-length-4
+same-length-4 c = search needs
+
+-- src/lib.rt:66:9
+same-length-5 : tie.Need-same-length-5
+same-length-5 c = search needs
+
+-- src/lib.rt:66:9
+same-length-6 : tie.Need-same-length-6
+same-length-6 c = search needs
+
+-- src/lib.rt:66:9
+same-length-7 : tie.Need-same-length-7
+same-length-7 c = search needs
+
+-- src/lib.rt:66:9
+same-length-8 : tie.Need-same-length-8
+same-length-8 c = search needs
+
+-- src/lib.rt:66:9
+returns : tie.Need-returns
+returns c = paths-refused (c .before .before .before .before .before .before .before .before .before .before .before .before .before .before .before .before .before .before .read-and-clean .ensures) _ _ (c .before .if1 .taken) (c .refuse .ensures)
+
+-- src/lib.rt:69:9
+send-record-requires : tie.Need-send-record-requires
+send-record-requires c κs = sized-sendable (c .before .before .before .before .before .before .before .before .before .before .before .before .before .before .before .before .before .before .before .before .before .before .before .before .before .before .before .before .before .before .before .before .before .before .before .before .before .before .before .before .before .pre .0) 0 (omega arith) (made-k (c .before .before .before .before .before .before .before .before .before .before .before .before .before .before .before .before .before .before .before .before .before .before .read-and-clean .ensures) (c .before .before .before .before .before .before .before .before .before .before .before .before .before .before .before .before .before .before .before .before .before .before .before .before .before .before .before .before .before .before .before .before .before .before .before .before .before .before .before .before .before .args .tally) (λ i. omega (arith, c .before .before .before .before .before .before .before .before .before .before .before .before .before .before .before .before .before .before .before .before .before .before .before .before .before .before .before .before .before .before .before .before .before .before .before .before .before .before .before .before .shared-slice-known .given i)) (c .before .before .before .before .before .if1 .left)) (c .before .before .before .before .before .before .before .before .before .before .before .before .before .before .before .before .before .before .before .before .before .before .read-and-clean .ensures .holds (c .before .before .before .before .before .if1 .left)) (c .before .before .before .before .before .before .before .before .before .before .before .before .before .before .before .before .before .before .before .before .before .before .read-and-clean .kept .1 .0) (c .before .before .before .before .before .before .before .before .before .before .before .before .before .before .before .before .before .before .before .before .before .before .read-and-clean .kept .1 .1 .0) (c .before .before .before .before .before .before .before .before .before .before .before .before .before .before .before .before .before .before .before .before .before .before .read-and-clean .kept .1 .1 .1 .0)
+
+-- src/lib.rt:72:9
+refuse-requires-2 : tie.Need-refuse-requires-2
+refuse-requires-2 c κs = search needs
+
+-- src/lib.rt:72:9
+same-length-9 : tie.Need-same-length-9
+same-length-9 c = search needs
+
+-- src/lib.rt:72:9
+same-length-10 : tie.Need-same-length-10
+same-length-10 c = search needs
+
+-- src/lib.rt:72:9
+same-length-11 : tie.Need-same-length-11
+same-length-11 c = search needs
+
+-- src/lib.rt:72:9
+same-length-12 : tie.Need-same-length-12
+same-length-12 c = search needs
+
+-- src/lib.rt:72:9
+same-length-13 : tie.Need-same-length-13
+same-length-13 c = search needs
+
+-- src/lib.rt:72:9
+same-length-14 : tie.Need-same-length-14
+same-length-14 c = search needs
+
+-- src/lib.rt:72:9
+same-length-15 : tie.Need-same-length-15
+same-length-15 c = search needs
+
+-- src/lib.rt:72:9
+same-length-16 : tie.Need-same-length-16
+same-length-16 c = search needs
+
+-- src/lib.rt:72:9
+same-length-17 : tie.Need-same-length-17
+same-length-17 c = search needs
+
+-- src/lib.rt:72:9
+returns-2 : tie.Need-returns-2
+returns-2 c = paths-short (c .before .before .before .before .before .before .before .before .before .before .before .before .before .before .before .before .before .before .before .before .before .before .before .before .before .before .before .read-and-clean .ensures) _ (λ i. omega (arith, c .before .before .before .before .before .before .before .before .before .before .before .before .before .before .before .before .before .before .before .before .before .before .before .before .before .before .before .before .before .before .before .before .before .before .before .before .before .before .before .before .before .before .before .before .before .shared-slice-known .given i)) (c .before .before .before .before .before .before .before .before .before .before .if1 .left) (c .before .before .before .before .send-record .ensures) (c .before .if2 .taken) (c .refuse2 .ensures)
+
+-- src/lib.rt:74:5
+accept-requires : tie.Need-accept-requires
+accept-requires c κs = search needs
+
+-- src/lib.rt:47:1
+same-length-18 : tie.Need-same-length-18
+same-length-18 c = search needs
+
+-- src/lib.rt:47:1
+same-length-19 : tie.Need-same-length-19
+same-length-19 c = search needs
+
+-- src/lib.rt:47:1
+same-length-20 : tie.Need-same-length-20
+same-length-20 c = search needs
+
+-- src/lib.rt:47:1
+same-length-21 : tie.Need-same-length-21
+same-length-21 c = search needs
+
+-- src/lib.rt:47:1
+same-length-22 : tie.Need-same-length-22
+same-length-22 c = search needs
+
+-- src/lib.rt:47:1
+same-length-23 : tie.Need-same-length-23
+same-length-23 c = search needs
+
+-- src/lib.rt:47:1
+same-length-24 : tie.Need-same-length-24
+same-length-24 c = search needs
+
+-- src/lib.rt:47:1
+same-length-25 : tie.Need-same-length-25
+same-length-25 c = search needs
+
+-- src/lib.rt:47:1
+same-length-26 : tie.Need-same-length-26
+same-length-26 c = search needs
+
+-- src/lib.rt:47:1
+returns-3 : tie.Need-returns-3
+returns-3 c = paths-accepted (c .before .before .before .before .before .before .before .before .before .before .before .before .before .before .before .before .before .before .before .before .before .before .before .before .before .before .before .read-and-clean .ensures) _ (λ i. omega (arith, c .before .before .before .before .before .before .before .before .before .before .before .before .before .before .before .before .before .before .before .before .before .before .before .before .before .before .before .before .before .before .before .before .before .before .before .before .before .before .before .before .before .before .before .before .before .shared-slice-known .given i)) (c .before .before .before .before .before .before .before .before .before .before .if1 .left) (c .before .before .before .before .send-record .ensures) (c .before .if2 .left) (c .accept .ensures)
+
+pub clean-non-ref-paths-in-spec : {M : Type 1} → statement M
+clean-non-ref-paths-in-spec =
+    tie.close
+    (tie.spec
+    read-and-clean-requires
+    refuse-requires
+    same-length
+    same-length-2
+    same-length-3
+    same-length-4
+    same-length-5
+    same-length-6
+    same-length-7
+    same-length-8
+    returns
+    send-record-requires
+    refuse-requires-2
+    same-length-9
+    same-length-10
+    same-length-11
+    same-length-12
+    same-length-13
+    same-length-14
+    same-length-15
+    same-length-16
+    same-length-17
+    returns-2
+    accept-requires
+    same-length-18
+    same-length-19
+    same-length-20
+    same-length-21
+    same-length-22
+    same-length-23
+    same-length-24
+    same-length-25
+    same-length-26
+    returns-3)

@@ -1,0 +1,2 @@
+pub mod MadeOf
+pub mod CleansPaths

@@ -1,0 +1,178 @@
+-- The promise of cleanup_seq_graph. Assumes nothing.
+use mathlib.Core.Path.{_≡_, refl, sym, ap, _∙_, subst}
+use mathlib.Core.List.{List, _++_}
+use Prim.Native.Nat.{ℕ, _<_}
+use native.Mathlib.Omega.{arith}
+use lib.ListN.{length, take, drop}
+use lib.Seq.{take-append-seam}
+use Rattle.defs.specs.SeqGraph.{Graph, nodeCount}
+use Rattle.defs.specs.Cleanup.{Status, justReference, someVariation, Cleaned, statusNumber, choiceGraph, cleanupSeqGraph}
+use Rattle.defs.specs.Record.{sequenceGraph, encode, decode}
+use Rattle.defs.specs.Refusals.{sequenceOnly, recordCauses, recordRefusal}
+use Rattle.defs.specs.Calls as D
+use Rattle.defs.specs.Calls.{Response, refused, accepted, numberOf, lengthOf, fieldOf, writtenOf, fits, cleanupSeqGraphResponse, cleanupSeqGraphAnswer}
+use Rattle.laws.proofs.Bound.{Fits}
+use Rattle.laws.proofs.Room.{cleanup-fits}
+use Rattle.laws.proofs.Cleaned.{cleanup-varies, cleanup-plain}
+use Rattle.sound.proofs.Accepted.{accepted-good}
+use Rattle.answers.proofs.Answers.{Bytes, decoded-narrow, k-small, cleaned-fields, cleanup-read-back}
+use Rattle.memory.specs.Memory.{graphOf}
+use Rattle.memory.proofs.RoomLaws.{holds-kept}
+use Rattle.accept.specs.Accept.{ReadAs}
+use Rattle.accept.specs.declared.Read.{Read}
+use Rattle.choice.specs.Choice.{Cleanable}
+use Rattle.choice.proofs.ChoiceLaws.{holds-lean-kept}
+use Rattle.cleanable.proofs.ReadLean.{read-lean}
+use Rattle.cleanup.specs.CleanUp.{Answers, CleanUp}
+use Rattle.cleanup.specs.declared.CleanedUp.{CleanedUp}
+use Rattle.arrays.specs.Sized.{Sized}
+use Rattle.arrays.proofs.SizedLaws.{sized-room, sized-read}
+use Rattle.calls.specs.Answers.{tallyOf, cleanupAnswerOf, cleanupAnswerFor, RefusesCleanup, AcceptsCleanup}
+use Rattle.calls.specs.Sending.{Sends}
+use Rattle.calls.specs.declared.Tally.{Tally}
+use Rattle.calls.specs.declared.Sent.{Sent}
+use Rattle.calls.specs.declared.CleanupAnswer.{CleanupAnswer}
+use Rattle.calls.proofs.AnswerLaws.{respond-refused, respond-fits}
+use Rattle.calls.proofs.SendLaws.{sent-short, sent-whole}
+use Rattle.cleanup_seq_graph.specs.MadeOf.{MadeOf}
+use Rattle.cleanup_seq_graph.specs.Cleans.{SpellsChosen, Cleans}
+use Rattle.cleanup_seq_graph.specs.declared.Made.{Made}
+
+-- the arrays are room enough to clean what was read
+module _ {es vs p heads nexts nodes mp starts tried sig : List ℕ} (Z : Sized es vs p heads nexts nodes mp starts tried sig) where
+  pub sized-cleanable : {bs : List ℕ} {r : Read} {es′ vs′ p′ heads′ nexts′ nodes′ mp′ : List ℕ} → ReadAs bs heads nexts r es′ vs′ p′ → r .number ≡ 0
+      → length es′ ≡ length es → length vs′ ≡ length vs → length p′ ≡ length p → length heads′ ≡ length heads → length nexts′ ≡ length nexts → length nodes′ ≡ length nodes → length mp′ ≡ length mp
+      → Cleanable (r .held) es′ vs′ p′ heads′ nexts′ nodes′ mp′ starts tried sig
+  sized-cleanable A ok la lb lc ld le lf lg = record {
+    room = sized-room (Z .graph) la lb lc ld le lf lg;
+    holds = holds-lean-kept (read-lean A ((sized-read (Z .graph)) .1) ok) ld le;
+    scratch = record { starts-room = omega (arith, ld, Z .graph .heads-is, Z .starts-is); tried-room = omega (arith, ld, Z .graph .heads-is, Z .tried-is) };
+    sig-room = omega (arith, ld, Z .graph .heads-is, Z .sig-is);
+    countable = record { small = omega (arith, ld, Z .graph .heads-is) };
+  }
+
+-- reading, then cleaning
+module _ {bs heads nexts : List ℕ} {r : Read} {es vs p : List ℕ} (A : ReadAs bs heads nexts r es vs p) where
+  pub made-refused : (r .number ≡ 0 → ⊥) → {m : Made} {es′ vs′ p′ : List ℕ} → m .number ≡ r .number → MadeOf bs heads nexts m es′ vs′ p′
+  made-refused o q = record { number = q ∙ A .number; answers = λ z. absurd (o (sym q ∙ z)); holds = λ z. absurd (o (sym q ∙ z)) }
+
+  pub made-whole : r .number ≡ 0 → {heads′ nexts′ : List ℕ} {c : CleanedUp} {es′ vs′ p′ : List ℕ} → length heads′ ≡ length heads → length nexts′ ≡ length nexts → CleanUp (r .held) es vs p heads′ nexts′ c es′ vs′ p′
+      → MadeOf bs heads nexts record { number = 0; cleaned = c } es′ vs′ p′
+  made-whole ok {c = c} {es′} {vs′} {p′} d e F = record {
+    number = sym ok ∙ A .number;
+    answers = λ _. subst (λ (g : Graph). Answers (cleanupSeqGraph g) c es′ vs′ p′) (A .is ok) (F .answers);
+    holds = λ _. holds-kept (F .holds) (sym d) (sym e);
+  }
+
+-- the number tells the status
+status-small : (s : Status) → statusNumber s < 256
+unfolding statusNumber
+status-small justReference = omega arith
+status-small someVariation = omega arith
+
+status-two : (s : Status) → statusNumber s ≡ 2 → s ≡ someVariation
+unfolding statusNumber
+status-two justReference e = absurd (omega (arith, e))
+status-two someVariation e = refl
+
+status-one : (s : Status) → statusNumber s ≡ 1 → s ≡ justReference
+unfolding statusNumber
+status-one justReference e = refl
+status-one someVariation e = absurd (omega (arith, e))
+
+-- the answer goes by the response
+answer-by : (bs : List ℕ) (room : ℕ) (t : D.Tally) {x : Response} → cleanupSeqGraphResponse bs room ≡ x → cleanupAnswerFor x (cleanupSeqGraph (decode bs)) t ≡ cleanupSeqGraphAnswer bs room t
+unfolding cleanupSeqGraphAnswer
+answer-by bs room t e = ap (λ (x : Response). cleanupAnswerFor x (cleanupSeqGraph (decode bs)) t) (sym e)
+
+module _ (bs out : List ℕ) (t : Tally) where
+  abbrev z : Cleaned
+  z = cleanupSeqGraph (decode bs)
+
+  abbrev result : List ℕ
+  result = encode sequenceGraph (statusNumber (z .status)) (z .graph)
+
+  refused-with : (n : ℕ) → (n ≡ 0 → ⊥) → cleanupSeqGraphResponse bs (length out) ≡ refused n → {a : CleanupAnswer} {out′ : List ℕ} → RefusesCleanup n t a → out′ ≡ out → Cleans bs out t a out′
+  unfolding writtenOf numberOf
+  refused-with n o e {a} R q = record {
+    answer = R .is z ∙ answer-by bs (length out) (tallyOf t) e;
+    written = q ∙ sym (ap (λ (x : Response). writtenOf x out) e);
+    strings = λ i _. absurd (other i);
+    plain = λ i _. absurd (other i);
+    vertices = λ i. absurd (other i);
+    edges = λ i. absurd (other i);
+  }
+    where
+      other : a .number ≡ 0 → ⊥
+      other i = o (sym (ap (λ (x : D.CleanupAnswer). x .number) (R .is z)) ∙ i)
+
+  -- no cause is present: the room decides
+  fitting : recordRefusal sequenceOnly bs ≡ 0 → cleanupSeqGraphResponse bs (length out) ≡ fits (length out) result
+  unfolding cleanupSeqGraphResponse recordRefusal
+  fitting ok = respond-fits (recordCauses sequenceOnly bs) (length out) result ok
+
+  stopped : (n : ℕ) → recordRefusal sequenceOnly bs ≡ n → (n ≡ 0 → ⊥) → cleanupSeqGraphResponse bs (length out) ≡ refused n
+  unfolding cleanupSeqGraphResponse recordRefusal
+  stopped n e o = respond-refused (recordCauses sequenceOnly bs) (length out) result n e o
+
+  module _ (small : Bytes bs) (ok : recordRefusal sequenceOnly bs ≡ 0) where
+    accepted-with : {a : CleanupAnswer} {out′ : List ℕ} → cleanupSeqGraphResponse bs (length out) ≡ accepted result → cleanupAnswerOf a ≡ cleanupAnswerFor (accepted result) z (tallyOf t) → out′ ≡ result ++ drop (length result) out
+        → Cleans bs out t a out′
+    unfolding writtenOf lengthOf fieldOf
+    accepted-with {a} {out′} e q w = record {
+      answer = q ∙ answer-by bs (length out) (tallyOf t) e;
+      written = w ∙ sym (ap (λ (x : Response). writtenOf x out) e);
+      strings = λ i two. subst (λ (g : Graph). SpellsChosen (choiceGraph (decode bs)) g) (sym written-is) (chosen (status-two (z .status) (sym status-is ∙ two)));
+      plain = λ i one. written-is ∙ cleanup-plain (decode bs) (status-one (z .status) (sym status-is ∙ one));
+      vertices = λ i. omega (arith, ap nodeCount written-is, within .vertices);
+      edges = λ i. omega (arith, ap (λ (g : Graph). length (g .edges)) written-is, within .edges);
+    }
+      where
+        within : Fits (z .graph)
+        within = cleanup-fits (decode bs) (decoded-narrow bs small ok)
+
+        status-is : a .status ≡ statusNumber (z .status)
+        status-is = ap (λ (x : D.CleanupAnswer). x .status) q
+
+        written-is : decode (take (a .length) out′) ≡ z .graph
+        written-is =
+            ap decode (ap (λ (n : ℕ). take n out′) (ap (λ (x : D.CleanupAnswer). x .length) q) ∙ ap (take (length result)) w ∙ take-append-seam result (drop (length result) out))
+            ∙ cleanup-read-back bs small ok (statusNumber (z .status))
+
+        chosen : z .status ≡ someVariation → SpellsChosen (choiceGraph (decode bs)) (z .graph)
+        chosen v =
+            let y = cleanup-varies (decode bs) (accepted-good sequenceOnly bs ok) v in
+            record { source = y .0 .source; sink = y .0 .sink; is-source = y .0 .isSource; is-sink = y .0 .isSink; strings = y .1 }
+
+-- the whole call
+module _ {bs heads nexts : List ℕ} {m : Made} {es vs p : List ℕ} (M : MadeOf bs heads nexts m es vs p) (t : Tally) where
+  pub cleans-refused : (out : List ℕ) {a : CleanupAnswer} → (m .number ≡ 0 → ⊥) → RefusesCleanup (m .number) t a → Cleans bs out t a out
+  cleans-refused out o R = refused-with bs out t (m .number) o (stopped bs out t (m .number) (sym (M .number)) o) R refl
+
+  pub made-status : m .number ≡ 0 → m .cleaned .status < 256
+  made-status ok = omega (arith, M .answers ok .status, status-small ((cleanupSeqGraph (decode bs)) .status))
+
+  module _ (small : Bytes bs) (ok : m .number ≡ 0) where
+    none : recordRefusal sequenceOnly bs ≡ 0
+    none = sym (M .number) ∙ ok
+
+    pub made-k : m .cleaned .held .k < 65536
+    made-k = omega (arith, ap (λ (g : Graph). g .k) (M .answers ok .graph), (cleaned-fields bs small none) .k-is, k-small bs small none)
+
+    module _ {out out′ : List ℕ} {s : Sent} (S : Sends (encode sequenceGraph (m .cleaned .status) (graphOf (m .cleaned .held) es vs p)) out s out′) where
+      abbrev made : List ℕ
+      made = encode sequenceGraph (statusNumber ((cleanupSeqGraph (decode bs)) .status)) ((cleanupSeqGraph (decode bs)) .graph)
+
+      sends : Sends made out s out′
+      sends = subst (λ (l : List ℕ). Sends l out s out′) (λ i. encode sequenceGraph (M .answers ok .status i) (M .answers ok .graph i)) S
+
+      pub cleans-short : {a : CleanupAnswer} → (s .number ≡ 0 → ⊥) → RefusesCleanup (s .number) t a → Cleans bs out t a out′
+      cleans-short o R =
+          let c = sent-short sends o in
+          refused-with bs out t (s .number) o (fitting bs out t none ∙ c .0 ∙ ap refused (sym (c .1 .0))) R (c .1 .1)
+
+      pub cleans-accepted : {a : CleanupAnswer} → s .number ≡ 0 → AcceptsCleanup (s .length) (m .cleaned .status) (m .cleaned .rewrites) t a → Cleans bs out t a out′
+      cleans-accepted i A =
+          let c = sent-whole sends i in
+          let Z = M .answers ok in
+          accepted-with bs out t small none (fitting bs out t none ∙ c .0) (A .is made (cleanupSeqGraph (decode bs)) (sym (c .1 .0)) (sym (Z .status)) (sym (Z .rewrites))) (c .1 .1)

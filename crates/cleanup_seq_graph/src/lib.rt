@@ -1,0 +1,166 @@
+// cleanup_seq_graph: a record in, its cleanup's record out. Nothing is asked of the caller.
+ghost use mathlib.Core.Path.{_≡_};
+ghost use Rattle.arrays.specs.Sized.{Sized};
+ghost use Rattle.cleanup_seq_graph.specs.Cleans.{Cleans};
+ghost use Rattle.cleanup_seq_graph.specs.MadeOf.{MadeOf};
+use calls::CleanupAnswer;
+use calls::Tally;
+use cleanup::CleanedUp;
+use memory::Held;
+
+// A record's refusal number, or 0 and its cleanup, which the slices hold.
+pub struct Made {
+    pub number: u32,
+    pub cleaned: CleanedUp,
+}
+
+fn refuse(number: u32, held: Held) -> Made
+    ensures { λ r. ⌜ r .number ≡ number ⌝ }
+{
+    let none = CleanedUp {
+        held: held,
+        status: 0,
+        rewrites: 0,
+    };
+    Made {
+        number: number,
+        cleaned: none,
+    }
+}
+
+fn read_and_clean(
+    rec: &[u8],
+    es: &mut [u32],
+    vs: &mut [u32],
+    p: &mut [u8],
+    heads: &mut [u32],
+    nexts: &mut [u32],
+    nodes: &mut [u32],
+    map: &mut [u32],
+    starts: &mut [u32],
+    tried: &mut [u64],
+    sig: &mut [u32],
+) -> Made
+    requires { ⌜ Sized (now es) (now vs) (now p) (now heads) (now nexts) (now nodes) (now map) (now starts) (now tried) (now sig) ⌝ }
+    ensures { λ r. ⌜ MadeOf (now (rec .entry)) (now (heads .entry)) (now (nexts .entry)) r (now (es .exit)) (now (vs .exit)) (now (p .exit)) ⌝ }
+{
+    let read = accept::read_sequence_graph(rec, es, vs, p, heads, nexts, nodes, map);
+    let number = read.number;
+    if number != 0 {
+        return refuse(number, read.held);
+    }
+    let c = cleanup::cleanup_seq_graph(
+        read.held,
+        es,
+        vs,
+        p,
+        heads,
+        nexts,
+        nodes,
+        map,
+        starts,
+        tried,
+        sig,
+    );
+    Made {
+        number: 0,
+        cleaned: c,
+    }
+}
+
+fn cleanup_seq_graph_in(
+    rec: &[u8],
+    out: &mut [u8],
+    tally: Tally,
+    es: &mut [u32],
+    vs: &mut [u32],
+    p: &mut [u8],
+    heads: &mut [u32],
+    nexts: &mut [u32],
+    nodes: &mut [u32],
+    map: &mut [u32],
+    starts: &mut [u32],
+    tried: &mut [u64],
+    sig: &mut [u32],
+) -> CleanupAnswer
+    requires { ⌜ Sized (now es) (now vs) (now p) (now heads) (now nexts) (now nodes) (now map) (now starts) (now tried) (now sig) ⌝ }
+    ensures { λ r. ⌜ Cleans (now (rec .entry)) (now (out .entry)) tally r (now (out .exit)) ⌝ }
+{
+    let made = read_and_clean(rec, es, vs, p, heads, nexts, nodes, map, starts, tried, sig);
+    let number = made.number;
+    if number != 0 {
+        return calls::refuse_cleanup(number, tally);
+    }
+    let c = made.cleaned;
+    let sent = calls::send_record(out, c.status, c.held, es, vs, p);
+    let short = sent.number;
+    if short != 0 {
+        return calls::refuse_cleanup(short, tally);
+    }
+    calls::accept_cleanup(sent.length, c.status, c.rewrites, tally)
+}
+
+// Whole arrays, whose lengths are known.
+fn cleanup_seq_graph_with(
+    rec: &[u8],
+    out: &mut [u8],
+    tally: Tally,
+    es: &mut [u32; 131072],
+    vs: &mut [u32; 40960],
+    p: &mut [u8; 30720],
+    heads: &mut [u32; 20480],
+    nexts: &mut [u32; 32768],
+    nodes: &mut [u32; 16384],
+    map: &mut [u32; 20480],
+    starts: &mut [u32; 10240],
+    tried: &mut [u64; 10240],
+    sig: &mut [u32; 20482],
+) -> CleanupAnswer
+    ensures { λ r. ⌜ Cleans (now (rec .entry)) (now (out .entry)) tally r (now (out .exit)) ⌝ }
+{
+    cleanup_seq_graph_in(
+        rec,
+        out,
+        tally,
+        es,
+        vs,
+        p,
+        heads,
+        nexts,
+        nodes,
+        map,
+        starts,
+        tried,
+        sig,
+    )
+}
+
+pub fn cleanup_seq_graph(rec: &[u8], out: &mut [u8], tally: Tally) -> CleanupAnswer
+    ensures { λ r. ⌜ Cleans (now (rec .entry)) (now (out .entry)) tally r (now (out .exit)) ⌝ }
+{
+    let mut es = [0u32; 131072];
+    let mut vs = [0u32; 40960];
+    let mut p = [0u8; 30720];
+    let mut heads = [0u32; 20480];
+    let mut nexts = [0u32; 32768];
+    let mut nodes = [0u32; 16384];
+    let mut map = [0u32; 20480];
+    let mut starts = [0u32; 10240];
+    let mut tried = [0u64; 10240];
+    let mut sig = [0u32; 20482];
+    cleanup_seq_graph_with(
+        rec,
+        out,
+        tally,
+        &mut es,
+        &mut vs,
+        &mut p,
+        &mut heads,
+        &mut nexts,
+        &mut nodes,
+        &mut map,
+        &mut starts,
+        &mut tried,
+        &mut sig,
+    )
+}
