@@ -55,6 +55,14 @@ typedef struct {
     sg_tally tally;
 } sg_simplify_answer;
 
+/* `status`: 1 just reference, 2 some variation. */
+typedef struct {
+    uint32_t number;
+    uint32_t length;
+    uint32_t status;
+    sg_tally tally;
+} sg_cleanup_answer;
+
 /* Where a vertex's sequence stands in the record, and how long it is: both 0 when refused. */
 typedef struct {
     uint32_t offset;
@@ -69,6 +77,12 @@ sg_answer sg_from_assembly_graph(const uint8_t *record, size_t length, uint8_t *
 
 /* A sequence graph's record to that of the simplified graph. */
 sg_simplify_answer sg_simplify_graph(const uint8_t *record, size_t length, uint8_t *out, size_t room, sg_tally tally);
+
+/* A sequence graph's record to that of the cleaned graph. */
+sg_cleanup_answer sg_cleanup_seq_graph(const uint8_t *record, size_t length, uint8_t *out, size_t room, sg_tally tally);
+
+/* A sequence graph's record to that of the graph without what leads to the reference source or from the reference sink. */
+sg_answer sg_clean_non_ref_paths(const uint8_t *record, size_t length, uint8_t *out, size_t room, sg_tally tally);
 
 /* The bytes that the graph's reference path spells; refused with 10 where it has none. */
 sg_answer sg_reference_path_bytes(const uint8_t *record, size_t length, uint8_t *out, size_t room, sg_tally tally);

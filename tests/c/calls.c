@@ -80,6 +80,49 @@ static void test_from_assembly_graph(void) {
     check_output(0);
 }
 
+/* Document 01's case 8: one vertex gains an empty second one. */
+static void test_cleanup_seq_graph(void) {
+    const char *sequences[] = {"ACGT", ""};
+    const edge edges[] = {{0, 1, 0, 1}};
+    size_t length = write_record(rec, SEQUENCES, 10, 1, sequences, 0, edges);
+    size_t n = write_record(want, SEQUENCES, 10, 2, sequences, 1, edges);
+    sg_tally t = {0, 0, 0};
+    want[5] = 2;
+    fill();
+    sg_cleanup_answer a = sg_cleanup_seq_graph(rec, length, out, n, t);
+    assert(a.number == 0 && a.length == n && a.status == 2);
+    check_tally(a.tally, 1, 0, 0);
+    check_output(n);
+    fill();
+    a = sg_cleanup_seq_graph(rec, length, out, n - 1, a.tally);
+    assert(a.number == 11 && a.length == 0 && a.status == 0);
+    rec[4] = KMERS;
+    a = sg_cleanup_seq_graph(rec, length, out, ROOM, a.tally);
+    assert(a.number == 2);
+    check_tally(a.tally, 1, 2, 0);
+    check_output(0);
+}
+
+/* What leads to the reference source and from the reference sink goes; the vertices left without an edge go too. */
+static void test_clean_non_ref_paths(void) {
+    const char *sequences[] = {"G", "A", "C", "T"};
+    const edge edges[] = {{0, 1, 3, 0}, {1, 2, 5, 1}, {2, 3, 3, 0}}, kept[] = {{0, 1, 5, 1}};
+    size_t length = write_record(rec, SEQUENCES, 10, 4, sequences, 3, edges);
+    size_t n = write_record(want, SEQUENCES, 10, 2, sequences + 1, 1, kept);
+    sg_tally t = {0, 0, 0};
+    fill();
+    sg_answer a = sg_clean_non_ref_paths(rec, length, out, ROOM, t);
+    assert(a.number == 0 && a.length == n);
+    check_output(n);
+    fill();
+    a = sg_clean_non_ref_paths(rec, length, out, n - 1, a.tally);
+    assert(a.number == 11 && a.length == 0);
+    a = sg_clean_non_ref_paths(rec, length - 1, out, ROOM, a.tally);
+    assert(a.number == 1);
+    check_tally(a.tally, 1, 2, 0);
+    check_output(0);
+}
+
 /* The string of the path 0, 1, 3 of the diamond. */
 static size_t reference(uint8_t *at) {
     memcpy(at, "AACTGTT", 7);
@@ -128,6 +171,8 @@ int main(void) {
     test_vertex_sequence();
     test_from_assembly_graph();
     test_simplify_graph();
+    test_cleanup_seq_graph();
+    test_clean_non_ref_paths();
     test_reference_path_bytes();
     test_path_bases_bytes();
     puts("C: each call answered and refused as it must");

@@ -50,6 +50,18 @@ static void *simplify_graph(void *unused) {
     return unused;
 }
 
+static void *cleanup_seq_graph(void *unused) {
+    sg_cleanup_answer a = sg_cleanup_seq_graph(rec, chain(SEQUENCES, 4), out, ROOM, none);
+    assert(a.number == 0 && a.status == 2);
+    return unused;
+}
+
+static void *clean_non_ref_paths(void *unused) {
+    size_t length = chain(SEQUENCES, 4);
+    assert(sg_clean_non_ref_paths(rec, length, out, ROOM, none).length == length);
+    return unused;
+}
+
 static void *reference_path_bytes(void *unused) {
     assert(sg_reference_path_bytes(rec, chain(SEQUENCES, 4), out, ROOM, none).length == 4 * VERTICES);
     return unused;
@@ -81,6 +93,8 @@ int main(void) {
     run("vertex_sequence", vertex_sequence);
     run("from_assembly_graph", from_assembly_graph);
     run("simplify_graph", simplify_graph);
+    run("cleanup_seq_graph", cleanup_seq_graph);
+    run("clean_non_ref_paths", clean_non_ref_paths);
     run("reference_path_bytes", reference_path_bytes);
     run("path_bases_bytes", path_bases_bytes);
     return 0;

@@ -27,6 +27,14 @@ pub struct SimplifyAnswer {
 }
 
 #[repr(C)]
+pub struct CleanupAnswer {
+    pub number: u32,
+    pub length: u32,
+    pub status: u32,
+    pub tally: Tally,
+}
+
+#[repr(C)]
 pub struct SequencePlace {
     pub offset: u32,
     pub length: u32,
@@ -53,6 +61,20 @@ extern "C" {
         room: usize,
         tally: Tally,
     ) -> SimplifyAnswer;
+    pub fn sg_cleanup_seq_graph(
+        record: *const u8,
+        length: usize,
+        out: *mut u8,
+        room: usize,
+        tally: Tally,
+    ) -> CleanupAnswer;
+    pub fn sg_clean_non_ref_paths(
+        record: *const u8,
+        length: usize,
+        out: *mut u8,
+        room: usize,
+        tally: Tally,
+    ) -> Answer;
     pub fn sg_reference_path_bytes(
         record: *const u8,
         length: usize,

@@ -27,6 +27,19 @@ pub struct Simplified {
     pub end: End,
 }
 
+/// What cleanup found.
+#[derive(Debug, Clone, Copy, PartialEq, Eq)]
+pub enum Status {
+    JustReference,
+    SomeVariation,
+}
+
+#[derive(Debug, Clone, Copy, PartialEq, Eq)]
+pub struct Cleaned {
+    pub length: usize,
+    pub status: Status,
+}
+
 /// A vertex's sequence in a record of either kind: the part of the record that holds it.
 pub fn vertex_sequence(record: &[u8], vertex: u32) -> Result<&[u8], Refusal> {
     let mut number = 0;
@@ -58,6 +71,26 @@ pub fn simplify_graph(record: &[u8], out: &mut [u8], tally: &mut Tally) -> Resul
     };
     let (rewrites, rounds) = (a.rewrites, a.rounds);
     answered(a.number, Simplified { length: a.length as usize, rewrites, rounds, end })
+}
+
+/// A sequence graph's record to that of the cleaned graph.
+pub fn cleanup_seq_graph(record: &[u8], out: &mut [u8], tally: &mut Tally) -> Result<Cleaned, Refusal> {
+    let (r, o, room) = (record.as_ptr(), out.as_mut_ptr(), out.len());
+    // As above.
+    let a = unsafe { ffi::sg_cleanup_seq_graph(r, record.len(), o, room, *tally) };
+    *tally = a.tally;
+    let status = if a.status == 1 { Status::JustReference } else { Status::SomeVariation };
+    answered(a.number, Cleaned { length: a.length as usize, status })
+}
+
+/// A sequence graph's record to that of the graph without what leads to the reference source or from the reference
+/// sink; the length written.
+pub fn clean_non_ref_paths(record: &[u8], out: &mut [u8], tally: &mut Tally) -> Result<usize, Refusal> {
+    let (r, o, room) = (record.as_ptr(), out.as_mut_ptr(), out.len());
+    // As above.
+    let a = unsafe { ffi::sg_clean_non_ref_paths(r, record.len(), o, room, *tally) };
+    *tally = a.tally;
+    answered(a.number, a.length as usize)
 }
 
 /// The bytes that the graph's reference path spells; the length written.

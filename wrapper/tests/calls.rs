@@ -1,8 +1,7 @@
 //! Each call once answered, once refused for want of room, once for another cause.
-use seq_graph::{
-    from_assembly_graph, path_bases_bytes, reference_path_bytes, simplify_graph, vertex_sequence,
-};
-use seq_graph::{End, Refusal, Simplified, Tally};
+use seq_graph::{clean_non_ref_paths, cleanup_seq_graph, from_assembly_graph, path_bases_bytes};
+use seq_graph::{reference_path_bytes, simplify_graph, vertex_sequence};
+use seq_graph::{Cleaned, End, Refusal, Simplified, Status, Tally};
 
 const KMERS: u8 = 0;
 const SEQUENCES: u8 = 1;
@@ -85,6 +84,34 @@ fn converts() {
     assert_eq!(from_assembly_graph(&kmers, short, &mut tally), Err(Refusal::Room));
     assert_eq!(from_assembly_graph(&diamond(), &mut out, &mut tally), Err(Refusal::Mark));
     assert_eq!(out, want);
+    assert_eq!(tally, Tally { answered: 1, refused: 2, rewrites: 0 });
+}
+
+/// Document 01's case 8, and its case 7, a graph without vertices.
+#[test]
+fn cleans() {
+    let mut want = sequence_graph(&[b"ACGT", b""], &[(0, 1, 0, 1)]);
+    want[5] = 2;
+    let (mut out, mut tally) = (vec![FILL; want.len()], Tally::default());
+    let one = sequence_graph(&[b"ACGT"], &[]);
+    let made = cleanup_seq_graph(&one, &mut out, &mut tally).unwrap();
+    assert_eq!(made, Cleaned { length: want.len(), status: Status::SomeVariation });
+    assert_eq!(out, want);
+    assert_eq!(cleanup_seq_graph(&one, &mut out[1..], &mut tally), Err(Refusal::Room));
+    let none = Cleaned { length: 32, status: Status::JustReference };
+    assert_eq!(cleanup_seq_graph(&sequence_graph(&[], &[]), &mut out, &mut tally), Ok(none));
+    assert_eq!(tally, Tally { answered: 2, refused: 1, rewrites: 0 });
+}
+
+#[test]
+fn cleans_paths() {
+    let graph = sequence_graph(&[b"G", b"A", b"C", b"T"], &[(0, 1, 3, 0), (1, 2, 5, 1), (2, 3, 3, 0)]);
+    let want = sequence_graph(&[b"A", b"C"], &[(0, 1, 5, 1)]);
+    let (mut out, mut tally) = (vec![FILL; want.len()], Tally::default());
+    assert_eq!(clean_non_ref_paths(&graph, &mut out, &mut tally), Ok(want.len()));
+    assert_eq!(out, want);
+    assert_eq!(clean_non_ref_paths(&graph, &mut out[1..], &mut tally), Err(Refusal::Room));
+    assert_eq!(clean_non_ref_paths(&graph[..31], &mut out, &mut tally), Err(Refusal::Length));
     assert_eq!(tally, Tally { answered: 1, refused: 2, rewrites: 0 });
 }
 

@@ -136,7 +136,9 @@ fn main() {
     let c0 = replay_file(b"vertex_sequence.bin", b" vertex_sequence, ", none);
     let c1 = replay_file(b"from_assembly_graph.bin", b" from_assembly_graph, ", c0);
     let c2 = replay_file(b"simplify_graph.bin", b" simplify_graph, ", c1);
-    let c5 = replay_file(b"reference_path_bytes.bin", b" reference_path_bytes, ", c2);
+    let c3 = replay_file(b"cleanup_seq_graph.bin", b" cleanup_seq_graph, ", c2);
+    let c4 = replay_file(b"clean_non_ref_paths.bin", b" clean_non_ref_paths, ", c3);
+    let c5 = replay_file(b"reference_path_bytes.bin", b" reference_path_bytes, ", c4);
     let c6 = replay_file(b"path_bases_bytes.bin", b" path_bases_bytes; ", c5);
     print_sum(c6);
 }

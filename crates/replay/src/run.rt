@@ -6,6 +6,7 @@ use crate::expected::same_output;
 use crate::expected::tally_of;
 use crate::expected::word;
 use calls::Answer;
+use calls::CleanupAnswer;
 use calls::SimplifyAnswer;
 use calls::Tally;
 
@@ -41,6 +42,18 @@ fn simplified(r: SimplifyAnswer) -> Got {
     }
 }
 
+fn cleaned(r: CleanupAnswer) -> Got {
+    let tally = r.tally;
+    Got {
+        number: r.number,
+        length: r.length,
+        field1: r.status,
+        field2: 0,
+        field3: 0,
+        tally: tally,
+    }
+}
+
 // The call of that number; a number that no case has where there is no such call.
 fn call(call: u32, start: u32, rec: &[u8], list: &[u32], out: &mut [u8], tally: Tally) -> Got {
     if call == 1 {
@@ -48,6 +61,12 @@ fn call(call: u32, start: u32, rec: &[u8], list: &[u32], out: &mut [u8], tally: 
     }
     if call == 2 {
         return simplified(sg::sg_simplify_graph(rec, out, tally));
+    }
+    if call == 3 {
+        return cleaned(sg::sg_cleanup_seq_graph(rec, out, tally));
+    }
+    if call == 4 {
+        return plain(sg::sg_clean_non_ref_paths(rec, out, tally));
     }
     if call == 5 {
         return plain(sg::sg_reference_path_bytes(rec, out, tally));

@@ -4,8 +4,11 @@ ghost use Rattle.defs.specs.Calls.{referencePathBytesResponse, pathBasesBytesRe
 ghost use Rattle.calls.specs.Answers.{Responds};
 ghost use Rattle.simplify_graph.specs.Simplifies.{Simplifies};
 ghost use Rattle.from_assembly_graph.specs.Converts.{Converts};
+ghost use Rattle.cleanup_seq_graph.specs.Cleans.{Cleans};
+ghost use Rattle.clean_non_ref_paths.specs.CleansPaths.{CleansPaths};
 ghost use Rattle.vertex_sequence.specs.Handed.{Placed};
 use calls::Answer;
+use calls::CleanupAnswer;
 use calls::SimplifyAnswer;
 use calls::Tally;
 use vertex_sequence::SequencePlace;
@@ -29,6 +32,20 @@ pub extern "C" fn sg_simplify_graph(rec: &[u8], out: &mut [u8], tally: Tally) ->
     ensures { λ r. ⌜ Simplifies (now (rec .entry)) (now (out .entry)) tally r (now (out .exit)) ⌝ }
 {
     simplify_graph::simplify_graph(rec, out, tally)
+}
+
+#[no_mangle]
+pub extern "C" fn sg_cleanup_seq_graph(rec: &[u8], out: &mut [u8], tally: Tally) -> CleanupAnswer
+    ensures { λ r. ⌜ Cleans (now (rec .entry)) (now (out .entry)) tally r (now (out .exit)) ⌝ }
+{
+    cleanup_seq_graph::cleanup_seq_graph(rec, out, tally)
+}
+
+#[no_mangle]
+pub extern "C" fn sg_clean_non_ref_paths(rec: &[u8], out: &mut [u8], tally: Tally) -> Answer
+    ensures { λ r. ⌜ CleansPaths (now (rec .entry)) (now (out .entry)) tally r (now (out .exit)) ⌝ }
+{
+    clean_non_ref_paths::clean_non_ref_paths(rec, out, tally)
 }
 
 #[no_mangle]
