@@ -2,7 +2,7 @@
 """Writes the benchmark's records to standard output, for oracle's program `bench`. The same on every run.
 
 Each is a frame (four bytes of length, then that many bytes, little-endian): the call in four bytes (1 conversion,
-2 simplification), 1 in four bytes where the Rust takes minutes, else 0, the length of the name in four bytes, the
+2 simplification, 3 cleanup), 1 in four bytes where the Rust takes minutes, else 0, the length of the name in four bytes, the
 name, and the record.
 """
 import os
@@ -20,7 +20,7 @@ import limits  # noqa: E402
 import sgr1  # noqa: E402
 from model import outcome_of  # noqa: E402
 
-CONVERT, SIMPLIFY = sgr1.FROM_ASSEMBLY_GRAPH, sgr1.SIMPLIFY_GRAPH
+CONVERT, SIMPLIFY, CLEAN_UP = sgr1.FROM_ASSEMBLY_GRAPH, sgr1.SIMPLIFY_GRAPH, sgr1.CLEANUP_SEQ_GRAPH
 SLOW = 1
 
 
@@ -46,6 +46,7 @@ def kmer_records():
         name = "haplotypes, k %d, %d k-mers" % (k, vertices)
         yield CONVERT, 0, name, kmers
         yield SIMPLIFY, 0, name, converted
+        yield CLEAN_UP, 0, name, converted
 
 
 def dense(vertices, edges, letters, longest):

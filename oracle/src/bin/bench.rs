@@ -8,10 +8,10 @@
 //! The argument `quick` leaves the Rust out where it takes minutes. With `whole` the Rust's time is also from record
 //! to record: its graph is built from the record, by its own functions, and written.
 use oracle::case::{read_frame, words, Answer, Case, Tally};
-use oracle::oracle::FROM_ASSEMBLY_GRAPH;
+use oracle::oracle::{CLEANUP_SEQ_GRAPH, FROM_ASSEMBLY_GRAPH, SIMPLIFY_GRAPH};
 use oracle::ours;
 use oracle::record::{assembly_graph, seq_graph, write};
-use oracle::seq_graph::SeqGraph;
+use oracle::seq_graph::{SeqGraph, SeqGraphCleanupStatus};
 use oracle::seq_graph_simplify::simplify_graph_full;
 use std::env::args;
 use std::io::{self, BufReader};
@@ -87,14 +87,36 @@ fn time_ours(record: &Record) -> ((f64, usize), Answer, Vec<u8>) {
     (time, answer, out)
 }
 
-/// The Rust's time and what its graph is as a record. `whole`: its graph is built and written in the time.
+/// Simplifies or cleans; the status of what is written then.
+fn work(call: u32, graph: &mut SeqGraph) -> u8 {
+    if call == SIMPLIFY_GRAPH {
+        simplify_graph_full(graph);
+        return 0;
+    }
+    match graph.cleanup_seq_graph() {
+        SeqGraphCleanupStatus::JustAssembledReference => 1,
+        SeqGraphCleanupStatus::AssembledSomeVariation => 2,
+    }
+}
+
+/// The Rust from record to record.
+fn rust_record(record: &Record) -> Vec<u8> {
+    if record.call == FROM_ASSEMBLY_GRAPH {
+        return write(&SeqGraph::from_assembly_graph(&assembly_graph(&record.bytes)), 0);
+    }
+    let mut graph = seq_graph(&record.bytes);
+    let status = work(record.call, &mut graph);
+    write(&graph, status)
+}
+
+/// The Rust's time and the record it makes. `whole`: its graph is built and written in the time.
 fn time_rust(record: &Record, whole: bool) -> ((f64, usize), Vec<u8>) {
     let mut bytes = vec![];
     if whole {
-        let time = median(|| timed(|| bytes = write(&rust_graph(record), 0)));
+        let time = median(|| timed(|| bytes = rust_record(record)));
         return (time, bytes);
     }
-    let mut last = None;
+    let (mut last, mut status) = (None, 0);
     let time = if record.call == FROM_ASSEMBLY_GRAPH {
         let graph = assembly_graph(&record.bytes);
         median(|| timed(|| last = Some(SeqGraph::from_assembly_graph(&graph))))
@@ -102,21 +124,12 @@ fn time_rust(record: &Record, whole: bool) -> ((f64, usize), Vec<u8>) {
         let graph = seq_graph(&record.bytes);
         median(|| {
             let mut copy = graph.clone();
-            let time = timed(|| simplify_graph_full(&mut copy));
+            let time = timed(|| status = work(record.call, &mut copy));
             last = Some(copy);
             time
         })
     };
-    (time, write(&last.expect("a run"), 0))
-}
-
-fn rust_graph(record: &Record) -> SeqGraph {
-    if record.call == FROM_ASSEMBLY_GRAPH {
-        return SeqGraph::from_assembly_graph(&assembly_graph(&record.bytes));
-    }
-    let mut graph = seq_graph(&record.bytes);
-    simplify_graph_full(&mut graph);
-    graph
+    (time, write(&last.expect("a run"), status))
 }
 
 fn print_head(whole: bool) {
@@ -148,8 +161,12 @@ fn main() -> io::Result<()> {
             assert!(made == bytes, "{}: the answers differ", record.name);
             (format!("{:>11.3} {:>4}", 1000.0 * time.0, time.1), format!("{:>7.1}", time.0 / mine.0))
         };
-        let what = if record.call == FROM_ASSEMBLY_GRAPH { "convert " } else { "simplify" };
-        let (ms, runs, [rewrites, rounds, _]) = (1000.0 * mine.0, mine.1, answer.fields);
+        let (what, rounds) = match record.call {
+            FROM_ASSEMBLY_GRAPH => ("convert ", "-".to_string()),
+            CLEANUP_SEQ_GRAPH => ("clean up", "-".to_string()),
+            _ => ("simplify", answer.fields[1].to_string()),
+        };
+        let (ms, runs, rewrites) = (1000.0 * mine.0, mine.1, answer.tally.rewrites);
         println!("{what} {:<37} {ms:>9.3} {runs:>4} {theirs} {ratio} {rewrites:>8} {rounds:>6}", record.name);
     }
     Ok(())
