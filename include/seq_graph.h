@@ -2,10 +2,11 @@
  * The sequence graph's calls, from libsg.a (`rt staticlib sg` writes target/staticlib/libsg.a).
  *
  * A record is read from `record` and `length`. A call that makes a record or a string writes it to `out`, of which `room` bytes
- * are lent: the first `length` bytes of the answer are written and no others; a refused call writes none. Nothing is asked
- * of the bytes, and every call returns. No pointer may be null, also where its length is 0, and what is lent to be
- * written may not overlap what is read. A call keeps nothing, and two may run at once on different memory. A thread
- * of 2 MiB of stack is enough for each.
+ * are lent: the first `length` bytes of the answer are written and no others; a refused call writes none. 176,160 bytes of room
+ * hold every answer. Nothing is asked of the bytes, and every call returns.
+ *
+ * No pointer may be null, also where its length is 0, and what is lent to be written may not overlap what is read. A call keeps
+ * nothing, and two may run at once on different memory. A thread of 2 MiB of stack is enough for each.
  *
  * `number` is 0, or why the call was refused; all other fields of the answer but the tally are 0 then:
  *
