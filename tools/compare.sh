@@ -25,5 +25,5 @@ if [ -n "$calls" ]; then
     rt staticlib sg
 fi
 cargo build --quiet --release --offline --manifest-path oracle/Cargo.toml
-echo "calls of our library: ${calls:-none}"
+echo "calls of our library:" ${calls:-none}
 tools/make_cases.py "$@" | "${CARGO_TARGET_DIR:-oracle/target}/release/compare"
