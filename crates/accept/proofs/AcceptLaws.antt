@@ -91,7 +91,7 @@ module _ (bs : List ℕ) {heads nexts : List ℕ} where
 
       module _ {d : Bool} (a : d ≡ doubledEdge (edgesIn (h .m) es′)) (t : d ≡ false) {c : Bool} (C : HasCycle (h .m) (h .n) es′ c) where
         cycle-is : hasCycle (decode bs) ≡ c
-        cycle-is = ap hasCycle (sym (L .is)) ∙ sym (C .is (h .k) vs′ p′)
+        cycle-is = ap hasCycle (sym (L .is)) ∙ sym (C .is (h .k .0) vs′ p′)
 
         pub read-7 : {r : Read} → c ≡ true → r .number ≡ 7 → {es₂ vs₂ p₂ : List ℕ} → ReadAs bs heads nexts r es₂ vs₂ p₂
         read-7 s q = record { number = q ∙ sym (refused-7 sequenceOnly bs layout (doubled-is ∙ sym a ∙ t) (cycle-is ∙ s)); is = λ y. absurd (omega arith); holds = λ y. absurd (omega arith) }

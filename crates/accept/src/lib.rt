@@ -16,7 +16,7 @@ pub fn refuse(number: u32) -> Read
     ensures { λ r. ⌜ r .number ≡ number ⌝ }
 {
     let held = Held {
-        k: 0,
+        k: kmer::least(),
         n: 0,
         m: 0,
         used: 0,

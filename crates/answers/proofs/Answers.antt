@@ -120,10 +120,10 @@ module _ (bs : List ℕ) (small : Bytes bs) (ok : recordRefusal sequenceOnly bs 
   pub decoded-narrow : Narrow (decode bs)
   decoded-narrow = limits-narrow (decode bs) (accepted-good sequenceOnly bs ok) (accepted-limits sequenceOnly bs ok (accepted-kind bs ok))
 
-  pub k-small : kOf bs ≤ 128
+  k-small : kOf bs ≤ 128
   k-small = (accepted-layout sequenceOnly bs ok) .k-most
 
-  pub simplified-fields : Fields (kOf bs) ((simplifyGraphFull 10 (decode bs)) .graph)
+  simplified-fields : Fields (kOf bs) ((simplifyGraphFull 10 (decode bs)) .graph)
   simplified-fields = simplify-fields (decode bs) decoded-fields
 
   pub simplify-read-back : (status : ℕ) → decode (encode sequenceGraph status ((simplifyGraphFull 10 (decode bs)) .graph)) ≡ (simplifyGraphFull 10 (decode bs)) .graph
@@ -131,14 +131,14 @@ module _ (bs : List ℕ) (small : Bytes bs) (ok : recordRefusal sequenceOnly bs 
       let N = simplify-narrow (decode bs) decoded-narrow in
       decode-encode sequenceGraph status _ (fields-encodable _ k-small simplified-fields (narrow-fits _ N) (N .few))
 
-  pub cleaned-fields : Fields (kOf bs) ((cleanupSeqGraph (decode bs)) .graph)
+  cleaned-fields : Fields (kOf bs) ((cleanupSeqGraph (decode bs)) .graph)
   cleaned-fields = cleanup-fields (decode bs) decoded-fields
 
   pub cleanup-read-back : (status : ℕ) → decode (encode sequenceGraph status ((cleanupSeqGraph (decode bs)) .graph)) ≡ (cleanupSeqGraph (decode bs)) .graph
   cleanup-read-back status =
       decode-encode sequenceGraph status _ (fields-encodable _ k-small cleaned-fields (cleanup-fits (decode bs) decoded-narrow) (cleanup-bytes (decode bs) decoded-narrow))
 
-  pub clean-paths-fields : Fields (kOf bs) (cleanNonRefPaths (decode bs))
+  clean-paths-fields : Fields (kOf bs) (cleanNonRefPaths (decode bs))
   clean-paths-fields = clean-fields (decode bs) decoded-fields
 
   pub clean-paths-read-back : Narrow (cleanNonRefPaths (decode bs)) → (status : ℕ) → decode (encode sequenceGraph status (cleanNonRefPaths (decode bs))) ≡ cleanNonRefPaths (decode bs)

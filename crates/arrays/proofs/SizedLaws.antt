@@ -30,10 +30,10 @@ module _ {es vs p heads nexts nodes mp : List ℕ} (Z : SizedGraph es vs p heads
   sized-read = (sized-room refl refl refl refl refl refl refl, record { vertices = omega (arith, Z .heads-is); edges = omega (arith, Z .heads-is, Z .nexts-is) })
 
   -- the record of what is held can be written where it fits
-  pub sized-sendable : (status : ℕ) → status < 256 → {h : Held} {es′ vs′ p′ : List ℕ} → h .k < 65536 → Holds h es′ vs′ p′ heads nexts → length es′ ≡ length es → length vs′ ≡ length vs → length p′ ≡ length p
+  pub sized-sendable : (status : ℕ) → status < 256 → {h : Held} {es′ vs′ p′ : List ℕ} → Holds h es′ vs′ p′ heads nexts → length es′ ≡ length es → length vs′ ≡ length vs → length p′ ≡ length p
       → Sendable status h es′ vs′ p′
-  sized-sendable status s k H a b c =
-      held-sendable status s k (omega (arith, Z .heads-is)) (omega (arith, Z .nexts-is)) (sized-room {heads′ = heads} {nexts′ = nexts} {nodes′ = nodes} {mp′ = mp} a b c refl refl refl refl) H
+  sized-sendable status s H a b c =
+      held-sendable status s (omega (arith, Z .heads-is)) (omega (arith, Z .nexts-is)) (sized-room {heads′ = heads} {nexts′ = nexts} {nodes′ = nodes} {mp′ = mp} a b c refl refl refl refl) H
 
 module _ {es vs p heads nexts nodes mp starts tried sig : List ℕ} (Z : Sized es vs p heads nexts nodes mp starts tried sig) where
   pub sized-simplifiable : {h : Held} {es′ vs′ p′ heads′ nexts′ nodes′ mp′ : List ℕ} → Holds h es′ vs′ p′ heads nexts

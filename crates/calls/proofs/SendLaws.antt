@@ -19,14 +19,13 @@ use Rattle.write_record.proofs.WriteLaws.{bytes-are, encode-length}
 use Rattle.calls.specs.declared.Sent.{Sent}
 
 -- a held graph whose counts fit 16 bits
-pub held-sendable : {h : Held} {es vs p heads nexts nodes mp : List ℕ} (status : ℕ) → status < 256 → h .k < 65536 → vertexRoom heads < 65536 → edgeRoom nexts < 65536 → Room es vs p heads nexts nodes mp → Holds h es vs p heads nexts
+pub held-sendable : {h : Held} {es vs p heads nexts nodes mp : List ℕ} (status : ℕ) → status < 256 → vertexRoom heads < 65536 → edgeRoom nexts < 65536 → Room es vs p heads nexts nodes mp → Holds h es vs p heads nexts
     → Sendable status h es vs p
-held-sendable {h} {es} {vs} {p} {heads} {nexts} status s k v e R H = record {
+held-sendable {h} {es} {vs} {p} {heads} {nexts} status s v e R H = record {
   measured = measured;
   within = within;
   writable = λ out room. record {
     status-fits = s;
-    k-fits = k;
     n-fits = omega (arith, held-vertices H, v);
     m-fits = omega (arith, held-edges H, e);
     lengths-fit = λ u b. omega (arith, H .within .at u b, H .used-room, v);
@@ -42,7 +41,7 @@ held-sendable {h} {es} {vs} {p} {heads} {nexts} status s k v e R H = record {
     within = record { at = λ u b. omega (arith, H .within .at u b, H .used-room, R .p-room) }
 
     few : bytesIn (h .n) vs ≤ vertexRoom heads
-    few = rw (bytes-are status (h .k) (h .n) (h .m) es vs p within) at (fit-bytes (H .fit))
+    few = rw (bytes-are status (h .k .0) (h .n) (h .m) es vs p within) at (fit-bytes (H .fit))
 
     measured : Measured h vs
     measured = record { vs-room = omega (arith, held-vertices H, R .vs-room); small = omega (arith, held-vertices H, held-edges H, few, v, e) }
@@ -52,7 +51,7 @@ module _ {status : ℕ} {h : Held} {es vs p : List ℕ} (S : Sendable status h e
   result = encode sequenceGraph status (graphOf h es vs p)
 
   long : length result ≡ size
-  long = encode-length status (h .k) (h .n) (h .m) es vs p (S .within) ∙ sym q
+  long = encode-length status (h .k .0) (h .n) (h .m) es vs p (S .within) ∙ sym q
 
   as-fits : {x : Response} → fits (length out) result ≡ x → {r : Sent} {out′ : List ℕ} → r .number ≡ numberOf x → r .length ≡ lengthOf x → out′ ≡ writtenOf x out → Sends result out r out′
   as-fits e a b c = record { number = a ∙ ap numberOf (sym e); size = b ∙ ap lengthOf (sym e); written = c ∙ ap (λ (x : Response). writtenOf x out) (sym e) }

@@ -144,9 +144,9 @@ module _ (h : Held) (s t : ℕ) {es es₁ es₂ : List ℕ} {a b : ℕ} (A : Edg
   pub left-is : (vs p : List ℕ) → graphOf left es₂ vs p ≡ withoutNonRefEdges (graphOf h es vs p) s t
   unfolding withoutNonRefEdges
   left-is vs p = λ i. record {
-    k = h .k;
+    k = h .k .0;
     verts = (graphOf h es vs p) .verts;
-    edges = (B .is (h .k) vs p ∙ both-walks (graphOf h es vs p) (graphIn (h .k) (h .n) a es₁ vs p) s t refl (A .is (h .k) vs p)) i;
+    edges = (B .is (h .k .0) vs p ∙ both-walks (graphOf h es vs p) (graphIn (h .k .0) (h .n) a es₁ vs p) s t refl (A .is (h .k .0) vs p)) i;
   }
 
   pub left-compactable : {vs mp : List ℕ} → Compactable (h .n) (h .m) es vs mp → length es₂ ≡ length es → EndsBelow (h .n) b es₂ → Compactable (h .n) b es₂ vs mp
@@ -171,13 +171,13 @@ untouched h E same = record { is = λ p. sym (same p); most-n = omega arith; mos
 module _ (h : Held) (es vs : List ℕ) {s : ℕ} (F : FirstSource (h .m) (h .n) es s) where
   pub no-source : h .n ≤ s → (p : List ℕ) → cleanNonRefPaths (graphOf h es vs p) ≡ graphOf h es vs p
   unfolding cleanNonRefPaths cleanBetween
-  no-source l p = rw (F .missing l (h .k) vs p)
+  no-source l p = rw (F .missing l (h .k .0) vs p)
 
   module _ (k : s < h .n) {t : ℕ} (T : FirstSink (h .m) (h .n) es t) where
     pub no-sink : h .n ≤ t → (p : List ℕ) → cleanNonRefPaths (graphOf h es vs p) ≡ graphOf h es vs p
     unfolding cleanNonRefPaths cleanBetween
-    no-sink l p = rw (F .found k (h .k) vs p, T .missing l (h .k) vs p)
+    no-sink l p = rw (F .found k (h .k .0) vs p, T .missing l (h .k .0) vs p)
 
     pub chosen-is : t < h .n → (p : List ℕ) → removeSingletonOrphanVertices (withoutNonRefEdges (graphOf h es vs p) s t) ≡ cleanNonRefPaths (graphOf h es vs p)
     unfolding cleanNonRefPaths cleanBetween
-    chosen-is l p = rw (F .found k (h .k) vs p, T .found l (h .k) vs p)
+    chosen-is l p = rw (F .found k (h .k .0) vs p, T .found l (h .k .0) vs p)

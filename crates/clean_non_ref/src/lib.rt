@@ -86,8 +86,9 @@ fn clean_between(
     let n = held.n;
     let a = drop_edges(es, held.m, n, heads, nexts, 1, s, nodes, tried);
     let b = drop_edges(es, a, n, heads, nexts, 0, t, nodes, tried);
+    let kmer_size = held.k;
     let left = Held {
-        k: held.k,
+        k: kmer_size,
         n: n,
         m: b,
         used: held.used,

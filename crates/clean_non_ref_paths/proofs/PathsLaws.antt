@@ -13,7 +13,7 @@ use Rattle.defs.specs.Calls as D
 use Rattle.defs.specs.Calls.{refused, accepted, numberOf, lengthOf, fits, cleanNonRefPathsResponse, cleanNonRefPathsAnswer}
 use Rattle.laws.proofs.Bound.{Fits}
 use Rattle.laws.proofs.Room.{Narrow, narrow-fits}
-use Rattle.answers.proofs.Answers.{Bytes, decoded-narrow, k-small, clean-paths-fields, clean-paths-read-back}
+use Rattle.answers.proofs.Answers.{Bytes, decoded-narrow, clean-paths-read-back}
 use Rattle.compact.specs.Compact.{Compactable}
 use Rattle.index.specs.Index.{Indexable}
 use Rattle.memory.specs.Memory.{graphOf}
@@ -117,9 +117,6 @@ module _ {bs heads nexts : List ℕ} {m : Read} {es vs p : List ℕ} (M : MadeOf
   module _ (small : Bytes bs) (ok : m .number ≡ 0) where
     none : recordRefusal sequenceOnly bs ≡ 0
     none = sym (M .number) ∙ ok
-
-    pub made-k : m .held .k < 65536
-    made-k = omega (arith, ap (λ (g : Graph). g .k) (M .is ok), (clean-paths-fields bs small none) .k-is, k-small bs small none)
 
     module _ {out out′ : List ℕ} {s : Sent} (S : Sends (encode sequenceGraph 0 (graphOf (m .held) es vs p)) out s out′) where
       sends : Sends (encode sequenceGraph 0 (cleanNonRefPaths (decode bs))) out s out′

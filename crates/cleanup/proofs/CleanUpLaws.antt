@@ -120,17 +120,17 @@ module _ (w : Work) {es vs p heads nexts : List ℕ} (H : HoldsLean (w .held) es
 
   pub after-no-source : {s : ℕ} {r : CleanedUp} → FirstSource (w .held .m) (w .held .n) es s → w .held .n ≤ s → r ≡ uncleaned w
       → After w (referenceSourceVertex (graphOf (w .held) es vs p)) (referenceSinkVertex (graphOf (w .held) es vs p)) es vs p heads nexts r es vs p
-  after-no-source F l q = rw (q, F .missing l (w .held .k) vs p) (plain-after none _ refl)
+  after-no-source F l q = rw (q, F .missing l (w .held .k .0) vs p) (plain-after none _ refl)
 
   pub after-no-sink : {s t : ℕ} {r : CleanedUp} → FirstSource (w .held .m) (w .held .n) es s → s < w .held .n → FirstSink (w .held .m) (w .held .n) es t → w .held .n ≤ t → r ≡ uncleaned w
       → After w (referenceSourceVertex (graphOf (w .held) es vs p)) (referenceSinkVertex (graphOf (w .held) es vs p)) es vs p heads nexts r es vs p
   unfolding afterChoice
-  after-no-sink {s} F k T l q = rw (q, F .found k (w .held .k) vs p, T .missing l (w .held .k) vs p) (plain-after (some s) none refl)
+  after-no-sink {s} F k T l q = rw (q, F .found k (w .held .k .0) vs p, T .missing l (w .held .k .0) vs p) (plain-after (some s) none refl)
 
 pub after-chosen : {w : Work} {es vs p heads nexts : List ℕ} {s t : ℕ} {r : CleanedUp} {es′ vs′ p′ : List ℕ} → FirstSource (w .held .m) (w .held .n) es s → s < w .held .n → FirstSink (w .held .m) (w .held .n) es t → t < w .held .n
     → After w (some s) (some t) es vs p heads nexts r es′ vs′ p′
     → After w (referenceSourceVertex (graphOf (w .held) es vs p)) (referenceSinkVertex (graphOf (w .held) es vs p)) es vs p heads nexts r es′ vs′ p′
-after-chosen {w} {es} {vs} {p} F k T l A = rw (F .found k (w .held .k) vs p, T .found l (w .held .k) vs p) A
+after-chosen {w} {es} {vs} {p} F k T l A = rw (F .found k (w .held .k .0) vs p, T .found l (w .held .k .0) vs p) A
 
 -- ---- the whole
 

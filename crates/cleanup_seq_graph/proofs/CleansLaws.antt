@@ -15,7 +15,7 @@ use Rattle.laws.proofs.Bound.{Fits}
 use Rattle.laws.proofs.Room.{cleanup-fits}
 use Rattle.laws.proofs.Cleaned.{cleanup-varies, cleanup-plain}
 use Rattle.sound.proofs.Accepted.{accepted-good}
-use Rattle.answers.proofs.Answers.{Bytes, decoded-narrow, k-small, cleaned-fields, cleanup-read-back}
+use Rattle.answers.proofs.Answers.{Bytes, decoded-narrow, cleanup-read-back}
 use Rattle.memory.specs.Memory.{graphOf}
 use Rattle.memory.proofs.RoomLaws.{holds-kept}
 use Rattle.accept.specs.Accept.{ReadAs}
@@ -155,9 +155,6 @@ module _ {bs heads nexts : List ℕ} {m : Made} {es vs p : List ℕ} (M : MadeOf
   module _ (small : Bytes bs) (ok : m .number ≡ 0) where
     none : recordRefusal sequenceOnly bs ≡ 0
     none = sym (M .number) ∙ ok
-
-    pub made-k : m .cleaned .held .k < 65536
-    made-k = omega (arith, ap (λ (g : Graph). g .k) (M .answers ok .graph), (cleaned-fields bs small none) .k-is, k-small bs small none)
 
     module _ {out out′ : List ℕ} {s : Sent} (S : Sends (encode sequenceGraph (m .cleaned .status) (graphOf (m .cleaned .held) es vs p)) out s out′) where
       abbrev made : List ℕ

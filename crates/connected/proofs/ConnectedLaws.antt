@@ -79,14 +79,14 @@ reduced-same h E same = record { is = λ p. sym (same p); most-n = omega arith; 
 
 pub no-source-stays : (h : Held) (es vs : List ℕ) {s : ℕ} → FirstSource (h .m) (h .n) es s → h .n ≤ s → (p : List ℕ) → removeVerticesNotConnectedToRef (graphOf h es vs p) ≡ graphOf h es vs p
 unfolding removeVerticesNotConnectedToRef
-no-source-stays h es vs F l p = rw (F .missing l (h .k) vs p, removeVerticesNotConnectedToRef)
+no-source-stays h es vs F l p = rw (F .missing l (h .k .0) vs p, removeVerticesNotConnectedToRef)
 
 module _ (h : Held) (es vs : List ℕ) (E : EndsBelow (h .n) (h .m) es) (mp : List ℕ) (clear : (v : ℕ) → v < h .n → getD mp v 0 ≡ 0) where
   stays : (v : ℕ) → v < h .n → unmarked mp v ≡ true
   stays v b = eq-eqb (getD mp v 0) 0 (clear v b)
 
   below : (p : List ℕ) (v : ℕ) → v < nodeCount (graphOf h es vs p) → v < h .n
-  below p v l = omega (arith, l, order-in (h .k) (h .n) (h .m) es vs p)
+  below p v l = omega (arith, l, order-in (h .k .0) (h .n) (h .m) es vs p)
 
   pub connected-stay : {s : ℕ} {mp′ : List ℕ} → FirstSource (h .m) (h .n) es s → s < h .n → Unreached 2 (h .m) (h .n) es s mp mp′
       → (p : List ℕ) → compactVertices (unmarked mp′) (graphOf h es vs p) ≡ removeVerticesNotConnectedToRef (graphOf h es vs p)
@@ -94,9 +94,9 @@ module _ (h : Held) (es vs : List ℕ) (E : EndsBelow (h .n) (h .m) es) (mp : Li
   connected-stay {s} {mp′} F l U p =
       let g = graphOf h es vs p in
       restrict-same (unmarked mp′) (λ (v : ℕ). elemOf v (reached either g s)) g
-      (λ v b. U .at (h .k) vs p v (below p v b) ∙ ap (λ (x : Bool). x && elemOf v (reached either g s)) (stays v (below p v b)))
-      (bounded-in {es = es} E (h .k) vs p)
-      ∙ rw (F .found l (h .k) vs p, removeVerticesNotConnectedToRef)
+      (λ v b. U .at (h .k .0) vs p v (below p v b) ∙ ap (λ (x : Bool). x && elemOf v (reached either g s)) (stays v (below p v b)))
+      (bounded-in {es = es} E (h .k .0) vs p)
+      ∙ rw (F .found l (h .k .0) vs p, removeVerticesNotConnectedToRef)
 
   pub paths-stay : {s t : ℕ} {mp₁ mp₂ : List ℕ} → Unreached 0 (h .m) (h .n) es s mp mp₁ → Unreached 1 (h .m) (h .n) es t mp₁ mp₂
       → (p : List ℕ) → compactVertices (unmarked mp₂) (graphOf h es vs p) ≡ removePathsNotConnectedToRef (graphOf h es vs p) s t
@@ -104,9 +104,9 @@ module _ (h : Held) (es vs : List ℕ) (E : EndsBelow (h .n) (h .m) es) (mp : Li
   paths-stay {s} {t} {mp₁} {mp₂} A B p =
       let g = graphOf h es vs p in
       restrict-same (unmarked mp₂) (λ (v : ℕ). elemOf v (reached forward g s) && elemOf v (reached backward g t)) g
-      (λ v b. B .at (h .k) vs p v (below p v b)
-      ∙ ap (λ (x : Bool). x && elemOf v (reached backward g t)) (A .at (h .k) vs p v (below p v b) ∙ ap (λ (x : Bool). x && elemOf v (reached forward g s)) (stays v (below p v b))))
-      (bounded-in {es = es} E (h .k) vs p)
+      (λ v b. B .at (h .k .0) vs p v (below p v b)
+      ∙ ap (λ (x : Bool). x && elemOf v (reached backward g t)) (A .at (h .k .0) vs p v (below p v b) ∙ ap (λ (x : Bool). x && elemOf v (reached forward g s)) (stays v (below p v b))))
+      (bounded-in {es = es} E (h .k .0) vs p)
 
 pub compactable-kept : {n m : ℕ} {es vs mp mp′ : List ℕ} → Compactable n m es vs mp → length mp′ ≡ length mp → Compactable n m es vs mp′
 compactable-kept C q = record { es-room = C .es-room; vs-room = C .vs-room; mp-room = omega (arith, C .mp-room); small = C .small; ends = C .ends }

@@ -157,10 +157,10 @@ module _ {bs es vs p heads nexts order scratch place sorted : List ℕ} (R : Roo
         within = record { at = λ v b. omega (arith, held .within .at v b, held .used-room) }
 
         graph-is : graphOf (r .held) sorted′ vs″ p′ ≡ fromAssemblyGraph (decode bs)
-        graph-is = converted (r .held .k) p′ within (separate held) (held .ordered) T S ∙ ap fromAssemblyGraph (held .is)
+        graph-is = converted (r .held .k .0) p′ within (separate held) (held .ordered) T S ∙ ap fromAssemblyGraph (held .is)
 
         bytes-is : sequenceBytes ((fromAssemblyGraph (decode bs)) .verts) ≡ bytesIn (r .held .n) vs″
-        bytes-is = ap (λ (g : Graph). sequenceBytes (g .verts)) (sym graph-is) ∙ bytes-are 0 (r .held .k) (r .held .n) (r .held .m) sorted′ vs″ p′ (T .within (length p′) within)
+        bytes-is = ap (λ (g : Graph). sequenceBytes (g .verts)) (sym graph-is) ∙ bytes-are 0 (r .held .k .0) (r .held .n) (r .held .m) sorted′ vs″ p′ (T .within (length p′) within)
 
         module _ {b : ℕ} (q : b ≡ bytesIn (r .held .n) vs″) where
           pub over : 8192 < b → {c : Converted} {es₂ vs₂ p₂ : List ℕ} → c .number ≡ 8 → ConvertedAs bs c es₂ vs₂ p₂
@@ -179,7 +179,6 @@ module _ {bs es vs p heads nexts order scratch place sorted : List ℕ} (R : Roo
               within = inside;
               writable = λ out enough. record {
                 status-fits = omega arith;
-                k-fits = omega (arith, held .k-most);
                 n-fits = omega (arith, held .vertices);
                 m-fits = omega (arith, held .edges);
                 lengths-fit = λ v c. omega (arith, bytes-below (r .held .n) v vs″ c);

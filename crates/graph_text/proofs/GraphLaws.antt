@@ -105,7 +105,7 @@ end-back full = refl
 -- ---- the whole
 
 module _ {h : Held} {es vs pool text : List ℕ} (P : Printable h es vs pool text) where
-  vertices-are : concat (tab (h .n) (λ (v : ℕ). vertexLine v (seqIn vs pool v))) ≡ concat (tab (nodeCount (graphIn (h .k) (h .n) (h .m) es vs pool)) (λ (v : ℕ). vertexLine v (vertexSequence (graphIn (h .k) (h .n) (h .m) es vs pool) v)))
+  vertices-are : concat (tab (h .n) (λ (v : ℕ). vertexLine v (seqIn vs pool v))) ≡ concat (tab (nodeCount (graphIn (h .k .0) (h .n) (h .m) es vs pool)) (λ (v : ℕ). vertexLine v (vertexSequence (graphIn (h .k .0) (h .n) (h .m) es vs pool) v)))
   unfolding nodeCount vertexSequence
   vertices-are =
       ap concat (tab-ext (h .n) (λ (v : ℕ). vertexLine v (seqIn vs pool v)) (λ (v : ℕ). vertexLine v (getD (tab (h .n) (seqIn vs pool)) v [])) (λ v b. ap (vertexLine v) (sym (getD-tab (h .n) (seqIn vs pool) v [] b))))
@@ -114,10 +114,10 @@ module _ {h : Held} {es vs pool text : List ℕ} (P : Printable h es vs pool tex
   edges-are : concat (tab (h .m) (λ (i : ℕ). edgeLine (edgeIn es i))) ≡ concat (map edgeLine (tab (h .m) (edgeIn es)))
   edges-are = ap concat (sym (map-tab edgeLine (h .m) (edgeIn es)))
 
-  first-is : {b : ℕ} → b ≡ bytesIn (h .n) vs → firstLine (h .k) (h .n) (h .m) b ≡ firstLine (h .k) (length (tab (h .n) (seqIn vs pool))) (length (tab (h .m) (edgeIn es))) (sequenceBytes (tab (h .n) (seqIn vs pool)))
-  first-is q = λ i. firstLine (h .k) (sym (length-tab (h .n) (seqIn vs pool)) i) (sym (length-tab (h .m) (edgeIn es)) i) ((q ∙ sym (bytes-are 0 (h .k) (h .n) (h .m) es vs pool (P .within))) i)
+  first-is : {b : ℕ} → b ≡ bytesIn (h .n) vs → firstLine (h .k .0) (h .n) (h .m) b ≡ firstLine (h .k .0) (length (tab (h .n) (seqIn vs pool))) (length (tab (h .m) (edgeIn es))) (sequenceBytes (tab (h .n) (seqIn vs pool)))
+  first-is q = λ i. firstLine (h .k .0) (sym (length-tab (h .n) (seqIn vs pool)) i) (sym (length-tab (h .m) (edgeIn es)) i) ((q ∙ sym (bytes-are 0 (h .k .0) (h .n) (h .m) es vs pool (P .within))) i)
 
-  pub graph-put : (rewrites rounds end : ℕ) {b r₁ r₂ r₃ r₄ : ℕ} {t₁ t₂ t₃ t₄ : List ℕ} → b ≡ bytesIn (h .n) vs → Put 87 (firstLine (h .k) (h .n) (h .m) b) text 0 r₁ t₁ → Put 51 (secondLine rewrites rounds (endOf end)) t₁ r₁ r₂ t₂
+  pub graph-put : (rewrites rounds end : ℕ) {b r₁ r₂ r₃ r₄ : ℕ} {t₁ t₂ t₃ t₄ : List ℕ} → b ≡ bytesIn (h .n) vs → Put 87 (firstLine (h .k .0) (h .n) (h .m) b) text 0 r₁ t₁ → Put 51 (secondLine rewrites rounds (endOf end)) t₁ r₁ r₂ t₂
       → Put (verticesMost (h .n) vs) (concat (tab (h .n) (λ (v : ℕ). vertexLine v (seqIn vs pool v)))) t₂ r₂ r₃ t₃ → Put (37 * h .m) (concat (tab (h .m) (λ (i : ℕ). edgeLine (edgeIn es i)))) t₃ r₃ r₄ t₄
       → Put (graphMost h vs) (printedGraph (simplifiedIn h rewrites rounds end es vs pool)) text 0 r₄ t₄
   unfolding printedGraph nodeCount

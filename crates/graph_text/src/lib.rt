@@ -7,14 +7,15 @@ ghost use Rattle.store.specs.Store.{isSet, edgeIn, seqIn};
 ghost use Rattle.text.specs.Printed.{ascii, firstLine, endName, secondLine, vertexLine, edgeLine, printedGraph, printedRefusal};
 ghost use Rattle.text.specs.Put.{Put};
 ghost use Rattle.graph_text.specs.GraphText.{endOf, simplifiedIn, sizeIn, VertexFits, verticesMost, graphMost, VerticesFit, EdgesFit, Printable};
+use kmer::KmerSize;
 use memory::Held;
 
 // k, the counts, and edges minus vertices.
-fn put_first_line(text: &mut [u8], k: u32, n: usize, m: usize, b: usize) -> usize
+fn put_first_line(text: &mut [u8], k: KmerSize, n: usize, m: usize, b: usize) -> usize
     requires { ⌜ (87 ≤ length (now text)) × ((n < 65536) × ((m < 65536) × (b < 4294967296))) ⌝ }
-    ensures { λ r. ⌜ Put 87 (firstLine k n m b) (now (text .entry)) 0 r (now (text .exit)) ⌝ }
+    ensures { λ r. ⌜ Put 87 (firstLine (k .0) n m b) (now (text .entry)) 0 r (now (text .exit)) ⌝ }
 {
-    let mut to = text::put_field(text, 0, b"k ", k);
+    let mut to = text::put_field(text, 0, b"k ", kmer::value(k) as u32);
     to = text::put_field(text, to, b" vertices ", n as u32);
     to = text::put_field(text, to, b" edges ", m as u32);
     to = text::put_field(text, to, b" bytes ", b as u32);

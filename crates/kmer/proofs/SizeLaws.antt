@@ -1,11 +1,13 @@
 -- What each answer says of the number.
 -- Assumes nothing.
-use Prim.Native.Nat.{ℕ}
-use mathlib.Core.Path.{_≡_, refl}
+use Prim.Native.Nat.{ℕ, _≤_}
+use mathlib.Core.Path.{_≡_, refl, sym, ap, _∙_}
 use mathlib.Core.Bool.{Bool, true, false, cond}
 use native.Mathlib.Omega.{arith}
+use borrow.Author.Tests.{le-ltb}
 use Rattle.kmer.specs.Size.{kPastLimit, sizeOf}
 use Rattle.kmer.specs.declared.KmerSize.{KmerSize}
+use Rattle.kmer.specs.declared.MadeSize.{MadeSize}
 use Rattle.kmer.specs.declared.MadeSize.the-variants.{Size, Refused}
 
 refused-test : (b : Bool) (n : ℕ) → cond b Refused (Size record { 0 = n }) ≡ Refused → b ≡ true
@@ -23,3 +25,23 @@ refused-past n e = refused-test (kPastLimit n) n e
 pub made-within : (n : ℕ) {k : KmerSize} → sizeOf n ≡ Size k → kPastLimit n ≡ false
 unfolding sizeOf
 made-within n {k} e = made-test (kPastLimit n) n k e
+
+made : MadeSize → ℕ
+made (Size k) = k .0
+made Refused = 0
+
+made-value : (b : Bool) (n : ℕ) (k : KmerSize) → cond b Refused (Size record { 0 = n }) ≡ Size k → k .0 ≡ n
+unfolding made
+made-value true n k e = let z : _≡_ {A = ℕ} 0 1 = cc in absurd (omega arith)
+made-value false n k e = sym (ap made e)
+
+pub made-is : (n : ℕ) {k : KmerSize} → sizeOf n ≡ Size k → k .0 ≡ n
+unfolding sizeOf
+made-is n {k} e = made-value (kPastLimit n) n k e
+
+within : (n : ℕ) → 2 ≤ n → n ≤ 128 → kPastLimit n ≡ false
+unfolding kPastLimit
+within n a b = simp (le-ltb n 2 a, le-ltb 128 n b)
+
+pub within-made : (n : ℕ) → 2 ≤ n → n ≤ 128 → sizeOf n ≡ Refused → ⊥
+within-made n a b e = let y : _≡_ {A = Bool} true false = sym (refused-past n e) ∙ within n a b in let z : _≡_ {A = ℕ} 0 1 = cc in omega arith

@@ -32,6 +32,13 @@ pub fn number(m: MadeSize) -> u32
     }
 }
 
+// The least size: what stands where no graph was read.
+pub fn least() -> KmerSize
+    ensures { λ r. ⌜ r .0 ≡ 2 ⌝ }
+{
+    KmerSize(2)
+}
+
 pub fn value(k: KmerSize) -> u16
     ensures { λ r. ⌜ r ≡ k .0 ⌝ }
 {

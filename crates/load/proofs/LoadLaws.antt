@@ -168,7 +168,7 @@ module _ {bs : List ℕ} (W : WellFormed bs) where
       read-seqs = tab-ext n (seqIn vs p) (sequenceAt bs) read-seq ∙ ap (λ (x : ℕ). tab x (sequenceAt bs)) q
 
   -- the header's numbers, and the three parts
-  pub loaded : {r : Held} {es vs p : List ℕ} {at : ℕ} → r .k ≡ kOf bs → r .n ≡ verticesOf bs → r .m ≡ edgesOf bs → r .used ≡ bytesOf bs → at ≡ 32 + 2 * r .n + 9 * r .m → bytesOf bs ≤ length p
+  pub loaded : {r : Held} {es vs p : List ℕ} {at : ℕ} → r .k .0 ≡ kOf bs → r .n ≡ verticesOf bs → r .m ≡ edgesOf bs → r .used ≡ bytesOf bs → at ≡ 32 + 2 * r .n + 9 * r .m → bytesOf bs ≤ length p
       → EdgesRead bs (r .m) es → VerticesRead bs (r .n) vs → BytesRead bs at (r .used) p → Loaded bs r es vs p
   unfolding decode
   loaded {r} {es} {vs} {p} {at} qk qn qm qu qa room E Q B = record {

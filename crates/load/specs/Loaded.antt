@@ -33,7 +33,7 @@ pub record Loadable (bs es vs p : List ℕ) : Type 0 where
 -- the slices hold the graph that the record is read as
 pub record Loaded (bs : List ℕ) (r : Held) (es vs p : List ℕ) : Type 0 where
   pub is : graphOf r es vs p ≡ decode bs
-  pub k : r .k ≡ kOf bs
+  pub k : r .k .0 ≡ kOf bs
   pub n : r .n ≡ verticesOf bs
   pub m : r .m ≡ edgesOf bs
   pub used : r .used ≡ bytesOf bs

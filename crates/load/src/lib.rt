@@ -58,7 +58,7 @@ pub fn load_graph(rec: &[u8], es: &mut [u32], vs: &mut [u32], p: &mut [u8]) -> H
     load_edges(rec, es, m);
     load_vertices(rec, vs, n);
     load_bytes(rec, p, 32 + 2 * n + 9 * m, b);
-    let k = le::u16_at(rec, 6) as u32;
+    let k = record::kmer_size(rec);
     Held {
         k: k,
         n: n,

@@ -39,13 +39,13 @@ through-edges F m t = omega (arith, fit-edges F, fit-edges (fit-tame F m), t .ed
 -- of a held graph
 module _ {h : Held} {es vs p heads nexts : List ℕ} (H : Holds h es vs p heads nexts) where
   pub held-vertices : h .n ≤ vertexRoom heads
-  held-vertices = omega (arith, fit-vertices (H .fit), order-in (h .k) (h .n) (h .m) es vs p)
+  held-vertices = omega (arith, fit-vertices (H .fit), order-in (h .k .0) (h .n) (h .m) es vs p)
 
   pub held-edges : h .m ≤ edgeRoom nexts
   held-edges = omega (arith, fit-edges (H .fit), length-tab (h .m) (edgeIn es))
 
   pub held-ends : EndsBelow (h .n) (h .m) es
-  held-ends = mem-ends (h .n) (h .m) es (λ e b. rw (order-in (h .k) (h .n) (h .m) es vs p) at (H .fit .good .0 .bounded e b))
+  held-ends = mem-ends (h .n) (h .m) es (λ e b. rw (order-in (h .k .0) (h .n) (h .m) es vs p) at (H .fit .good .0 .bounded e b))
 
 -- room goes by lengths
 pub room-kept : {es vs p heads nexts nodes mp es′ vs′ p′ heads′ nexts′ nodes′ mp′ : List ℕ} → Room es vs p heads nexts nodes mp

@@ -18,7 +18,7 @@ use Rattle.defs.specs.Zip as Z
 
 -- the graph in the slices
 abbrev pub graphOf : Held → List ℕ → List ℕ → List ℕ → Graph
-graphOf h es vs p = graphIn (h .k) (h .n) (h .m) es vs p
+graphOf h es vs p = graphIn (h .k .0) (h .n) (h .m) es vs p
 
 -- the graph in the slices and the rewrites so far
 abbrev pub workOf : Work → List ℕ → List ℕ → List ℕ → Z.Work

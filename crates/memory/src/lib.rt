@@ -1,8 +1,9 @@
 // A graph held in slices, and the room that its rewrites need.
+use kmer::KmerSize;
 
 // What stands beside the slices: the k-mer size, the numbers of vertices and edges, and how many bytes of the pool are in use.
 pub struct Held {
-    pub k: u32,
+    pub k: KmerSize,
     pub n: usize,
     pub m: usize,
     pub used: usize,

@@ -64,7 +64,7 @@ module _ {h : Held} {es vs p heads nexts nodes mp : List ℕ} {top c : ℕ} (F :
   g = graphOf h es vs p
 
   pub nodes-are : numsIn c nodes ≡ outgoingNodes g top
-  nodes-are = F .found .is ∙ sym (outgoing-is (h .k) n m es vs p top)
+  nodes-are = F .found .is ∙ sym (outgoing-is (h .k .0) n m es vs p top)
 
   ends : EndsBelow n m es
   ends = held-ends (F .holds)

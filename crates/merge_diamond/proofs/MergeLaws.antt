@@ -147,10 +147,10 @@ module _ {h : Held} {es vs p heads nexts nodes mp : List ℕ} {top c : ℕ} (F :
   module _ {b : ℕ} {d : Bool} (s : 2 ≤ c) (q : b ≡ headOr 0 (map (endOf 1 es) (edgesAt (endOf 0 es) (h .m) (getD nodes 0 0)))) (D : Diamond (h .m) (h .n) es nodes c b d) where
     bottom-is : b ≡ bottomOf g mids
     unfolding bottomOf
-    bottom-is = q ∙ sym (ap (headOr 0) (ap (outgoingNodes g) (head-tab c (λ (i : ℕ). getD nodes i 0) (omega arith)) ∙ outgoing-is (h .k) (h .n) (h .m) es vs p (getD nodes 0 0)))
+    bottom-is = q ∙ sym (ap (headOr 0) (ap (outgoingNodes g) (head-tab c (λ (i : ℕ). getD nodes i 0) (omega arith)) ∙ outgoing-is (h .k .0) (h .n) (h .m) es vs p (getD nodes 0 0)))
 
     diamond-is : isDiamond g mids (bottomOf g mids) ≡ d
-    diamond-is = ap (isDiamond g mids) (sym bottom-is) ∙ sym (D .is (h .k) vs p)
+    diamond-is = ap (isDiamond g mids) (sym bottom-is) ∙ sym (D .is (h .k .0) vs p)
 
     pub other-left : d ≡ false → Left (tryMergeDiamond g top) h es vs p heads nexts (notMerged h) es vs p
     other-left t = left-no (diamond-not g top mids (nodes-are F) (diamond-is ∙ t))
@@ -158,10 +158,10 @@ module _ {h : Held} {es vs p heads nexts nodes mp : List ℕ} {top c : ℕ} (F :
     one : d ≡ true → (i : ℕ) → i < c → length (edgesAt (endOf 1 es) (h .m) (getD nodes i 0)) ≡ 1
     unfolding isDiamond
     one t i k =
-        let a = and-split (ltb 1 (length mids)) _ (sym (D .is (h .k) vs p) ∙ t) in
+        let a = and-split (ltb 1 (length mids)) _ (sym (D .is (h .k .0) vs p) ∙ t) in
         let e = and-split (allOf (λ v. eqb (inDegree g v) 1 && (ltb 0 (outDegree g v) && allOf (eqb b) (outgoingNodes g v))) mids) _ (a .1) in
         let x = and-split (eqb (inDegree g (getD nodes i 0)) 1) _ (allOf-mem (λ v. eqb (inDegree g v) 1 && (ltb 0 (outDegree g v) && allOf (eqb b) (outgoingNodes g v))) mids (e .0) (mem-tab c (λ (j : ℕ). getD nodes j 0) i k)) in
-        sym (in-degree-is (h .k) (h .n) (h .m) es vs p (getD nodes i 0)) ∙ eqb-true _ _ (x .0)
+        sym (in-degree-is (h .k .0) (h .n) (h .m) es vs p (getD nodes i 0)) ∙ eqb-true _ _ (x .0)
 
     module _ {x y : ℕ} (X : Prefix vs p nodes c x) (Y : Suffix vs p nodes x c y) where
       s′ : 1 ≤ c
@@ -205,7 +205,7 @@ module _ {h : Held} {es vs p heads nexts nodes mp : List ℕ} {top c : ℕ} (F :
 
   module _ {d : Bool} (D : Tails (h .m) (h .n) es nodes c d) (least : ℕ) where
     tails-are : isTails g mids ≡ d
-    tails-are = sym (D .is (h .k) vs p)
+    tails-are = sym (D .is (h .k .0) vs p)
 
     pub no-tails-left : d ≡ false → Left (tryMergeTails least g top) h es vs p heads nexts (notMerged h) es vs p
     no-tails-left t = left-no (tails-not g top mids (nodes-are F) least (tails-are ∙ t))
@@ -219,7 +219,7 @@ module _ {h : Held} {es vs p heads nexts nodes mp : List ℕ} {top c : ℕ} (F :
     tail-one t i k =
         let a = and-split (ltb 1 (length mids)) _ (tails-are ∙ t) in
         let x = and-split (eqb (outDegree g (getD nodes i 0)) 0) _ (allOf-mem (λ v. eqb (outDegree g v) 0 && eqb (inDegree g v) 1) mids (a .1) (mem-tab c (λ (j : ℕ). getD nodes j 0) i k)) in
-        sym (in-degree-is (h .k) (h .n) (h .m) es vs p (getD nodes i 0)) ∙ eqb-true _ _ (x .1)
+        sym (in-degree-is (h .k .0) (h .n) (h .m) es vs p (getD nodes i 0)) ∙ eqb-true _ _ (x .1)
 
     module _ {x y : ℕ} (t : d ≡ true) (X : Prefix vs p nodes c x) (Y : Suffix vs p nodes x c y) where
       s″ : 1 ≤ c

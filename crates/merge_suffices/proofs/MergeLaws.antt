@@ -62,7 +62,7 @@ module _ {h : Held} {es vs p heads nexts nodes mp : List ℕ} {c bottom : ℕ}
   change = mergeChange g bottom prevs
 
   order : nodeCount g ≡ h .n
-  order = order-in (h .k) (h .n) (h .m) es vs p
+  order = order-in (h .k .0) (h .n) (h .m) es vs p
 
   inside : bottom < nodeCount g
   inside = omega (arith, order, M .below)
@@ -115,13 +115,13 @@ module _ {h : Held} {es vs p heads nexts nodes mp : List ℕ} {c bottom : ℕ}
 
   into-is : newInto (h .n) (h .m) es nodes c ≡ map (redirectedTo (nodeCount g)) (concat (map (edgesInto g) prevs))
   into-is =
-      (λ i. concat (map (λ (v : ℕ). into-all (h .n) (h .k) (h .n) (h .m) es vs p v i) (M .are i)))
+      (λ i. concat (map (λ (v : ℕ). into-all (h .n) (h .k .0) (h .n) (h .m) es vs p v i) (M .are i)))
       ∙ map-concat (redirectedTo (h .n)) (edgesInto g) prevs
       ∙ ap (λ (x : ℕ). map (redirectedTo x) (concat (map (edgesInto g) prevs))) (sym order)
 
   pub edges-are : newEdges (h .n) (h .m) es nodes c bottom ≡ change .edges
   unfolding mergeChange
-  edges-are = λ i. into-is i ++ (from-all (h .n) (h .k) (h .n) (h .m) es vs p bottom ∙ ap (λ (x : ℕ). map (redirectedFrom x) (edgesFrom g bottom)) (sym order)) i
+  edges-are = λ i. into-is i ++ (from-all (h .n) (h .k .0) (h .n) (h .m) es vs p bottom ∙ ap (λ (x : ℕ). map (redirectedFrom x) (edgesFrom g bottom)) (sym order)) i
 
   stays : (u v : ℕ) → Linked (change .edges) u v → (keeps (change .gone) u ≡ true) × (keeps (change .gone) v ≡ true)
   unfolding mergeChange redirectedTo redirectedFrom newEdge edgeData
@@ -203,7 +203,7 @@ module _ {h : Held} {es vs p heads nexts nodes mp : List ℕ} {c bottom : ℕ}
     )
 
     seq-new : seqIn vs₁ p₁ (h .n) ≡ vertexSequence g (headOr 0 prevs) ++ vertexSequence g bottom
-    seq-new = rw (put-start, put-size) (W .is ∙ sym (λ i. (ap (vertexSequence g) head-is ∙ seq-at (h .k) (h .n) (h .m) es vs p first first-below) i ++ seq-at (h .k) (h .n) (h .m) es vs p bottom (M .below) i))
+    seq-new = rw (put-start, put-size) (W .is ∙ sym (λ i. (ap (vertexSequence g) head-is ∙ seq-at (h .k .0) (h .n) (h .m) es vs p first first-below) i ++ seq-at (h .k .0) (h .n) (h .m) es vs p bottom (M .below) i))
 
     seq-old : (v : ℕ) → v < h .n → seqIn vs₁ p₁ v ≡ seqIn vs p v
     seq-old v b = let z = put-other v (λ e. omega arith) in rw (z .0, z .1)
@@ -239,14 +239,14 @@ module _ {h : Held} {es vs p heads nexts nodes mp : List ℕ} {c bottom : ℕ}
           size = order-grown g change ∙ unfold mergeChange in (λ i. order i + 1)
 
       module _ {vs₂ : List ℕ} (put : vs₂ ≡ vs₁) {r : Counts} {es₃ vs₃ mp₃ : List ℕ} (D : Removed (h .n + 1) k es₁ vs₂ (bottom ∷ numsIn c nodes) r es₃ vs₃ mp₃) where
-        removed-is : graphIn (h .k) (r .n) (r .m) es₃ vs₃ p₁ ≡ applyChange g change
+        removed-is : graphIn (h .k .0) (r .n) (r .m) es₃ vs₃ p₁ ≡ applyChange g change
         unfolding applyChange withAdditions
-        removed-is = D .is (h .k) p₁ ∙ (λ i. removeVerticesById (gone i) record { k = h .k; verts = (ap (λ (x : List ℕ). seqsIn (h .n + 1) x p₁) put ∙ verts-with) i; edges = (E .is ∙ edges-with) i })
+        removed-is = D .is (h .k .0) p₁ ∙ (λ i. removeVerticesById (gone i) record { k = h .k .0; verts = (ap (λ (x : List ℕ). seqsIn (h .n + 1) x p₁) put ∙ verts-with) i; edges = (E .is ∙ edges-with) i })
           where
             gone : bottom ∷ numsIn c nodes ≡ change .gone
             gone = ap (λ (l : List ℕ). bottom ∷ l) (M .are) ∙ unfold mergeChange in refl
 
-        fit-rest : Fit (graphIn (h .k) (r .n) (r .m) es₃ vs₃ p₁) heads nexts
+        fit-rest : Fit (graphIn (h .k .0) (r .n) (r .m) es₃ vs₃ p₁) heads nexts
         fit-rest = rw removed-is fit-new
 
         within-rest : Within (2 * vertexRoom heads) (r .n) vs₃
@@ -271,7 +271,7 @@ module _ {h : Held} {es vs p heads nexts nodes mp : List ℕ} {c bottom : ℕ}
             → Merged h es vs p heads nexts bottom record { k = h .k; n = r .n; m = r .m; used = used } es₃ vs₄ p₄
         merged {used} {vs₄} {p₄} P b =
             let s = packed-seqs P pool-rest (omega (arith, P .used-is, bytes-rest, R .p-room, q, b)) in
-            let same : graphIn (h .k) (r .n) (r .m) es₃ vs₄ p₄ ≡ graphIn (h .k) (r .n) (r .m) es₃ vs₃ p₁ = λ i. record { k = h .k; verts = s i; edges = edgesIn (r .m) es₃ } in
+            let same : graphIn (h .k .0) (r .n) (r .m) es₃ vs₄ p₄ ≡ graphIn (h .k .0) (r .n) (r .m) es₃ vs₃ p₁ = λ i. record { k = h .k .0; verts = s i; edges = edgesIn (r .m) es₃ } in
             record {
               is = same ∙ removed-is;
               holds = record { fit = rw same fit-rest; within = packed-within P pool-rest (omega (arith, P .used-is, bytes-rest, R .p-room, q, b)); used-room = omega (arith, P .used-is, bytes-rest) };

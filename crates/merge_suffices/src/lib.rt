@@ -216,8 +216,9 @@ fn merge_common_suffices(
     let left = remove_merged(es, vs, n + 1, k, nodes, c, bottom, map);
     let base = 2 * (heads.len() / 2);
     let packed = pool::pack(vs, left.n, p, base);
+    let kmer_size = held.k;
     Held {
-        k: held.k,
+        k: kmer_size,
         n: left.n,
         m: left.m,
         used: packed,

@@ -243,7 +243,7 @@ orphans-once g b = byList (singletonOrphans g)
 pub reduced-closed : {h : Held} {es vs mp es′ vs′ mp′ : List ℕ} {c : Counts} {r : Held} → Compacted (h .n) (h .m) es vs mp c es′ vs′ mp′ → r ≡ record { k = h .k; n = c .n; m = c .m; used = h .used }
     → Reduced (λ (g : Graph). compactVertices (unmarked mp) g) h es vs r es′ vs′
 reduced-closed {h} {es} {vs} {mp} {es′} {vs′} {c = c} C q = rw q record {
-  is = λ p. C .is (h .k) p;
+  is = λ p. C .is (h .k .0) p;
   most-n = C .most-n;
   most-m = C .most-m;
   ends = C .ends;
@@ -264,7 +264,7 @@ pub marked-orphans : (h : Held) {es mp : List ℕ} (vs : List ℕ) → EndsBelow
 unfolding removeVerticesById
 marked-orphans h {es} {mp} vs E M p =
     let g = graphOf h es vs p in
-    let b = bounded-in {es = es} E (h .k) vs p in
+    let b = bounded-in {es = es} E (h .k .0) vs p in
     restrict-same (unmarked mp) (keeps (singletonOrphans g)) g
-    (λ v l. M .at (h .k) vs p v (omega (arith, l, order-in (h .k) (h .n) (h .m) es vs p)) ∙ sym (keeps-orphans g v l)) b
+    (λ v l. M .at (h .k .0) vs p v (omega (arith, l, order-in (h .k .0) (h .n) (h .m) es vs p)) ∙ sym (keeps-orphans g v l)) b
     ∙ sym (orphans-once g b)

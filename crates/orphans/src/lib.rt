@@ -48,8 +48,9 @@ pub fn remove_marked(held: Held, es: &mut [u32], vs: &mut [u32], map: &mut [u32]
     ensures { λ r. ⌜ Reduced (λ (g : Graph). compactVertices (unmarked (now (map .entry))) g) held (now (es .entry)) (now (vs .entry)) r (now (es .exit)) (now (vs .exit)) ⌝ }
 {
     let c = compact::compact_vertices(es, vs, held.n, held.m, map);
+    let kmer_size = held.k;
     Held {
-        k: held.k,
+        k: kmer_size,
         n: c.n,
         m: c.m,
         used: held.used,

@@ -43,14 +43,14 @@ module _ {h : Held} {es vs p nodes : List ℕ} (S : Spellable h es vs p nodes) {
   g = graphOf h es vs p
 
   pub no-path : (out : List ℕ) → r ≡ false → Told (given (isPathOf g start list) (pathBasesBytes g start list)) out (record { found = false; len = 0 }) out
-  no-path out f = told-none out (given-no _ _ (sym (E .is (h .k) vs p) ∙ f))
+  no-path out f = told-none out (given-no _ _ (sym (E .is (h .k .0) vs p) ∙ f))
 
   module _ (t : r ≡ true) where
     is-path : isPathOf g start list ≡ true
-    is-path = sym (E .is (h .k) vs p) ∙ t
+    is-path = sym (E .is (h .k .0) vs p) ∙ t
 
     pub path-room : length (edgeEnds list) < length nodes
-    path-room = omega (arith, path-short g (S .sound) start (edgeEnds list) (path-of g (S .sound .bounded) start list is-path), order-in (h .k) (h .n) (h .m) es vs p, S .nodes-room)
+    path-room = omega (arith, path-short g (S .sound) start (edgeEnds list) (path-of g (S .sound .bounded) start list is-path), order-in (h .k .0) (h .n) (h .m) es vs p, S .nodes-room)
 
     pub path-route : {nodes′ : List ℕ} {c : ℕ} → PathNodes start list c nodes′ → Route g nodes′ c
     path-route N = record { first = start; others = edgeEnds list; path = path-of g (S .sound .bounded) start list is-path; is = N .is; room = N .room }

@@ -95,7 +95,7 @@ module _ {h : Held} {es vs p nodes₀ nodes : List ℕ} {c : ℕ} (S : Spellable
   g = graphOf h es vs p
 
   node-below : (i : ℕ) → i < c → getD nodes i 0 < h .n
-  node-below i b = rw (order-in (h .k) (h .n) (h .m) es vs p) at (path-below g (R .first) (R .others) (R .path) (getD nodes i 0) (rw (R .is) at (mem-tab c (λ (i : ℕ). getD nodes i 0) i b)))
+  node-below i b = rw (order-in (h .k .0) (h .n) (h .m) es vs p) at (path-below g (R .first) (R .others) (R .path) (getD nodes i 0) (rw (R .is) at (mem-tab c (λ (i : ℕ). getD nodes i 0) i b)))
 
   size : (v : ℕ) → v < h .n → length (getD (g .verts) v []) ≡ getD vs (2 * v + 1) 0
   size v b = ap length (getD-tab (h .n) (seqIn vs p) v [] b) ∙ part-long p _ _ (S .within .at v b)

@@ -139,7 +139,7 @@ module _ (bs : List ℕ) where
       doubled-is = (λ j. doubledEdge ((sym (L .is) j) .edges) || (eqb (kindOf bs) 0 && equalKmers ((sym (L .is) j) .verts))) ∙ rw (eq-eqb (kindOf bs) 0 (kind-is bs layout))
 
       -- a vertex's k-mer has k bytes
-      size-held : length p′ ≡ length p → (v : ℕ) → v < h .n → getD vs′ (2 * v + 1) 0 ≡ h .k
+      size-held : length p′ ≡ length p → (v : ℕ) → v < h .n → getD vs′ (2 * v + 1) 0 ≡ h .k .0
       size-held l v b =
           let below : v < verticesOf bs = omega (arith, L .n) in
           sym (part-long p′ (getD vs′ (2 * v) 0) (getD vs′ (2 * v + 1) 0) (omega (arith, L .within .at v b, L .used, l, R .p-room)))
@@ -157,7 +157,7 @@ module _ (bs : List ℕ) where
           none-doubled = doubled-is ∙ sym (D .is) ∙ t
 
           cycle-is : hasCycle (decode bs) ≡ c
-          cycle-is = ap hasCycle (sym (L .is)) ∙ sym (C .is (h .k) vs′ p′)
+          cycle-is = ap hasCycle (sym (L .is)) ∙ sym (C .is (h .k .0) vs′ p′)
 
           pub read-7 : {r : Read} → c ≡ true → r .number ≡ 7 → {es₂ vs₂ p₂ heads₂ nexts₂ order₂ : List ℕ} → KmersRead bs r es₂ vs₂ p₂ heads₂ nexts₂ order₂
           read-7 s q = record { number = q ∙ sym (refused-7 kmerOnly bs layout none-doubled (cycle-is ∙ s)); holds = λ y. absurd (omega arith) }

@@ -43,11 +43,11 @@ pub record HoldsKmers (bs : List ℕ) (h : Held) (es vs p heads nexts order : Li
   pub good : Good (decode bs)
   pub single : doubledEdge (edgesIn (h .m) es) ≡ false
   pub distinct : equalKmers (seqsIn (h .n) vs p) ≡ false
-  pub k-least : 2 ≤ h .k
-  pub k-most : h .k ≤ 128
+  pub k-least : 2 ≤ h .k .0
+  pub k-most : h .k .0 ≤ 128
   pub vertices : h .n ≤ 2048
   pub edges : h .m ≤ 4096
-  pub sizes : (v : ℕ) → v < h .n → getD vs (2 * v + 1) 0 ≡ h .k
+  pub sizes : (v : ℕ) → v < h .n → getD vs (2 * v + 1) 0 ≡ h .k .0
   pub within : Within (h .used) (h .n) vs
   pub used-most : h .used ≤ 262144
   pub used-room : h .used ≤ length p

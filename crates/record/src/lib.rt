@@ -7,7 +7,8 @@ ghost use Rattle.defs.specs.Record.{mark, kOf, verticesOf, edgesOf, bytesOf, by
 ghost use Rattle.defs.specs.Refusals.{refusalOf, recordCauses, takesKind, otherLength, wrongMark, pastLimit, layoutDisagrees, badEdge, anyBadEdge};
 ghost use Rattle.kmer.specs.Size.{sizeOf};
 ghost use Rattle.record.specs.Kinds.{takesOf};
-ghost use Rattle.record.specs.Layout.{otherKmerLength, offsetsDisagree};
+ghost use Rattle.record.specs.Layout.{WellFormed, otherKmerLength, offsetsDisagree};
+use kmer::KmerSize;
 use kmer::MadeSize;
 
 // Which kinds a call takes.
@@ -150,6 +151,17 @@ fn wrong_mark(rec: &[u8], takes: Takes) -> bool
         return rec[5] != 0;
     }
     false
+}
+
+// The size of a well formed record, which has passed the check.
+pub fn kmer_size(rec: &[u8]) -> KmerSize
+    requires { ⌜ WellFormed (now rec) ⌝ }
+    ensures { λ r. ⌜ r .0 ≡ kOf (now (rec .entry)) ⌝ }
+{
+    match kmer_size_of(rec) {
+        MadeSize::Size(k) => k,
+        MadeSize::Refused => kmer::least(),
+    }
 }
 
 // 3: a count or k past a limit.

@@ -78,7 +78,7 @@ module _ {number : ℕ} {s : Simplified} {es vs p text : List ℕ} (P : Printing
     B = P .bounded ok
 
     long-is : length (encode sequenceGraph 0 (graphOf (s .held) es vs p)) ≡ 32 + 2 * s .held .n + 9 * s .held .m + bytesIn (s .held .n) vs
-    long-is = encode-length 0 (s .held .k) (s .held .n) (s .held .m) es vs p (B .within)
+    long-is = encode-length 0 (s .held .k .0) (s .held .n) (s .held .m) es vs p (B .within)
 
     pub answer-measured : Measured (s .held) vs
     answer-measured = record { vs-room = B .vs-room; small = omega (arith, B .vertices, B .edges, B .bytes) }

@@ -21,7 +21,7 @@ use Rattle.laws.proofs.Room.{narrow-fits, simplify-narrow}
 use Rattle.laws.proofs.Whole.{simplify-spells}
 use Rattle.sound.proofs.Accepted.{accepted-good}
 use Rattle.answers.proofs.Supports.{Fields}
-use Rattle.answers.proofs.Answers.{Bytes, decoded-narrow, k-small, simplified-fields, simplify-read-back}
+use Rattle.answers.proofs.Answers.{Bytes, decoded-narrow, simplify-read-back}
 use Rattle.memory.specs.Memory.{graphOf, Room, Holds}
 use Rattle.memory.specs.declared.Held.{Held}
 use Rattle.memory.proofs.RoomLaws.{holds-kept}
@@ -120,9 +120,6 @@ module _ {bs heads nexts : List ℕ} {m : Made} {es vs p : List ℕ} (M : MadeOf
   module _ (small : Bytes bs) (ok : m .number ≡ 0) where
     none : recordRefusal sequenceOnly bs ≡ 0
     none = sym (M .number) ∙ ok
-
-    pub made-k : m .simplified .held .k < 65536
-    made-k = omega (arith, ap (λ (g : Graph). g .k) (M .answers ok .graph), (simplified-fields bs small none) .k-is, k-small bs small none)
 
     module _ {out out′ : List ℕ} {s : Sent} (S : Sends (encode sequenceGraph 0 (graphOf (m .simplified .held) es vs p)) out s out′) where
       sends : Sends (encode sequenceGraph 0 ((simplifyGraphFull 10 (decode bs)) .graph)) out s out′

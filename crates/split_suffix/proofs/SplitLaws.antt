@@ -55,7 +55,7 @@ module _ {h : Held} {es vs p heads nexts nodes mp : List ℕ} (R : Room es vs p 
   below = prevs-below R H C q
 
   order : nodeCount g ≡ h .n
-  order = order-in (h .k) (h .n) (h .m) es vs p
+  order = order-in (h .k .0) (h .n) (h .m) es vs p
 
   in-pool : Within (length p) (h .n) vs
   in-pool = record { at = λ v b. omega (arith, H .within .at v b, H .used-room, R .p-room) }
@@ -85,7 +85,7 @@ module _ {h : Held} {es vs p heads nexts nodes mp : List ℕ} (R : Room es vs p 
   module _ {s : ℕ} (S : Splits (h .n) (h .m) es vs p prevs c s) where
     pub left-not : {mp′ : List ℕ} → s ≡ 0 → SplitTried h es vs p heads nexts bottom record { done = false; held = h } es vs mp′
     unfolding trySplitCommonSuffix splitsSuffix splitSuffix given
-    left-not z = let e = split-to (S .no z (h .k) bottom) in record {
+    left-not z = let e = split-to (S .no z (h .k .0) bottom) in record {
       left = record {
         no = λ _. rw e;
         same = λ _. refl;
@@ -105,7 +105,7 @@ module _ {h : Held} {es vs p heads nexts nodes mp : List ℕ} (R : Room es vs p 
 
       did : trySplitCommonSuffix g bottom ≡ some (applyChange g change)
       unfolding trySplitCommonSuffix splitsSuffix splitSuffix splitChange given
-      did = let e = split-to (S .yes pos (h .k) bottom before) in rw e
+      did = let e = split-to (S .yes pos (h .k .0) bottom before) in rw e
 
       tame : Tame g (applyChange g change) × (nodeCount g < nodeCount (applyChange g change))
       tame = split-tame g (applyChange g change) bottom good did
@@ -136,10 +136,10 @@ module _ {h : Held} {es vs p heads nexts nodes mp : List ℕ} (R : Room es vs p 
       start = startAt vs prevs 0 + lenAt vs prevs 0 - s
 
       suffix-is : suffix ≡ part p start s
-      suffix-is = ap (suffixOf g) (sym are) ∙ T.suffix-is split-testable (h .k) bottom shared two
+      suffix-is = ap (suffixOf g) (sym are) ∙ T.suffix-is split-testable (h .k .0) bottom shared two
 
       suffix-long : length suffix ≡ s
-      suffix-long = ap (λ (l : List ℕ). length (suffixOf g l)) (sym are) ∙ T.suffix-long split-testable (h .k) bottom shared two
+      suffix-long = ap (λ (l : List ℕ). length (suffixOf g l)) (sym are) ∙ T.suffix-long split-testable (h .k .0) bottom shared two
 
       all : (i : ℕ) → i < c → s ≤ getD vs (2 * getD prevs i 0 + 1) 0
       all i b = omega (arith, shared .all i b)
@@ -150,14 +150,14 @@ module _ {h : Held} {es vs p heads nexts nodes mp : List ℕ} (R : Room es vs p 
           (λ a. a)
 
       verts-are : newVerts vs p prevs start s c ≡ change .verts
-      verts-are = F.verts-are (h .k) (h .n) (h .m) s start es vs p heads nexts prevs c bottom suffix I in-pool below suffix-is suffix-long all outs c (omega arith) ∙ ap (splitVertices g suffix) are
+      verts-are = F.verts-are (h .k .0) (h .n) (h .m) s start es vs p heads nexts prevs c bottom suffix I in-pool below suffix-is suffix-long all outs c (omega arith) ∙ ap (splitVertices g suffix) are
 
       edges-are : newEdges heads (h .m) (h .n) s es vs prevs bottom c ≡ change .edges
-      edges-are = F.edges-are (h .k) (h .n) (h .m) s start es vs p heads nexts prevs c bottom suffix I in-pool below suffix-is suffix-long all outs c (omega arith)
+      edges-are = F.edges-are (h .k .0) (h .n) (h .m) s start es vs p heads nexts prevs c bottom suffix I in-pool below suffix-is suffix-long all outs c (omega arith)
           ∙ (λ i. splitEdges g bottom suffix (sym order i) (are i))
 
       number-is : numberOf vs prevs s (h .n) c ≡ nodeCount (withAdditions change g)
-      number-is = F.number-are (h .k) (h .n) (h .m) s start es vs p heads nexts prevs c bottom suffix I in-pool below suffix-is suffix-long all outs c (omega arith)
+      number-is = F.number-are (h .k .0) (h .n) (h .m) s start es vs p heads nexts prevs c bottom suffix I in-pool below suffix-is suffix-long all outs c (omega arith)
           ∙ omega (arith, order-grown g change, order, ap (λ (l : List ℕ). length (splitVertices g suffix l)) are)
 
       edges-with : addOrUpdateEdges (newEdges heads (h .m) (h .n) s es vs prevs bottom c) (edgesIn (h .m) es) ≡ (withAdditions change g) .edges
@@ -216,9 +216,9 @@ module _ {h : Held} {es vs p heads nexts nodes mp : List ℕ} (R : Room es vs p 
         split-below = record { room = below .room; at = λ i b. omega (arith, below .at i b, low) }
 
         module _ {r : Counts} {es₂ vs₂ mp₂ : List ℕ} (D : Removed j k es₁ vs₁ (numsIn c prevs) r es₂ vs₂ mp₂) where
-          removed-is : graphIn (h .k) (r .n) (r .m) es₂ vs₂ p ≡ applyChange g change
+          removed-is : graphIn (h .k .0) (r .n) (r .m) es₂ vs₂ p ≡ applyChange g change
           unfolding applyChange withAdditions
-          removed-is = D .is (h .k) p ∙ (λ i. removeVerticesById (are i) record { k = h .k; verts = verts-with i; edges = (E .is ∙ edges-with) i })
+          removed-is = D .is (h .k .0) p ∙ (λ i. removeVerticesById (are i) record { k = h .k .0; verts = verts-with i; edges = (E .is ∙ edges-with) i })
             where
               verts-with : seqsIn j vs₁ p ≡ g .verts ++ change .verts
               verts-with = V₁ .is p ∙ ap (λ (x : ℕ). seqsIn (h .n) vs p ++ newVerts vs p prevs x s c) qf ∙ ap (λ (x : List (List ℕ)). g .verts ++ x) verts-are

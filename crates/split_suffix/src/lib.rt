@@ -153,8 +153,9 @@ pub fn try_split_common_suffix(
     let k = add_edges(es, m, n, heads, nexts, vs, nodes, c, s, bottom as u32, map);
     let j = add_vertices(vs, n, nodes, c, from, s);
     let left = compact::remove_vertices_by_id(es, vs, j, k, nodes, c, map);
+    let kmer_size = held.k;
     let h = Held {
-        k: held.k,
+        k: kmer_size,
         n: left.n,
         m: left.m,
         used: held.used,

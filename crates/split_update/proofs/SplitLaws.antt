@@ -106,12 +106,12 @@ module _ {h : Held} {es vs p heads nodes : List ℕ} {c : ℕ} {mp : List ℕ} {
   plan-at v k =
       let r = of-mem-tab c (λ (i : ℕ). getD nodes i 0) k in
       (λ i. midPlan g (length-part p (startAt vs nodes 0) x in₁ i) (length-part p (startAt vs nodes 0 + lenAt vs nodes 0 - y) y in₂ i) v)
-      ∙ rw (r .2) (plan-is (h .k) n m es vs p heads (getD nodes (r .0) 0) (F .middles (r .0) (r .1)) x y (F .parts .below (r .0) (r .1)) (inside (r .0) (r .1)) (F .long (r .0) (r .1)))
+      ∙ rw (r .2) (plan-is (h .k .0) n m es vs p heads (getD nodes (r .0) 0) (F .middles (r .0) (r .1)) x y (F .parts .below (r .0) (r .1)) (inside (r .0) (r .1)) (F .long (r .0) (r .1)))
 
   remains-at : (v : ℕ) → List·Memᴰ v mids → hasRemaining (full v) ≡ leaves vs (x + y) v
   remains-at v k =
       let r = of-mem-tab c (λ (i : ℕ). getD nodes i 0) k in
-      rw (r .2) (remains (h .k) n m es vs p heads (getD nodes (r .0) 0) (F .middles (r .0) (r .1)) x y (F .parts .below (r .0) (r .1)) (inside (r .0) (r .1)) (F .long (r .0) (r .1)))
+      rw (r .2) (remains (h .k .0) n m es vs p heads (getD nodes (r .0) 0) (F .middles (r .0) (r .1)) x y (F .parts .below (r .0) (r .1)) (inside (r .0) (r .1)) (F .long (r .0) (r .1)))
 
   plans-are : map (midPlan g (length pre) (length suf)) mids ≡ map full mids
   plans-are = map-same (midPlan g (length pre) (length suf)) full mids plan-at
@@ -127,7 +127,7 @@ module _ {h : Held} {es vs p heads nodes : List ℕ} {c : ℕ} {mp : List ℕ} {
 
   change-is : C ≡ D
   unfolding splitAndUpdate
-  change-is = λ i. splitAndUpdateWith (nonEmpty pre) (nonEmpty suf) (order-in (h .k) n m es vs p i) top (bottomIf ends bottom) (lefts-are i) (prefixToSuffix (others-are i)) pre suf mids
+  change-is = λ i. splitAndUpdateWith (nonEmpty pre) (nonEmpty suf) (order-in (h .k .0) n m es vs p i) top (bottomIf ends bottom) (lefts-are i) (prefixToSuffix (others-are i)) pre suf mids
 
   gone-is : C .gone ≡ mids
   unfolding splitAndUpdateWith
@@ -147,7 +147,7 @@ module _ {h : Held} {es vs p heads nodes : List ℕ} {c : ℕ} {mp : List ℕ} {
   any = (λ i. filled-is p (startAt vs nodes 0) x in₁ i || filled-is p (startAt vs nodes 0 + lenAt vs nodes 0 - y) y in₂ i) ∙ or-sum x y (F .some)
 
   verts-count : nodeCount (withAdditions C g) ≡ n + length (newVerts vs p nodes c x y)
-  verts-count = order-grown g C ∙ (λ i. order-in (h .k) n m es vs p i + length (verts-are i))
+  verts-count = order-grown g C ∙ (λ i. order-in (h .k .0) n m es vs p i + length (verts-are i))
 
   pub vertable : Vertable n vs p nodes c x y
   vertable = record {
@@ -229,9 +229,9 @@ module _ {h : Held} {es vs p heads nodes : List ℕ} {c : ℕ} {mp : List ℕ} {
       edges-now : edgesIn d es′ ≡ addOrUpdateEdges (C .edges) (edgesIn m es)
       edges-now = E′ .is .is ∙ sym (edges-are ∙ ap (λ (l : List Edge). edgesIn m es ++ l) (sym news-same))
 
-      now-is : graphIn (h .k) (a .all) d es′ vs′ p ≡ withAdditions C g
+      now-is : graphIn (h .k .0) (a .all) d es′ vs′ p ≡ withAdditions C g
       unfolding withAdditions
-      now-is = λ i. record { k = h .k; verts = (A .is .is ∙ ap (λ (l : List (List ℕ)). seqsIn n vs p ++ l) (sym verts-are)) i; edges = edges-now i }
+      now-is = λ i. record { k = h .k .0; verts = (A .is .is ∙ ap (λ (l : List (List ℕ)). seqsIn n vs p ++ l) (sym verts-are)) i; edges = edges-now i }
 
       below : EndsBelow (a .all) d es′
       below = mem-ends (a .all) d es′ (λ e k.
@@ -256,7 +256,7 @@ module _ {h : Held} {es vs p heads nodes : List ℕ} {c : ℕ} {mp : List ℕ} {
       pub split-done : {r : Counts} {es″ vs″ mp″ : List ℕ} → Removed (a .all) d es′ vs′ mids r es″ vs″ mp″ → SplitDone h es vs p nodes c top bottom ends x y (record { k = h .k; n = r .n; m = r .m; used = h .used }) es″ vs″
       unfolding applyChange
       split-done R = record {
-        is = R .is (h .k) p ∙ (λ i. removeVerticesById (sym gone-is i) (now-is i));
+        is = R .is (h .k .0) p ∙ (λ i. removeVerticesById (sym gone-is i) (now-is i));
         used = refl;
         within = R .within (h .used) (A .within (h .used) (F .within));
       }

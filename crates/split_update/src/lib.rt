@@ -357,8 +357,9 @@ pub fn split_and_update(
     let w = new_places(top, bottom, ends, n, a, c, x, y);
     let d = add_edges(es, m, vs, heads, nodes, c, x + y, w);
     let left = compact::remove_vertices_by_id(es, vs, a.all, d, nodes, c, map);
+    let kmer_size = held.k;
     Held {
-        k: held.k,
+        k: kmer_size,
         n: left.n,
         m: left.m,
         used: held.used,

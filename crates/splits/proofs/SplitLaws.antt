@@ -68,8 +68,8 @@ module _ {h : Held} {es vs p heads nexts : List ℕ} {v : ℕ} {r : Tried} {es�
         arith,
         rank-same (keptBy mp′) (keeps gone) (h .n) (λ u b. S .kept t u b),
         split-order (graphOf h es vs p) v (graphOf (r .held) es′ vs′ p) (S .left .yes t),
-        ap (rank (keeps gone)) (order-in (h .k) (h .n) (h .m) es vs p),
-        order-in (r .held .k) (r .held .n) (r .held .m) es′ vs′ p,
+        ap (rank (keeps gone)) (order-in (h .k .0) (h .n) (h .m) es vs p),
+        order-in (r .held .k .0) (r .held .n) (r .held .m) es′ vs′ p,
       )
 
   pub remarked-yes : {tried tried₁ tried′ : List ℕ} {j : ℕ} → r .done ≡ true → MarksMoved tried (h .n) mp′ j tried₁ → Cleared tried₁ j (r .held .n) tried′ → Remarked h es vs p heads nexts tried v r es′ vs′ tried′
@@ -240,7 +240,7 @@ module _ {w₀ : Work} {es₀ vs₀ p heads₀ : List ℕ} where
     G = graphOf (w .held) es vs p
 
     order-is : nodeCount G ≡ w .held .n
-    order-is = order-in (w .held .k) (w .held .n) (w .held .m) es vs p
+    order-is = order-in (w .held .k .0) (w .held .n) (w .held .m) es vs p
 
     pub doing-end : {nodes′ mp′ : List ℕ} → r .done ≡ false → length nodes′ ≡ length nodes → length mp′ ≡ length mp → SplitAll w₀ es₀ vs₀ p w es′ vs′ heads nexts nodes′ mp′
     doing-end t a b = record {
@@ -265,7 +265,7 @@ module _ {w₀ : Work} {es₀ vs₀ p heads₀ : List ℕ} where
       step : Tame G (graphOf (r .held) es′ vs′ p) × (w .held .n < r .held .n)
       step =
           let z = firstSplit-tame G (D .list) 0 (w .held .n) record { graph = graphOf (r .held) es′ vs′ p; tried = found .list } (D .ready .holds .fit .good) (found .is) in
-          (z .0, omega (arith, z .1, order-is, order-in (r .held .k) (r .held .n) (r .held .m) es′ vs′ p))
+          (z .0, omega (arith, z .1, order-is, order-in (r .held .k .0) (r .held .n) (r .held .m) es′ vs′ p))
 
       pub doing-countable : Counted (w₀ .rewrites) heads₀ → w .rewrites + 1 < 4294967296
       doing-countable C = omega (arith, D .count, step .1, C .small, held-vertices (S .holds t), D .heads-len)

@@ -140,7 +140,7 @@ module _ {kind least : ℕ} {w₀ : Work} {es₀ vs₀ p₀ heads₀ : List ℕ}
     g′ = graphOf (r .held) es′ vs′ p′
 
     order-is : nodeCount g ≡ w .held .n
-    order-is = order-in (w .held .k) (w .held .n) (w .held .m) es vs p
+    order-is = order-in (w .held .k .0) (w .held .n) (w .held .m) es vs p
 
     pub doing-end : {nodes′ mp′ : List ℕ} → r .done ≡ false → length nodes′ ≡ length nodes → length mp′ ≡ length mp → Completed kind least w₀ es₀ vs₀ p₀ w es′ vs′ p′ heads nexts nodes′ mp′
     doing-end {nodes′} {mp′} t a b = record {

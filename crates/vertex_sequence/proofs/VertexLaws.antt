@@ -149,7 +149,7 @@ module _ (bs : List ℕ) where
     module _ {h : Held} {es vs p : List ℕ} (L : Loaded bs h es vs p) where
       number-is : {kmers : Bool} {r : ℕ} → kmers ≡ eqb (kindOf bs) 0 → Checks kmers (h .m) (h .n) es vs p r → r ≡ cond (doubled bs) 6 (cond (hasCycle (decode bs)) 7 0)
       unfolding doubled
-      number-is q C = C .is (h .k) ∙ (λ i. cond (doubledEdge ((L .is i) .edges) || (q i && equalKmers ((L .is i) .verts))) 6 (cond (hasCycle (L .is i)) 7 0))
+      number-is q C = C .is (h .k .0) ∙ (λ i. cond (doubledEdge ((L .is i) .edges) || (q i && equalKmers ((L .is i) .verts))) 6 (cond (hasCycle (L .is i)) 7 0))
 
       by-tests : cond (doubled bs) 6 (cond (hasCycle (decode bs)) 7 0) ≡ recordRefusal bothKinds bs
       by-tests = byTest (doubled bs)

@@ -13,9 +13,8 @@ use Rattle.memory.specs.declared.Held.{Held}
 abbrev pub lengthBytes : List ℕ → ℕ → List ℕ
 lengthBytes vs v = le16 (getD vs (2 * v + 1) 0)
 
--- k and the counts fit 16 bits, the bytes and the whole length 32
-pub record Countable (k n m b : ℕ) : Type 0 where
-  pub k-fits : k < 65536
+-- the counts fit 16 bits, the bytes and the whole length 32
+pub record Countable (n m b : ℕ) : Type 0 where
   pub n-fits : n < 65536
   pub m-fits : m < 65536
   pub whole-fits : 32 + 2 * n + 9 * m + b < 4294967296
@@ -49,7 +48,6 @@ pub record Measured (h : Held) (vs : List ℕ) : Type 0 where
 -- a held graph whose record fits `out`
 pub record Writable (status : ℕ) (h : Held) (es vs p out : List ℕ) : Type 0 where
   pub status-fits : status < 256
-  pub k-fits : h .k < 65536
   pub n-fits : h .n < 65536
   pub m-fits : h .m < 65536
   pub lengths-fit : (v : ℕ) → v < h .n → getD vs (2 * v + 1) 0 < 65536

@@ -9,6 +9,7 @@ ghost use Rattle.defs.specs.Record.{mark, le16, le32, encodeEdge, encodeHeader}
 ghost use Rattle.store.specs.Store.{isSet, edgeIn, part, seqIn};
 ghost use Rattle.pool.specs.Pool.{bytesIn};
 ghost use Rattle.write_record.specs.Written.{lengthBytes, Countable, EdgeFits, EdgesFit, LengthsFit, SequencesFit, Measured, Writable, Written};
+use kmer::KmerSize;
 use memory::Held;
 
 // The mark, the kind and the status.
@@ -25,11 +26,11 @@ fn put_mark(out: &mut [u8], status: u32)
     out[5] = status as u8;
 }
 
-fn put_counts(out: &mut [u8], k: u32, n: usize, m: usize, b: usize)
-    requires { ⌜ (16 ≤ length (now out)) × Countable k n m b ⌝ }
-    ensures { λ _. ⌜ now (out .exit) ≡ sets (now (out .entry)) 6 (le16 k ++ le16 n ++ le16 m ++ le32 b) ⌝ }
+fn put_counts(out: &mut [u8], k: KmerSize, n: usize, m: usize, b: usize)
+    requires { ⌜ (16 ≤ length (now out)) × Countable n m b ⌝ }
+    ensures { λ _. ⌜ now (out .exit) ≡ sets (now (out .entry)) 6 (le16 (k .0) ++ le16 n ++ le16 m ++ le32 b) ⌝ }
 {
-    le::put_u16(out, 6, k as u16);
+    le::put_u16(out, 6, kmer::value(k));
     le::put_u16(out, 8, n as u16);
     le::put_u16(out, 10, m as u16);
     le::put_u32(out, 12, b as u32);
@@ -45,9 +46,9 @@ fn put_offsets(out: &mut [u8], edges: u32, bytes: u32, whole: u32)
     le::put_u32(out, 28, whole);
 }
 
-fn put_header(out: &mut [u8], status: u32, k: u32, n: usize, m: usize, b: usize)
-    requires { ⌜ (32 ≤ length (now out)) × ((status < 256) × Countable k n m b) ⌝ }
-    ensures { λ _. ⌜ now (out .exit) ≡ sets (now (out .entry)) 0 (encodeHeader 1 status k n m b) ⌝ }
+fn put_header(out: &mut [u8], status: u32, k: KmerSize, n: usize, m: usize, b: usize)
+    requires { ⌜ (32 ≤ length (now out)) × ((status < 256) × Countable n m b) ⌝ }
+    ensures { λ _. ⌜ now (out .exit) ≡ sets (now (out .entry)) 0 (encodeHeader 1 status (k .0) n m b) ⌝ }
 {
     put_mark(out, status);
     put_counts(out, k, n, m, b);

@@ -250,14 +250,14 @@ module _ {h : Held} {es vs p heads nexts nodes mp : List ℕ} {start c : ℕ}
   module _ {end : ℕ} {p₁ vs₁ es₁ es₂ vs₂ mp₂ : List ℕ} {last : ℕ} {r : Counts}
       (W : Written vs p (h .used) start nodes c end p₁) (q : length p₁ ≡ length p) (put : vs₁ ≡ putVertex vs start (h .used) (end - h .used))
       (M : EdgesMoved (h .m) es last start es₁) (l : last ≡ getD nodes (c - 1) 0) (D : Removed (h .n) (h .m) es₁ vs₁ rest r es₂ vs₂ mp₂) where
-    removed-is : graphIn (h .k) (r .n) (r .m) es₂ vs₂ p₁ ≡ mergeLinearChain g start rest
+    removed-is : graphIn (h .k .0) (r .n) (r .m) es₂ vs₂ p₁ ≡ mergeLinearChain g start rest
     unfolding mergeLinearChain
     removed-is = byList rest (λ e. absurd (omega (arith, C .some, ap length e, length-tab c (λ (i : ℕ). getD nodes i 0)))) (λ y ys e. at-list y ys e)
       where
-        at-list : (y : ℕ) (ys : List ℕ) → rest ≡ y ∷ ys → graphIn (h .k) (r .n) (r .m) es₂ vs₂ p₁ ≡ mergeLinearChain g start rest
+        at-list : (y : ℕ) (ys : List ℕ) → rest ≡ y ∷ ys → graphIn (h .k .0) (r .n) (r .m) es₂ vs₂ p₁ ≡ mergeLinearChain g start rest
         at-list y ys e =
-            D .is (h .k) p₁ ∙ ap (removeVerticesById rest) (λ i. record {
-              k = h .k;
+            D .is (h .k .0) p₁ ∙ ap (removeVerticesById rest) (λ i. record {
+              k = h .k .0;
               verts = (ap (λ (x : List ℕ). seqsIn (h .n) x p₁) put ∙ verts-joined W q) i;
               edges = (M .is ∙ ap (λ (x : ℕ). map (movedEdge x start) (g .edges)) (l ∙ join-last ∙ ap (lastOf start) e) ∙ edges-joined y ys e
                   ∙ ap (λ (x : List ℕ). map (moveFrom (lastOf start x) (start ∷ x) start) (g .edges)) (sym e)) i;
@@ -266,7 +266,7 @@ module _ {h : Held} {es vs p heads nexts nodes mp : List ℕ} {start c : ℕ}
     tame-rest : (Rattle.laws.proofs.Measures.Tame g (mergeLinearChain g start rest)) × (nodeCount (mergeLinearChain g start rest) < nodeCount g)
     tame-rest = byList rest (λ e. absurd (omega (arith, C .some, ap length e, length-tab c (λ (i : ℕ). getD nodes i 0)))) (λ y ys e. rw e (tame y ys e))
 
-    fit-rest : Fit (graphIn (h .k) (r .n) (r .m) es₂ vs₂ p₁) heads nexts
+    fit-rest : Fit (graphIn (h .k .0) (r .n) (r .m) es₂ vs₂ p₁) heads nexts
     fit-rest = rw removed-is (fit-tame (H .fit) (tame-rest .0))
 
     within-rest : Within (2 * vertexRoom heads) (r .n) vs₂
@@ -291,11 +291,11 @@ module _ {h : Held} {es vs p heads nexts nodes mp : List ℕ} {start c : ℕ}
         → Joined h es vs p heads nexts nodes start c record { k = h .k; n = r .n; m = r .m; used = used } es₂ vs₃ p₃ mp₂
     joined-all {used} {vs₃} {p₃} P b =
         let s = packed-seqs P pool-rest (omega (arith, P .used-is, bytes-rest, R .p-room, q, b)) in
-        let same : graphIn (h .k) (r .n) (r .m) es₂ vs₃ p₃ ≡ graphIn (h .k) (r .n) (r .m) es₂ vs₂ p₁ = λ i. record { k = h .k; verts = s i; edges = edgesIn (r .m) es₂ } in
+        let same : graphIn (h .k .0) (r .n) (r .m) es₂ vs₃ p₃ ≡ graphIn (h .k .0) (r .n) (r .m) es₂ vs₂ p₁ = λ i. record { k = h .k .0; verts = s i; edges = edgesIn (r .m) es₂ } in
         record {
           is = same ∙ removed-is;
           holds = record { fit = rw same fit-rest; within = packed-within P pool-rest (omega (arith, P .used-is, bytes-rest, R .p-room, q, b)); used-room = omega (arith, P .used-is, bytes-rest) };
-          fewer = omega (arith, tame-rest .1, order-in (h .k) (r .n) (r .m) es₂ vs₂ p₁, ap nodeCount removed-is, order-in (h .k) (h .n) (h .m) es vs p);
+          fewer = omega (arith, tame-rest .1, order-in (h .k .0) (r .n) (r .m) es₂ vs₂ p₁, ap nodeCount removed-is, order-in (h .k .0) (h .n) (h .m) es vs p);
           numbered = D .numbered;
           kept = D .kept;
         }

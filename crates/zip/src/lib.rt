@@ -78,8 +78,9 @@ pub fn merge_linear_chain(
     let left = compact::remove_vertices_by_id(es, vs, n, m, nodes, c, map);
     let base = 2 * (heads.len() / 2);
     let packed = pool::pack(vs, left.n, p, base);
+    let kmer_size = held.k;
     Held {
-        k: held.k,
+        k: kmer_size,
         n: left.n,
         m: left.m,
         used: packed,

@@ -33,14 +33,14 @@ module _ {w : Work} {es vs p heads nexts nodes mp : List ℕ} (R : Ready w es vs
   chain-off t = rw (off, linearChain)
     where
       off : ltb s (nodeCount g) && isLinearChainStart g s ≡ false
-      off = rw (lt-ltb s (nodeCount g) (omega (arith, order-in (w .held .k) (w .held .n) (w .held .m) es vs p)), t)
+      off = rw (lt-ltb s (nodeCount g) (omega (arith, order-in (w .held .k .0) (w .held .n) (w .held .m) es vs p)), t)
 
   chain-on : isLinearChainStart g s ≡ true → linearChain g s ≡ traceLinearChain (w .held .n) g s
   unfolding linearChain
-  chain-on t = rw (on, linearChain) (ap (λ (x : ℕ). traceLinearChain x g s) (order-in (w .held .k) (w .held .n) (w .held .m) es vs p))
+  chain-on t = rw (on, linearChain) (ap (λ (x : ℕ). traceLinearChain x g s) (order-in (w .held .k .0) (w .held .n) (w .held .m) es vs p))
     where
       on : ltb s (nodeCount g) && isLinearChainStart g s ≡ true
-      on = rw (lt-ltb s (nodeCount g) (omega (arith, order-in (w .held .k) (w .held .n) (w .held .m) es vs p)), t)
+      on = rw (lt-ltb s (nodeCount g) (omega (arith, order-in (w .held .k .0) (w .held .n) (w .held .m) es vs p)), t)
 
   unchanged : {nodes′ : List ℕ} → length nodes′ ≡ length nodes → linearChain g s ≡ [] → At w es vs p s record { joined = false; work = w } es vs p heads nexts nodes′ mp
   unchanged q e = record {
@@ -60,11 +60,11 @@ module _ {w : Work} {es vs p heads nexts nodes mp : List ℕ} (R : Ready w es vs
       clash t = Rattle.laws.proofs.ListLaws.clash t refl
 
   pub at-no-start : {r : Bool} → ChainStart (w .held .m) (w .held .n) es s r → r ≡ false → At w es vs p s record { joined = false; work = w } es vs p heads nexts nodes mp
-  at-no-start C e = unchanged refl (chain-off (sym (C .is (w .held .k) vs p) ∙ e))
+  at-no-start C e = unchanged refl (chain-off (sym (C .is (w .held .k .0) vs p) ∙ e))
 
   module _ {r : Bool} (C : ChainStart (w .held .m) (w .held .n) es s r) (e : r ≡ true) {c : ℕ} {nodes′ : List ℕ} (T : Traced (w .held .m) (w .held .n) es s c nodes′) (q : length nodes′ ≡ length nodes) where
     chain-is : linearChain g s ≡ numsIn c nodes′
-    chain-is = chain-on (sym (C .is (w .held .k) vs p) ∙ e) ∙ sym (T .is (w .held .k) vs p)
+    chain-is = chain-on (sym (C .is (w .held .k .0) vs p) ∙ e) ∙ sym (T .is (w .held .k .0) vs p)
 
     pub at-none : c ≡ 0 → At w es vs p s record { joined = false; work = w } es vs p heads nexts nodes′ mp
     at-none z = unchanged q (chain-is ∙ ap (λ (x : ℕ). numsIn x nodes′) z ∙ tab-zero (λ (i : ℕ). getD nodes′ i 0))
@@ -75,7 +75,7 @@ module _ {w : Work} {es vs p heads nexts nodes mp : List ℕ} (R : Ready w es vs
       room = omega (arith, T .most, q, held-vertices (R .holds), R .room .vertices-edges, R .room .nodes-room);
       start-below = h;
       below = T .below;
-      chained = subst (λ (l : List ℕ). Chained g s l) (sym (T .is (w .held .k) vs p)) (chained-after g (w .held .n) s);
+      chained = subst (λ (l : List ℕ). Chained g s l) (sym (T .is (w .held .k .0) vs p)) (chained-after g (w .held .n) s);
     }
 
     pub at-room : Room es vs p heads nexts nodes′ mp

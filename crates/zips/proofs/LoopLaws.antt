@@ -171,7 +171,7 @@ module _ {total : ℕ} {w₀ : Work} {es₀ vs₀ p₀ starts₀ : List ℕ} whe
           chain = linearChain g s
 
           left : r .work .held .n ≡ rank (keeps chain) (w .held .n)
-          left = sym (order-in (r .work .held .k) (r .work .held .n) (r .work .held .m) es′ vs′ p′) ∙ ap nodeCount (A .is t) ∙ left-over g s chain ∙ ap (rank (keeps chain)) (order-in (w .held .k) (w .held .n) (w .held .m) es vs p)
+          left = sym (order-in (r .work .held .k .0) (r .work .held .n) (r .work .held .m) es′ vs′ p′) ∙ ap nodeCount (A .is t) ∙ left-over g s chain ∙ ap (rank (keeps chain)) (order-in (w .held .k .0) (w .held .n) (w .held .m) es vs p)
 
           work-is : workOf (r .work) es′ vs′ p′ ≡ again (workOf w es vs p) (mergeLinearChain g s chain)
           work-is = λ j. record { graph = A .is t j; rewrites = (A .one-more t ∙ add-one (w .rewrites)) j }
@@ -193,7 +193,7 @@ module _ {total : ℕ} {w₀ : Work} {es₀ vs₀ p₀ starts₀ : List ℕ} whe
       list : between starts₀ 0 total ≡ keepIf (isLinearChainStart (graphOf (w₀ .held) es₀ vs₀ p₀)) (upFrom 0 (nodeCount (graphOf (w₀ .held) es₀ vs₀ p₀)))
       list = ap (λ (x : ℕ). tab x (λ (j : ℕ). getD starts₀ (0 + j) 0)) (omega arith)
           ∙ tab-ext total (λ (j : ℕ). getD starts₀ (0 + j) 0) (λ (j : ℕ). getD starts₀ j 0) (λ j b. ap (λ (x : ℕ). getD starts₀ x 0) (omega arith))
-          ∙ S .is (w₀ .held .k) vs₀ p₀ ∙ ap (λ (x : ℕ). keepIf (isLinearChainStart (graphOf (w₀ .held) es₀ vs₀ p₀)) (upFrom 0 x)) (sym (order-in (w₀ .held .k) (w₀ .held .n) (w₀ .held .m) es₀ vs₀ p₀))
+          ∙ S .is (w₀ .held .k .0) vs₀ p₀ ∙ ap (λ (x : ℕ). keepIf (isLinearChainStart (graphOf (w₀ .held) es₀ vs₀ p₀)) (upFrom 0 x)) (sym (order-in (w₀ .held .k .0) (w₀ .held .n) (w₀ .held .m) es₀ vs₀ p₀))
 
       long : total ≡ length (keepIf (isLinearChainStart (graphOf (w₀ .held) es₀ vs₀ p₀)) (upFrom 0 (nodeCount (graphOf (w₀ .held) es₀ vs₀ p₀))))
-      long = sym (length-tab total (λ (j : ℕ). getD starts₀ j 0)) ∙ ap length (S .is (w₀ .held .k) vs₀ p₀) ∙ ap (λ (x : ℕ). length (keepIf (isLinearChainStart (graphOf (w₀ .held) es₀ vs₀ p₀)) (upFrom 0 x))) (sym (order-in (w₀ .held .k) (w₀ .held .n) (w₀ .held .m) es₀ vs₀ p₀))
+      long = sym (length-tab total (λ (j : ℕ). getD starts₀ j 0)) ∙ ap length (S .is (w₀ .held .k .0) vs₀ p₀) ∙ ap (λ (x : ℕ). length (keepIf (isLinearChainStart (graphOf (w₀ .held) es₀ vs₀ p₀)) (upFrom 0 x))) (sym (order-in (w₀ .held .k .0) (w₀ .held .n) (w₀ .held .m) es₀ vs₀ p₀))

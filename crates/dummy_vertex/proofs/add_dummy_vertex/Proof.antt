@@ -6,7 +6,7 @@ use Rattle.dummy_vertex.proofs.add_dummy_vertex.Statement.{statement}
 use Rattle.dummy_vertex.proofs.add_dummy_vertex.Tie as tie
 
 returns-2 : tie.Need-returns-2
-returns-2 c = dummy-one (c .before .before .before .before .before .before .before .before .before .before .before .before .args .held) (c .before .before .before .before .before .before .before .before .before .before .before .before .args .es .now) (c .before .before .before .before .before .before .before .before .before .before .before .before .args .vs .now) (c .before .before .before .before .before .before .before .before .before .before .before .before .pre .0) (c .before .before .before .before .before .before .before .before .before .before .before .before .pre .1) (c .before .before .before .before .before .before .before .before .if1 .left) (c .before .before .before .before .before .before .put-vertex .ensures) (c .before .before .put-edge .ensures) refl
+returns-2 c = dummy-one (c .before .before .before .before .before .before .before .before .before .before .before .before .before .args .held) (c .before .before .before .before .before .before .before .before .before .before .before .before .before .args .es .now) (c .before .before .before .before .before .before .before .before .before .before .before .before .before .args .vs .now) (c .before .before .before .before .before .before .before .before .before .before .before .before .before .pre .0) (c .before .before .before .before .before .before .before .before .before .before .before .before .before .pre .1) (c .before .before .before .before .before .before .before .before .before .if1 .left) (c .before .before .before .before .before .before .before .put-vertex .ensures) (c .before .before .before .put-edge .ensures) refl
 
 pub add-dummy-vertex-spec : {M : Type 1} → statement M
 add-dummy-vertex-spec =

@@ -10,11 +10,8 @@ use Rattle.load.proofs.load_graph.Tie as tie
 load-bytes-requires : tie.Need-load-bytes-requires
 load-bytes-requires c κs = (omega (arith, length-is _ (c .before .before .before .before .before .before .before .before .before .before .before .before .before .before .before .before .pre .good), c .before .before .before .before .before .before .before .before .before .before .before .vertex-count .ensures .0, c .before .before .before .before .before .before .before .before .before .before .edge-count .ensures .0, c .before .before .before .before .before .before .before .before .before .byte-count .ensures .0), omega (arith, c .before .before .before .before .before .before .before .before .before .before .before .before .before .before .before .before .pre .p-room, c .before .before .before .before .before .before .before .before .before .byte-count .ensures .0))
 
-u16-at-requires : tie.Need-u16-at-requires
-u16-at-requires c κs = omega (arith, length-is _ (c .before .before .before .before .before .before .before .before .before .before .before .before .before .before .before .before .before .before .before .pre .good))
-
 returns : tie.Need-returns
-returns c = loaded (c .before .before .before .before .before .before .before .before .before .before .before .before .before .before .before .before .before .before .before .before .pre .good) (c .u16-at .ensures) (c .before .before .before .before .before .before .before .before .before .before .before .before .before .before .before .vertex-count .ensures .0) (c .before .before .before .before .before .before .before .before .before .before .before .before .before .before .edge-count .ensures .0) (c .before .before .before .before .before .before .before .before .before .before .before .before .before .byte-count .ensures .0) refl (omega (arith, c .before .before .before .before .before .before .before .before .before .before .before .before .before .before .before .before .before .before .before .before .pre .p-room, c .before .before .before .load-bytes .kept)) (c .before .before .before .before .before .before .before .before .before .before .before .load-edges .ensures) (c .before .before .before .before .before .before .before .load-vertices .ensures) (c .before .before .before .load-bytes .ensures)
+returns c = loaded (c .before .before .before .before .before .before .before .before .before .before .before .before .before .before .before .before .before .before .before .before .pre .good) (c .kmer-size .ensures) (c .before .before .before .before .before .before .before .before .before .before .before .before .before .before .before .vertex-count .ensures .0) (c .before .before .before .before .before .before .before .before .before .before .before .before .before .before .edge-count .ensures .0) (c .before .before .before .before .before .before .before .before .before .before .before .before .before .byte-count .ensures .0) refl (omega (arith, c .before .before .before .before .before .before .before .before .before .before .before .before .before .before .before .before .before .before .before .before .pre .p-room, c .before .before .before .load-bytes .kept)) (c .before .before .before .before .before .before .before .before .before .before .before .load-edges .ensures) (c .before .before .before .before .before .before .before .load-vertices .ensures) (c .before .before .before .load-bytes .ensures)
 
 pub load-graph-spec : {M : Type 1} → statement M
 load-graph-spec =
@@ -30,8 +27,7 @@ load-graph-spec =
     (λ c. search needs)
     (λ c. search needs)
     load-bytes-requires
-    u16-at-requires
-    (λ c. search needs)
+    (λ c κs. search needs)
     (λ c. search needs)
     (λ c. search needs)
     (λ c. search needs)

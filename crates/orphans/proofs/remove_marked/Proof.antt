@@ -12,4 +12,4 @@ remove-marked-spec =
     (λ c. search needs)
     (λ c. search needs)
     (λ c. search needs)
-    (λ c. reduced-closed (c .before .before .before .before .before .before .compact-vertices .ensures) refl))
+    (λ c. reduced-closed (c .before .before .before .before .before .before .before .compact-vertices .ensures) refl))

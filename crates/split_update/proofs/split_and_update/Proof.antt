@@ -14,7 +14,7 @@ remove-vertices-by-id-requires : tie.Need-remove-vertices-by-id-requires
 remove-vertices-by-id-requires c κs = compactable (c .before .before .before .before .before .before .before .before .before .before .before .before .before .before .before .before .before .before .before .pre) (c .before .before .before .before .before .before .before .before .before .before .before .add-vertices .ensures) _ (c .before .before .before .before .before .before .before .before .new-places .ensures) (c .before .before .before .before .before .add-edges .ensures)
 
 returns : tie.Need-returns
-returns c = split-done (c .before .before .before .before .before .before .before .before .before .before .before .before .before .before .before .before .before .before .before .before .before .before .before .before .before .before .pre) (c .before .before .before .before .before .before .before .before .before .before .before .before .before .before .before .before .before .before .add-vertices .ensures) _ (c .before .before .before .before .before .before .before .before .before .before .before .before .before .before .before .new-places .ensures) (c .before .before .before .before .before .before .before .before .before .before .before .before .add-edges .ensures) (c .before .before .before .before .before .before .remove-vertices-by-id .ensures)
+returns c = split-done (c .before .before .before .before .before .before .before .before .before .before .before .before .before .before .before .before .before .before .before .before .before .before .before .before .before .before .before .pre) (c .before .before .before .before .before .before .before .before .before .before .before .before .before .before .before .before .before .before .before .add-vertices .ensures) _ (c .before .before .before .before .before .before .before .before .before .before .before .before .before .before .before .before .new-places .ensures) (c .before .before .before .before .before .before .before .before .before .before .before .before .before .add-edges .ensures) (c .before .before .before .before .before .before .before .remove-vertices-by-id .ensures)
 
 pub split-and-update-spec : {M : Type 1} → statement M
 split-and-update-spec =
