@@ -125,7 +125,7 @@ module _ {bs es vs p heads nexts order scratch place sorted : List ℕ} (R : Roo
     pub convertible : {scratch′ place′ : List ℕ} → length es′ ≡ length es → length order′ ≡ length order → length scratch′ ≡ length scratch → length place′ ≡ length place
         → Convertible (r .held .m) (r .held .n) es′ order′ scratch′ place′ sorted
     convertible a b c d = record {
-      numbers = record { room = omega (arith, held .n-is, room .order-room); below = held .ordered .below; once = held .ordered .once };
+      numbers = held .ordered .numbers;
       ends = held .ends;
       es-room = omega (arith, held .m-is, room .es-room);
       order-edges = omega (arith, held .m-is, R .order-room formed);

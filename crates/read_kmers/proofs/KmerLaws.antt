@@ -30,8 +30,8 @@ use Rattle.load.specs.Loaded.{Loadable, Loaded}
 use Rattle.doubled.specs.Doubled.{Markable}
 use Rattle.cycle.specs.Peel.{Peelable, HasCycle}
 use Rattle.sound.proofs.Accepted.{refused-early, refused-6, refused-7, accepted, by-refusal, read-good}
-use Rattle.kmer_order.specs.Order.{Mergeable, Sortable, KmerOrder}
-use Rattle.kmer_order.proofs.RunLaws.{vertex-numbers}
+use Rattle.sort.specs.Sort.{Sortable}
+use Rattle.kmer_order.specs.Order.{Sequence, KmerOrder}
 use Rattle.accept.specs.declared.Read.{Read}
 use Rattle.read_kmers.specs.Kmers.{Room, Roomy, Doubles, KmersRead}
 
@@ -43,9 +43,6 @@ module _ {m n : ℕ} {es vs p : List ℕ} {d : Bool} {order : List ℕ} (q : d �
 
   pub kmers-double : {e : Bool} → d ≡ false → KmerOrder n vs p order → e ≡ equalKmers (seqsIn n vs p) → Doubles m n es vs p e order
   kmers-double f K r = record { is = rw (sym q ∙ f) r; ordered = λ _. K }
-
-pub sorted-mergeable : {n : ℕ} {order scratch vs p order′ : List ℕ} → Sortable n order scratch vs p → length order′ ≡ length order → KmerOrder n vs p order′ → Mergeable order′ n vs p
-sorted-mergeable S l K = vertex-numbers (K .below) (omega (arith, S .order-room)) (S .vs-room) (S .within)
 
 -- ---- the record
 
@@ -119,13 +116,12 @@ module _ (bs : List ℕ) where
       pub read-markable : Markable (h .n) scratch
       read-markable = record { room = omega (arith, L .n, R .scratch-room); small = omega (arith, n-small) }
 
-      pub read-sortable : length vs′ ≡ length vs → length p′ ≡ length p → Sortable (h .n) order scratch vs′ p′
+      pub read-sortable : length vs′ ≡ length vs → length p′ ≡ length p → Sortable (Sequence vs′ p′) (h .n) order scratch
       read-sortable a b = record {
         order-room = omega (arith, L .n, R .order-room);
         scratch-room = omega (arith, L .n, R .scratch-room);
         small = omega (arith, n-small);
-        vs-room = omega (arith, a, L .n, R .vs-room);
-        within = record { at = λ v c. omega (arith, L .within .at v c, L .used, b, R .p-room) };
+        keys = λ v c. record { room = omega (arith, a, L .n, R .vs-room); inside = omega (arith, L .within .at v c, L .used, b, R .p-room) };
       }
 
       pub read-peelable : {scratch′ : List ℕ} → length scratch′ ≡ length scratch → Peelable (h .n) scratch′ place
