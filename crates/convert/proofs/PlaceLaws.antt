@@ -1,8 +1,7 @@
 -- Edges that are sorted by the places of their ends are sorted by their k-mers. Assumes nothing.
 use mathlib.Core.Path.{_≡_, sym, ap, _∙_}
 use mathlib.Core.Bool.{false}
-use mathlib.Core.Logic.{⊎-elim}
-use mathlib.Core.List.{List, [], List·Memᴰ, List·Memᴰ·not-nil, List·Memᴰ·cases-cons}
+use mathlib.Core.List.{List, [], List·Memᴰ}
 use Prim.Native.Nat.{ℕ, zero, suc, _+_, _*_, _≤_, _<_}
 use native.Mathlib.Omega.{arith}
 use native.Mathlib.Decide.{ℕ-discrete}
@@ -11,7 +10,7 @@ use Rattle.defs.specs.Lists.{tab, tabFrom}
 use Rattle.defs.specs.SeqGraph.{Edge, Graph, vertexSequence}
 use Rattle.defs.specs.Assembly.{bytesBefore, edgeBefore, edgesSorted}
 use Rattle.tabs.proofs.Tabs.{getD-tab}
-use Rattle.tabs.proofs.ListTabs.{mem-tab, of-mem-tab}
+use Rattle.tabs.proofs.ListTabs.{mem-tab, of-mem-tab, of-mem-tab-from}
 use Rattle.store.specs.Store.{edgeIn, edgesIn, seqIn, graphIn, EndsBelow}
 use Rattle.sort.proofs.PermutationLaws.{stands, stands-once}
 use Rattle.kmer_order.specs.Order.{KmerOrder}
@@ -20,11 +19,6 @@ use Rattle.edge_order.specs.Order.{fromPlace, toPlace, EdgeOrder}
 use Rattle.edge_order.proofs.PlaceOrder.{not-earlier}
 use Rattle.convert.specs.Convert.{Separate, Places}
 use Rattle.convert.proofs.SortLaws.{Sorted, Once, edge-no, edge-same, sorted-unique, of-sort, mem-sort, sorted-sort, once-sort}
-
-of-from : (f : ℕ → Edge) (s c : ℕ) (y : Edge) → List·Memᴰ y (tabFrom s c f) → (i : ℕ) × (s ≤ i) × (i < s + c) × (y ≡ f i)
-unfolding tabFrom
-of-from f s zero y m = absurd (List·Memᴰ·not-nil m)
-of-from f s (suc c) y m = ⊎-elim (λ (q : y ≡ f s). (s, omega arith, omega arith, q)) (λ k. let z = of-from f (suc s) c y k in (z .0, omega (arith, z .1), omega (arith, z .2), z .3)) (List·Memᴰ·cases-cons m)
 
 -- ---- the order of the places is that of the k-mers
 
@@ -81,7 +75,7 @@ module _ {m n : ℕ} {es vs p order place : List ℕ} (S : Separate m n es vs p)
     unfolding tabFrom
     sorted-from f s zero h = tt
     sorted-from f s (suc c) h = (
-      λ y m. let z = of-from f (suc s) c y m in rw (z .3) (h s (z .0) (omega arith) (omega (arith, z .1)) (omega (arith, z .2))),
+      λ y m. let z = of-mem-tab-from (suc s) c f m in rw (z .2) (h s (suc s + z .0) (omega arith) (omega arith) (omega (arith, z .1))),
       sorted-from f (suc s) c (λ i j a b d. h i j (omega arith) b (omega arith)),
     )
 
@@ -89,7 +83,7 @@ module _ {m n : ℕ} {es vs p order place : List ℕ} (S : Separate m n es vs p)
     unfolding tabFrom
     once-from f s zero h = tt
     once-from f s (suc c) h = (
-      λ m. let z = of-from f (suc s) c (f s) m in h s (z .0) (omega arith) (omega (arith, z .1)) (omega (arith, z .2)) (z .3),
+      λ m. let z = of-mem-tab-from (suc s) c f m in h s (suc s + z .0) (omega arith) (omega arith) (omega (arith, z .1)) (z .2),
       once-from f (suc s) c (λ i j a b d. h i j (omega arith) b (omega arith)),
     )
 
