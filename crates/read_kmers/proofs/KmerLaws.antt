@@ -4,7 +4,6 @@ use mathlib.Core.Bool.{Bool, true, false, _&&_, _||_}
 use mathlib.Core.List.{List, []}
 use Prim.Native.Nat.{ℕ, zero, suc, _+_, _*_, _≤_, _<_}
 use native.Mathlib.Nat.{mul-zero, mul-suc}
-use native.Mathlib.Numerals.{add-one}
 use native.Mathlib.Omega.{arith}
 use lib.ListN.{length, getD, take}
 use lib.Dec.{eqb}
@@ -15,7 +14,7 @@ use Rattle.defs.specs.Record.{kindOf, kOf, verticesOf, bytesOf, lengthAt, decod
 use Rattle.defs.specs.Refusals.{kmerOnly, takesKind, refusalOf, recordCauses, recordRefusal, doubledEdge, equalKmers, doubled, hasCycle}
 use Rattle.laws.proofs.ListLaws.{clash, byOrder}
 use Rattle.tabs.proofs.Tabs.{getD-tab}
-use Rattle.tabs.proofs.SumTabs.{sum-none, sum-more}
+use Rattle.tabs.proofs.SumTabs.{sum-none, sum-suc}
 use Rattle.store.specs.Store.{edgesIn, seqIn, seqsIn}
 use Rattle.index.specs.Index.{Indexed, Indexable}
 use Rattle.pool.proofs.PoolLaws.{part-long}
@@ -51,15 +50,11 @@ kind-is bs z = eqb-true (kindOf bs) 0 (unfold takesKind in (kind-taken kmerOnly 
 
 pub sum-most : (w n : ℕ) (f : ℕ → ℕ) → ((i : ℕ) → i < n → f i ≤ w) → sum (tab n f) ≤ w * n
 sum-most w zero f h = omega (arith, sum-none f)
-sum-most w (suc n) f h =
-    let s : sum (tab (suc n) f) ≡ sum (tab n f) + f n = ap (λ (x : ℕ). sum (tab x f)) (sym (add-one n)) ∙ sum-more n f in
-    omega (arith, s, h n (omega arith), sum-most w n f (λ i b. h i (omega arith)), mul-suc w n)
+sum-most w (suc n) f h = omega (arith, sum-suc n f, h n (omega arith), sum-most w n f (λ i b. h i (omega arith)), mul-suc w n)
 
 pub sum-least : (w n : ℕ) (f : ℕ → ℕ) → ((i : ℕ) → i < n → w ≤ f i) → w * n ≤ sum (tab n f)
 sum-least w zero f h = omega (arith, mul-zero w)
-sum-least w (suc n) f h =
-    let s : sum (tab (suc n) f) ≡ sum (tab n f) + f n = ap (λ (x : ℕ). sum (tab x f)) (sym (add-one n)) ∙ sum-more n f in
-    omega (arith, s, h n (omega arith), sum-least w n f (λ i b. h i (omega arith)), mul-suc w n)
+sum-least w (suc n) f h = omega (arith, sum-suc n f, h n (omega arith), sum-least w n f (λ i b. h i (omega arith)), mul-suc w n)
 
 -- a k-mer graph has 2 to 128 bytes a vertex
 module _ (bs : List ℕ) (W : WellFormed bs) (z : kindOf bs ≡ 0) where
