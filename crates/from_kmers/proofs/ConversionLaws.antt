@@ -18,9 +18,10 @@ use Rattle.pool.specs.Pool.{bytesIn}
 use Rattle.pool.proofs.PoolLaws.{bytes-below}
 use Rattle.memory.specs.Memory.{graphOf}
 use Rattle.memory.specs.declared.Held.{Held}
+use Rattle.record.proofs.Accepted.{kmer-kind}
 use Rattle.record.specs.Layout.{WellFormed}
 use Rattle.sound.specs.Alike.{noEdge, SameEnds}
-use Rattle.sound.proofs.Accepted.{same-doubled, same-equal, accepted-layout}
+use Rattle.sound.proofs.Accepted.{same-doubled, same-equal, accepted-early, accepted-layout}
 use Rattle.kmer_order.proofs.EqualLaws.{same-kmers}
 use Rattle.convert.specs.Convert.{Trimmable, Trimmed, Separate, Convertible, EdgesSorted}
 use Rattle.convert.proofs.CopyLaws.{converted}
@@ -30,7 +31,7 @@ use Rattle.calls.proofs.CauseLaws.{behind-refused, behind-present, behind-absen
 use Rattle.accept.specs.declared.Read.{Read}
 use Rattle.read_kmers.specs.Kmers as K
 use Rattle.read_kmers.specs.Kmers.{HoldsKmers, KmersRead}
-use Rattle.read_kmers.proofs.KmerLaws.{sum-most, accepted-kind}
+use Rattle.read_kmers.proofs.KmerLaws.{sum-most}
 use Rattle.from_kmers.specs.Conversion.{conversionCauses, Roomy, ConvertedAs}
 use Rattle.from_kmers.specs.declared.Converted.{Converted}
 
@@ -106,7 +107,7 @@ module _ {bs es vs p heads nexts order scratch place sorted : List ℕ} (R : Roo
     formed = accepted-layout kmerOnly bs (sym (A .number) ∙ ok)
 
     room : K.Room bs es vs p heads nexts order scratch place
-    room = R .reading .room formed (accepted-kind bs (sym (A .number) ∙ ok))
+    room = R .reading .room formed (kmer-kind bs (accepted-early kmerOnly bs (sym (A .number) ∙ ok)))
 
     pub convertible : {scratch′ place′ : List ℕ} → length es′ ≡ length es → length order′ ≡ length order → length scratch′ ≡ length scratch → length place′ ≡ length place
         → Convertible (r .held .m) (r .held .n) es′ order′ scratch′ place′ sorted

@@ -7,11 +7,11 @@ use native.Mathlib.Nat.{mul-zero, mul-suc}
 use native.Mathlib.Omega.{arith}
 use lib.ListN.{length, getD, take}
 use lib.Dec.{eqb}
-use borrow.Author.Tests.{eq-eqb, eqb-true}
+use borrow.Author.Tests.{eq-eqb}
 use Rattle.defs.specs.Lists.{tab, sum}
 use Rattle.defs.specs.SeqGraph.{Graph, vertexSequence}
 use Rattle.defs.specs.Record.{kindOf, kOf, verticesOf, bytesOf, lengthAt, decode}
-use Rattle.defs.specs.Refusals.{kmerOnly, takesKind, refusalOf, recordCauses, recordRefusal, doubledEdge, equalKmers, doubled, hasCycle}
+use Rattle.defs.specs.Refusals.{kmerOnly, refusalOf, recordCauses, doubledEdge, equalKmers, doubled, hasCycle}
 use Rattle.laws.proofs.ListLaws.{clash, byOrder}
 use Rattle.tabs.proofs.Tabs.{getD-tab}
 use Rattle.tabs.proofs.SumTabs.{sum-none, sum-suc}
@@ -22,13 +22,13 @@ use Rattle.memory.specs.declared.Held.{Held}
 use Rattle.record.specs.Kinds.{takesOf}
 use Rattle.record.specs.declared.Takes.the-variants.{KmerOnly}
 use Rattle.record.specs.Layout.{WellFormed}
-use Rattle.record.proofs.Accepted.{well-formed, kind-taken}
+use Rattle.record.proofs.Accepted.{well-formed, kmer-kind}
 use Rattle.record.proofs.Tests.{or-false}
 use Rattle.record.proofs.Sequences.{vertex-is, length-sequence}
 use Rattle.load.specs.Loaded.{Loadable, Loaded}
 use Rattle.doubled.specs.Doubled.{Markable}
 use Rattle.cycle.specs.Peel.{Peelable, HasCycle}
-use Rattle.sound.proofs.Accepted.{refused-early, refused-6, refused-7, accepted, by-refusal, read-good}
+use Rattle.sound.proofs.Accepted.{refused-early, refused-6, refused-7, accepted, read-good}
 use Rattle.sort.specs.Sort.{Sortable}
 use Rattle.kmer_order.specs.Order.{Sequence, KmerOrder}
 use Rattle.accept.specs.declared.Read.{Read}
@@ -44,9 +44,6 @@ module _ {m n : ℕ} {es vs p : List ℕ} {d : Bool} {order : List ℕ} (q : d �
   kmers-double f K r = record { is = rw (sym q ∙ f) r; ordered = λ _. K }
 
 -- ---- the record
-
-kind-is : (bs : List ℕ) → refusalOf (take 5 (recordCauses kmerOnly bs)) ≡ 0 → kindOf bs ≡ 0
-kind-is bs z = eqb-true (kindOf bs) 0 (unfold takesKind in (kind-taken kmerOnly bs z))
 
 pub sum-most : (w n : ℕ) (f : ℕ → ℕ) → ((i : ℕ) → i < n → f i ≤ w) → sum (tab n f) ≤ w * n
 sum-most w zero f h = omega (arith, sum-none f)
@@ -76,10 +73,10 @@ module _ (bs : List ℕ) where
     formed = well-formed kmerOnly bs layout
 
     R : Room bs es vs p heads nexts order scratch place
-    R = Y .room formed (kind-is bs layout)
+    R = Y .room formed (kmer-kind bs layout)
 
     size-is : (i : ℕ) → i < verticesOf bs → lengthAt bs i ≡ kOf bs
-    size-is = formed .kmers (kind-is bs layout)
+    size-is = formed .kmers (kmer-kind bs layout)
 
     pub read-loadable : Loadable bs es vs p
     read-loadable = record {
@@ -97,7 +94,7 @@ module _ (bs : List ℕ) where
       m-small = omega (arith, L .m, formed .edges)
 
       used-small : h .used ≤ 262144
-      used-small = omega (arith, L .used, kmer-bytes-most bs formed (kind-is bs layout))
+      used-small = omega (arith, L .used, kmer-bytes-most bs formed (kmer-kind bs layout))
 
       pub read-indexable : length es′ ≡ length es → Indexable (h .m) (h .n) es′ heads nexts
       read-indexable l = record {
@@ -127,7 +124,7 @@ module _ (bs : List ℕ) where
 
       doubled-is : doubled bs ≡ (doubledEdge (edgesIn (h .m) es′) || equalKmers (seqsIn (h .n) vs′ p′))
       unfolding doubled
-      doubled-is = (λ j. doubledEdge ((sym (L .is) j) .edges) || (eqb (kindOf bs) 0 && equalKmers ((sym (L .is) j) .verts))) ∙ rw (eq-eqb (kindOf bs) 0 (kind-is bs layout))
+      doubled-is = (λ j. doubledEdge ((sym (L .is) j) .edges) || (eqb (kindOf bs) 0 && equalKmers ((sym (L .is) j) .verts))) ∙ rw (eq-eqb (kindOf bs) 0 (kmer-kind bs layout))
 
       -- a vertex's k-mer has k bytes
       size-held : length p′ ≡ length p → (v : ℕ) → v < h .n → getD vs′ (2 * v + 1) 0 ≡ h .k
@@ -178,9 +175,6 @@ module _ (bs : List ℕ) where
                   ordered = D .ordered t;
                 };
               }
-
-pub accepted-kind : (bs : List ℕ) → recordRefusal kmerOnly bs ≡ 0 → kindOf bs ≡ 0
-accepted-kind bs z = by-refusal kmerOnly bs (λ l u r. absurd (omega arith)) (λ a d r. kind-is bs a) (λ a d c r. kind-is bs a) (λ a d c r. kind-is bs a)
 
 -- the kinds that the call names are those of the definition
 pub layout-is : (bs : List ℕ) {i : ℕ} → i ≡ refusalOf (take 5 (recordCauses (takesOf KmerOnly) bs)) → i ≡ refusalOf (take 5 (recordCauses kmerOnly bs))

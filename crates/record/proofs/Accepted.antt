@@ -85,8 +85,14 @@ unfolding otherLength
 stated-is bs h = eqb-true _ _ (not-false _ (or-false (ltb (length bs) 32) _ h .1))
 
 -- the kind is one that the call takes
-pub kind-taken : (t : Takes) (bs : List ℕ) → refusalOf (take 5 (recordCauses t bs)) ≡ 0 → takesKind t (kindOf bs) ≡ true
+kind-taken : (t : Takes) (bs : List ℕ) → refusalOf (take 5 (recordCauses t bs)) ≡ 0 → takesKind t (kindOf bs) ≡ true
 kind-taken t bs h = not-false _ (mark-parts t bs (no-cause t bs h .1) .1)
+
+pub kmer-kind : (bs : List ℕ) → refusalOf (take 5 (recordCauses kmerOnly bs)) ≡ 0 → kindOf bs ≡ 0
+kmer-kind bs h = eqb-true (kindOf bs) 0 (unfold takesKind in (kind-taken kmerOnly bs h))
+
+pub sequence-kind : (bs : List ℕ) → refusalOf (take 5 (recordCauses sequenceOnly bs)) ≡ 0 → kindOf bs ≡ 1
+sequence-kind bs h = eqb-true (kindOf bs) 1 (unfold takesKind in (kind-taken sequenceOnly bs h))
 
 pub well-formed : (t : Takes) (bs : List ℕ) → refusalOf (take 5 (recordCauses t bs)) ≡ 0 → WellFormed bs
 well-formed t bs h =
