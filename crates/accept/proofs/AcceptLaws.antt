@@ -6,10 +6,10 @@ use Prim.Native.Nat.{ℕ, _+_, _*_, _/_, _≤_, _<_}
 use native.Mathlib.Omega.{arith}
 use lib.ListN.{length, take}
 use lib.Dec.{eqb}
-use borrow.Author.Tests.{ne-eqb, eqb-true}
+use borrow.Author.Tests.{ne-eqb}
 use Rattle.defs.specs.SeqGraph.{Graph, nodeCount}
 use Rattle.defs.specs.Record.{kindOf, verticesOf, edgesOf, bytesOf, decode}
-use Rattle.defs.specs.Refusals.{sequenceOnly, takesKind, refusalOf, recordCauses, recordRefusal, doubledEdge, equalKmers, doubled, hasCycle}
+use Rattle.defs.specs.Refusals.{sequenceOnly, refusalOf, recordCauses, recordRefusal, doubledEdge, equalKmers, doubled, hasCycle}
 use Rattle.laws.proofs.Fuel.{Good}
 use Rattle.laws.proofs.Measures.{weight, load}
 use Rattle.laws.proofs.Bound.{Small}
@@ -22,16 +22,13 @@ use Rattle.memory.specs.declared.Held.{Held}
 use Rattle.record.specs.Kinds.{takesOf}
 use Rattle.record.specs.declared.Takes.the-variants.{SequenceOnly}
 use Rattle.record.specs.Layout.{WellFormed}
-use Rattle.record.proofs.Accepted.{well-formed, kind-taken}
+use Rattle.record.proofs.Accepted.{well-formed, sequence-kind}
 use Rattle.load.specs.Loaded.{Loadable, Loaded}
 use Rattle.doubled.specs.Doubled.{Markable}
 use Rattle.cycle.specs.Peel.{Peelable, HasCycle}
 use Rattle.sound.proofs.Accepted.{refused-early, refused-6, refused-7, accepted, read-good, read-limits}
 use Rattle.accept.specs.Accept.{Roomy, ReadAs}
 use Rattle.accept.specs.declared.Read.{Read}
-
-kind-is : (bs : List ℕ) → refusalOf (take 5 (recordCauses sequenceOnly bs)) ≡ 0 → kindOf bs ≡ 1
-kind-is bs z = eqb-true (kindOf bs) 1 (unfold takesKind in (kind-taken sequenceOnly bs z))
 
 module _ (bs : List ℕ) {heads nexts : List ℕ} where
   pub read-refused : {i : ℕ} {r : Read} {es vs p : List ℕ} → i ≡ refusalOf (take 5 (recordCauses sequenceOnly bs)) → (i ≡ 0 → ⊥) → r .number ≡ i → ReadAs bs heads nexts r es vs p
@@ -46,14 +43,14 @@ module _ (bs : List ℕ) {heads nexts : List ℕ} where
     formed = well-formed sequenceOnly bs layout
 
     limits : Limits (decode bs)
-    limits = read-limits bs formed (kind-is bs layout)
+    limits = read-limits bs formed (sequence-kind bs layout)
 
     pub read-loadable : Loadable bs es vs p
     read-loadable = record {
       good = formed;
       es-room = omega (arith, formed .edges, R .es-room, Y .vertices, Y .edges);
       vs-room = omega (arith, formed .vertices, R .vs-room, Y .vertices);
-      p-room = omega (arith, formed .bytes (kind-is bs layout), R .p-room, Y .vertices);
+      p-room = omega (arith, formed .bytes (sequence-kind bs layout), R .p-room, Y .vertices);
     }
 
     module _ {h : Held} {es′ vs′ p′ : List ℕ} (L : Loaded bs h es′ vs′ p′) where
@@ -80,7 +77,7 @@ module _ (bs : List ℕ) {heads nexts : List ℕ} where
 
       doubled-is : doubled bs ≡ doubledEdge (edgesIn (h .m) es′)
       unfolding doubled
-      doubled-is = (λ j. doubledEdge ((sym (L .is) j) .edges) || (eqb (kindOf bs) 0 && equalKmers (decode bs .verts))) ∙ rw (ne-eqb (kindOf bs) 0 (λ q. omega (arith, kind-is bs layout))) (or-false _)
+      doubled-is = (λ j. doubledEdge ((sym (L .is) j) .edges) || (eqb (kindOf bs) 0 && equalKmers (decode bs .verts))) ∙ rw (ne-eqb (kindOf bs) 0 (λ q. omega (arith, sequence-kind bs layout))) (or-false _)
         where
           or-false : (b : Bool) → b || false ≡ b
           or-false true = refl
@@ -104,7 +101,7 @@ module _ (bs : List ℕ) {heads nexts : List ℕ} where
             record {
               number = sym (accepted sequenceOnly bs layout (doubled-is ∙ sym a ∙ t) (cycle-is ∙ s));
               is = λ _. L .is;
-              holds = λ _. record { fit = rw (L .is) fit; within = L .within; used-room = omega (arith, L .used, formed .bytes (kind-is bs layout), Y .vertices) };
+              holds = λ _. record { fit = rw (L .is) fit; within = L .within; used-room = omega (arith, L .used, formed .bytes (sequence-kind bs layout), Y .vertices) };
             }
 
 pub layout-zero : (bs : List ℕ) {i : ℕ} → i ≡ refusalOf (take 5 (recordCauses sequenceOnly bs)) → i ≡ 0 → refusalOf (take 5 (recordCauses sequenceOnly bs)) ≡ 0

@@ -6,23 +6,22 @@ use mathlib.Core.Path.{_≡_, refl, sym, ap, _∙_}
 use mathlib.Core.Bool.{Bool, true, false, not, _||_}
 use mathlib.Core.Option.{Option, none, some}
 use mathlib.Core.List.{List, [], _∷_, List·Memᴰ}
-use lib.ListN.{length, getD, take}
-use borrow.Author.Tests.{eqb-true}
+use lib.ListN.{length, getD}
 use Rattle.defs.specs.Lists.{keepIf}
 use Rattle.defs.specs.SeqGraph.{Edge, Graph, nodeCount}
 use Rattle.defs.specs.Zip.{Work, zipLinearChains}
 use Rattle.defs.specs.Simplify.{sequenceBytes, simplifyGraphFull}
 use Rattle.defs.specs.Cleanup.{referenceSourceVertex, referenceSinkVertex, removeSingletonOrphanVertices, removeVerticesNotConnectedToRef, removePathsNotConnectedToRef, withDummyVertex, beforeChoice, choiceGraph, afterChoice, cleanupSeqGraph, withoutNonRefEdges, cleanBetween, cleanNonRefPaths}
-use Rattle.defs.specs.Record.{RecordKind, sequenceGraph, kindOf, kOf, encode, decode}
-use Rattle.defs.specs.Refusals.{sequenceOnly, takesKind, refusalOf, recordCauses, recordRefusal}
+use Rattle.defs.specs.Record.{RecordKind, sequenceGraph, kOf, encode, decode}
+use Rattle.defs.specs.Refusals.{sequenceOnly, recordRefusal}
 use Rattle.laws.proofs.Fuel.{Good}
 use Rattle.laws.proofs.Bound.{Fits}
 use Rattle.laws.proofs.Whole.{byList}
 use Rattle.laws.proofs.Room.{Limits, Narrow, limits-narrow, simplify-narrow, choice-narrow, between-narrow, narrow-fits, cleanup-fits}
 use Rattle.laws.proofs.Cleaned.{orphans-keep, connected-keeps, sink-nil, sink-one, sink-more}
 use Rattle.record.specs.Layout.{WellFormed}
-use Rattle.record.proofs.Accepted.{kind-taken}
-use Rattle.sound.proofs.Accepted.{by-refusal, accepted-layout, accepted-good, accepted-limits}
+use Rattle.record.proofs.Accepted.{sequence-kind}
+use Rattle.sound.proofs.Accepted.{accepted-early, accepted-layout, accepted-good, accepted-limits}
 use Rattle.codec.specs.Encodable.{Encodable, WithinEdge}
 use Rattle.codec.proofs.RoundTrip.{decode-encode, answer-encodable, decoded-encodable}
 use Rattle.answers.proofs.Kept.{simplify-kept, zip-kept}
@@ -31,16 +30,6 @@ use Rattle.answers.proofs.Supports.{SmallSupports, none-small, cons-sma
 -- a list of bytes
 abbrev pub Bytes : List ℕ → Type 0
 Bytes bs = (i : ℕ) → getD bs i 0 < 256
-
-pub accepted-kind : (bs : List ℕ) → recordRefusal sequenceOnly bs ≡ 0 → kindOf bs ≡ 1
-accepted-kind bs z = by-refusal sequenceOnly bs
-    (λ l u r. absurd (omega arith))
-    (λ a d r. taken a)
-    (λ a d c r. taken a)
-    (λ a d c r. taken a)
-  where
-    taken : refusalOf (take 5 (recordCauses sequenceOnly bs)) ≡ 0 → kindOf bs ≡ 1
-    taken a = eqb-true (kindOf bs) 1 (unfold takesKind in (kind-taken sequenceOnly bs a))
 
 -- an answer with k, small supports, and within the limits of answers
 fields-encodable : {k : ℕ} (g : Graph) → k ≤ 128 → Fields k g → Fits g → sequenceBytes (g .verts) ≤ 8192 → Encodable g
@@ -118,7 +107,7 @@ module _ (bs : List ℕ) (small : Bytes bs) (ok : recordRefusal sequenceOnly bs 
   decoded-fields = record { k-is = refl; supports = λ e m. (decoded-encodable bs small (accepted-layout sequenceOnly bs ok)) .each e m .support }
 
   pub decoded-narrow : Narrow (decode bs)
-  decoded-narrow = limits-narrow (decode bs) (accepted-good sequenceOnly bs ok) (accepted-limits sequenceOnly bs ok (accepted-kind bs ok))
+  decoded-narrow = limits-narrow (decode bs) (accepted-good sequenceOnly bs ok) (accepted-limits sequenceOnly bs ok (sequence-kind bs (accepted-early sequenceOnly bs ok)))
 
   k-small : kOf bs ≤ 128
   k-small = (accepted-layout sequenceOnly bs ok) .k-most

@@ -2,56 +2,34 @@
 -- Assumes nothing.
 use Prim.Native.Nat.{ℕ, zero, suc, _+_, _*_, _<_}
 use mathlib.Core.Path.{_≡_, refl, sym, ap, _∙_}
-use mathlib.Core.List.{List, [], _∷_, _++_, map, append-assoc, append-nil}
+use mathlib.Core.List.{List, [], _∷_, _++_, map, append-assoc}
 use native.Mathlib.Nat.{le-of-suc-le-suc, not-suc-le-zero, mul-suc, mul-zero}
+use native.Mathlib.Numerals.{add-one}
 use native.Mathlib.Omega.{arith}
 use lib.ListN.{length, getD, take, drop, length-append}
-use lib.Seq.{take-length, take-add, drop-drop, take-append-seam, drop-append-add}
+use lib.Seq.{take-add, drop-drop, take-append-seam, drop-append-add}
 use Rattle.defs.specs.Lists.{concat, tabFrom, tab, sum}
+use Rattle.tabs.proofs.Tabs.{tab-snoc, tab-ext}
+use Rattle.tabs.proofs.SumTabs.{sum-suc, concat-snoc}
 use Rattle.le.proofs.LeLaws.{getD-middle}
-use Rattle.record.proofs.TabLaws.{tab-snoc, tab-ext, take-tab, sum-snoc}
 
 module _ {A : Type 0} where
-  -- a list is the list of its members by index
-  pub tab-getD : (l : List A) (d : A) → tab (length l) (λ i. getD l i d) ≡ l
-  tab-getD l d = sym (take-tab l d (length l) (omega arith)) ∙ take-length l
-
   tabFrom-shift : (s n : ℕ) (f : ℕ → A) → tabFrom (suc s) n f ≡ tabFrom s n (λ i. f (suc i))
   unfolding tabFrom
   tabFrom-shift s zero f = refl
   tabFrom-shift s (suc n) f = ap (λ (r : List A). f (suc s) ∷ r) (tabFrom-shift (suc s) n f)
 
-  pub tab-cons : (n : ℕ) (f : ℕ → A) → tab (suc n) f ≡ f 0 ∷ tab n (λ i. f (suc i))
+  tab-cons : (n : ℕ) (f : ℕ → A) → tab (suc n) f ≡ f 0 ∷ tab n (λ i. f (suc i))
   unfolding tabFrom
   tab-cons n f = ap (λ (r : List A). f 0 ∷ r) (tabFrom-shift 0 n f)
 
-  map-tabFrom : {B : Type 0} (h : A → B) (s n : ℕ) (f : ℕ → A) → map h (tabFrom s n f) ≡ tabFrom s n (λ i. h (f i))
-  unfolding tabFrom
-  map-tabFrom h s zero f = refl
-  map-tabFrom h s (suc n) f = ap (λ (r : List _). h (f s) ∷ r) (map-tabFrom h (suc s) n f)
-
-  pub map-tab : {B : Type 0} (h : A → B) (n : ℕ) (f : ℕ → A) → map h (tab n f) ≡ tab n (λ i. h (f i))
-  map-tab h n f = map-tabFrom h 0 n f
-
-  pub concat-append : (a b : List (List A)) → concat (a ++ b) ≡ concat a ++ concat b
-  unfolding concat
-  concat-append [] b = refl
-  concat-append (x ∷ a) b = ap (λ (r : List A). x ++ r) (concat-append a b) ∙ sym (append-assoc x (concat a) (concat b))
-
-  concat-one : (x : List A) → concat (x ∷ []) ≡ x
-  unfolding concat
-  concat-one x = append-nil x
-
-  pub concat-snoc : (n : ℕ) (f : ℕ → List A) → concat (tab (suc n) f) ≡ concat (tab n f) ++ f n
-  concat-snoc n f =
-      ap concat (tab-snoc n f)
-      ∙ concat-append (tab n f) (f n ∷ [])
-      ∙ ap (λ (r : List A). concat (tab n f) ++ r) (concat-one (f n))
+  concat-more : (n : ℕ) (f : ℕ → List A) → concat (tab (suc n) f) ≡ concat (tab n f) ++ f n
+  concat-more n f = ap (λ (k : ℕ). concat (tab k f)) (sym (add-one n)) ∙ ap concat (tab-snoc n f) ∙ concat-snoc (tab n f) (f n)
 
 pub sum-const : (n w : ℕ) → sum (tab n (λ _. w)) ≡ w * n
 unfolding tabFrom sum
 sum-const zero w = sym (mul-zero w)
-sum-const (suc n) w = sum-snoc n (λ _. w) ∙ omega (arith, sum-const n w, mul-suc w n)
+sum-const (suc n) w = sum-suc n (λ _. w) ∙ omega (arith, sum-const n w, mul-suc w n)
 
 module _ {A : Type 0} (bs : List A) (s : ℕ) where
   -- parts of lengths l 0, l 1, .. one behind the other are one part
@@ -59,11 +37,11 @@ module _ {A : Type 0} (bs : List A) (s : ℕ) where
   unfolding tabFrom concat sum
   concat-parts l zero = refl
   concat-parts l (suc n) =
-      concat-snoc n (λ i. take (l i) (drop (s + sum (tab i l)) bs))
+      concat-more n (λ i. take (l i) (drop (s + sum (tab i l)) bs))
       ∙ ap (λ (r : List A). r ++ take (l n) (drop (s + sum (tab n l)) bs)) (concat-parts l n)
       ∙ ap (λ (r : List A). take (sum (tab n l)) (drop s bs) ++ take (l n) r) (sym (drop-drop (sum (tab n l)) s bs))
       ∙ sym (take-add (sum (tab n l)) (l n) (drop s bs))
-      ∙ ap (λ (k : ℕ). take k (drop s bs)) (sym (sum-snoc n l))
+      ∙ ap (λ (k : ℕ). take k (drop s bs)) (sym (sum-suc n l))
 
   -- the same for parts of one width
   pub concat-widths : (w n : ℕ) → concat (tab n (λ i. take w (drop (s + w * i) bs))) ≡ take (w * n) (drop s bs)

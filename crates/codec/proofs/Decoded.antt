@@ -11,12 +11,13 @@ use lib.Seq.{getD-drop, getD-take, take-add, take-all}
 use Rattle.defs.specs.Lists.{bit, concat, tabFrom, tab, sum}
 use Rattle.defs.specs.Simplify.{sequenceBytes}
 use Rattle.defs.specs.Record.{mark, kindOf, statusOf, le16, le32, u16At, u32At, kOf, verticesOf, edgesOf, bytesOf, bytesAt, wholeLength, encodeEdge, encodeHeader, lengthAt, sequenceAt, edgeStart, flagAt, edgeAt}
+use Rattle.tabs.proofs.Tabs.{tab-ext, take-tab}
+use Rattle.tabs.proofs.SumTabs.{map-tab}
 use Rattle.le.proofs.LeLaws.{le16-u16At, le32-u32At}
 use Rattle.record.specs.Layout.{WellFormed}
 use Rattle.record.proofs.Fields.{lengthAt-is, edgeStart-is, flagAt-is, sequenceStart-is, sequenceAt-is, bytesAt-is, wholeLength-is}
-use Rattle.record.proofs.TabLaws.{tab-ext, take-tab}
 use Rattle.record.proofs.Sequences.{length-sequence}
-use Rattle.codec.proofs.Concat.{map-tab, concat-parts, concat-widths}
+use Rattle.codec.proofs.Concat.{concat-parts, concat-widths}
 
 total-bytes : (vs : List (List ℕ)) → sequenceBytes vs ≡ sum (map length vs)
 unfolding sequenceBytes sum

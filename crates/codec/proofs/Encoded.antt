@@ -13,9 +13,9 @@ use Rattle.defs.specs.Lists.{bit, concat, tab, sum}
 use Rattle.defs.specs.SeqGraph.{Edge, Graph, nodeCount}
 use Rattle.defs.specs.Simplify.{sequenceBytes}
 use Rattle.defs.specs.Record.{RecordKind, recordKindNumber, le16, le32, u16At, u32At, kOf, verticesOf, edgesOf, encodeEdge, encodeHeader, encode, lengthAt, sequenceStart, sequenceAt, edgeStart, edgeAt}
+use Rattle.tabs.proofs.Tabs.{tab-ext}
 use Rattle.le.proofs.LeLaws.{length-le16, value-of-digits}
 use Rattle.record.proofs.Fields.{lengthAt-is, edgeStart-is, from-is, to-is, support-is, flagAt-is, isRef-is, sequenceStart-is, sequenceAt-is, bytesAt-is}
-use Rattle.record.proofs.TabLaws.{tab-ext}
 use Rattle.codec.specs.Encodable.{EncodableEdge, Encodable}
 use Rattle.codec.proofs.Concat.{Shows, shows-field, length-fields, part-of-concat}
 

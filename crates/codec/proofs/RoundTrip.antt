@@ -13,13 +13,13 @@ use Rattle.defs.specs.SeqGraph.{Edge, Graph, nodeCount}
 use Rattle.defs.specs.Simplify.{sequenceBytes}
 use Rattle.defs.specs.Record.{RecordKind, recordKindNumber, kindOf, statusOf, kOf, verticesOf, edgesOf, bytesOf, u32At, le16, encodeEdge, encodeHeader, encode, lengthAt, sequenceAt, edgeStart, edgeAt, decode}
 use Rattle.defs.specs.Refusals.{Takes, refusalOf, recordCauses}
+use Rattle.tabs.proofs.Tabs.{tab-ext, length-tab, tab-getD}
+use Rattle.tabs.proofs.SumTabs.{sum-below}
 use Rattle.record.specs.Layout.{WellFormed}
 use Rattle.record.proofs.Accepted.{well-formed}
 use Rattle.record.proofs.Fields.{support-is}
 use Rattle.record.proofs.Sequences.{length-sequence}
-use Rattle.record.proofs.TabLaws.{tab-ext, length-tab, sum-upto}
 use Rattle.codec.specs.Encodable.{Encodable, WithinEdge, Within}
-use Rattle.codec.proofs.Concat.{tab-getD}
 use Rattle.codec.proofs.Encoded.{k-read, vertices-read, edges-read, sequence-read, edge-read}
 use Rattle.codec.proofs.Decoded.{header-back, lengths-back, edges-back, bytes-back, bytes-count, in-parts}
 
@@ -119,7 +119,7 @@ module _ (bs : List ℕ) (small : (i : ℕ) → getD bs i 0 < 256) (ok : WellFor
   length-within i below =
       let l : length (sequenceAt bs i) ≡ lengthAt bs i = length-sequence bs i below ok in
       byKind (λ (z : kindOf bs ≡ 0). omega (arith, ok .kmers z i below, ok .k-most))
-      (λ (o : kindOf bs ≡ 1). omega (arith, sum-upto (lengthAt bs) i (verticesOf bs) below, ok .lengths, ok .bytes o))
+      (λ (o : kindOf bs ≡ 1). omega (arith, sum-below (verticesOf bs) i (lengthAt bs) below, ok .lengths, ok .bytes o))
     where
       split : {X : Type 0} (n : ℕ) → n ≤ 1 → (n ≡ 0 → X) → (n ≡ 1 → X) → X
       split zero h f g = f refl

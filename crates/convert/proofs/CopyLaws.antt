@@ -13,10 +13,12 @@ use Rattle.tabs.proofs.Tabs.{tab-ext, getD-tab}
 use Rattle.store.specs.Store.{edge, edgeIn, edgesIn, putEdge, graphIn, EndsBelow, Within}
 use Rattle.compact.proofs.CompactLaws.{order-in}
 use Rattle.store.proofs.EdgeLaws.{length-put, put-same, put-other}
+use Rattle.sort.specs.Sort.{Permutation, Sortable}
+use Rattle.sort.proofs.PermutationLaws.{stands-once}
 use Rattle.kmer_order.specs.Order.{KmerOrder}
-use Rattle.edge_order.specs.Order.{Sortable, EdgeOrder}
-use Rattle.convert.specs.Convert.{Trimmed, Separate, Numbers, Places, Convertible, EdgesSorted}
-use Rattle.convert.proofs.PlaceLaws.{stands-once, places-sorted}
+use Rattle.edge_order.specs.Order.{Keyed, EdgeOrder}
+use Rattle.convert.specs.Convert.{Trimmed, Separate, Places, Convertible, EdgesSorted}
+use Rattle.convert.proofs.PlaceLaws.{places-sorted}
 
 -- ---- places
 
@@ -28,7 +30,7 @@ pub record Placing (n : ℕ) (order place₀ place : List ℕ) (i : ℕ) : Type 
 pub placing-start : {n : ℕ} {order place : List ℕ} → Placing n order place place 0
 placing-start = record { high = omega arith; len = refl; done = λ j b. absurd (omega arith) }
 
-module _ {n : ℕ} {order place₀ : List ℕ} (N : Numbers n order) {place : List ℕ} {i : ℕ} (P : Placing n order place₀ place i) where
+module _ {n : ℕ} {order place₀ : List ℕ} (N : Permutation n order) {place : List ℕ} {i : ℕ} (P : Placing n order place₀ place i) where
   pub placing-more : n ≤ length place₀ → i < n → Placing n order place₀ (set place (getD order i 0) i) (i + 1)
   placing-more r h = record {
     high = omega arith;
@@ -69,30 +71,30 @@ module _ {m : ℕ} {es order out₀ out : List ℕ} {i : ℕ} (C : Copying m es 
 
 -- ---- all together
 
-edge-numbers : {m : ℕ} {es place order : List ℕ} → m ≤ length order → EdgeOrder m es place order → Numbers m order
-edge-numbers r O = record { room = r; below = O .below; once = O .once }
-
 module _ {m n : ℕ} {es order scratch place out : List ℕ} (C : Convertible m n es order scratch place out) where
-  pub edges-sortable : {place′ : List ℕ} → length place′ ≡ length place → Sortable m order scratch es place′
+  pub edges-sortable : {place′ : List ℕ} → length place′ ≡ length place → Sortable (Keyed es place′) m order scratch
   edges-sortable c = record {
     order-room = C .order-edges;
     scratch-room = C .scratch-edges;
     small = C .few-edges;
-    es-room = C .es-room;
-    within = record { at = λ e h. (omega (arith, (C .ends .at e h) .0, C .place-room), omega (arith, (C .ends .at e h) .1, C .place-room)) };
+    keys = λ e h. record {
+      room = omega (arith, C .es-room);
+      from = omega (arith, (C .ends .at e h) .0, C .place-room);
+      to = omega (arith, (C .ends .at e h) .1, C .place-room);
+    };
   }
 
   -- an edge of `out` is one of es
   copied-ends : {place₁ order′ out′ : List ℕ} → EdgeOrder m es place₁ order′ → edgesIn m out′ ≡ tab m (λ (j : ℕ). edgeIn es (getD order′ j 0)) → EndsBelow n m out′
-  copied-ends {order′ = order′} {out′ = out′} O e = record { at = λ j b. let z = C .ends .at (getD order′ j 0) (O .below j b) in let q = same j b in (omega (arith, z .0, ap (λ (x : Edge). x .from) q), omega (arith, z .1, ap (λ (x : Edge). x .to) q)) }
+  copied-ends {order′ = order′} {out′ = out′} O e = record { at = λ j b. let z = C .ends .at (getD order′ j 0) (O .numbers .below j b) in let q = same j b in (omega (arith, z .0, ap (λ (x : Edge). x .from) q), omega (arith, z .1, ap (λ (x : Edge). x .to) q)) }
     where
       same : (j : ℕ) → j < m → edgeIn out′ j ≡ edgeIn es (getD order′ j 0)
       same j b = sym (getD-tab m (edgeIn out′) j (edge 0 0 0 0) b) ∙ ap (λ (l : List Edge). getD l j (edge 0 0 0 0)) e ∙ getD-tab m (λ (j : ℕ). edgeIn es (getD order′ j 0)) j (edge 0 0 0 0) b
 
-  pub edges-done : {place₁ order₂ out′ : List ℕ} → length order₂ ≡ length order → Places n order place₁ → EdgeOrder m es place₁ order₂
+  pub edges-done : {place₁ order₂ out′ : List ℕ} → Places n order place₁ → EdgeOrder m es place₁ order₂
       → edgesIn m out′ ≡ tab m (λ (j : ℕ). edgeIn es (getD order₂ j 0)) → EdgesSorted m n es order out′
-  edges-done b P O e = record {
-    is = λ k vs p S K. e ∙ places-sorted S (C .numbers) K P k (C .ends) (edge-numbers (omega (arith, C .order-edges)) O) O;
+  edges-done P O e = record {
+    is = λ k vs p S K. e ∙ places-sorted S K P k (C .ends) O;
     ends = copied-ends O e;
   }
 

@@ -1,64 +1,31 @@
 -- Edges that are sorted by the places of their ends are sorted by their k-mers. Assumes nothing.
-use mathlib.Core.Path.{_≡_, refl, sym, ap, _∙_}
-use mathlib.Core.Bool.{Bool, true, false}
-use mathlib.Core.Logic.{⊎-elim}
-use mathlib.Core.List.{List, [], _∷_, List·Memᴰ, List·Memᴰ·not-nil, List·Memᴰ·cases-cons}
+use mathlib.Core.Path.{_≡_, sym, ap, _∙_}
+use mathlib.Core.Bool.{false}
+use mathlib.Core.List.{List, [], List·Memᴰ}
 use Prim.Native.Nat.{ℕ, zero, suc, _+_, _*_, _≤_, _<_}
 use native.Mathlib.Omega.{arith}
 use native.Mathlib.Decide.{ℕ-discrete}
-use lib.Dec.{eqb}
-use lib.ListN.{length, getD}
-use borrow.Author.Tests.{eq-eqb, eqb-true}
+use lib.ListN.{getD}
 use Rattle.defs.specs.Lists.{tab, tabFrom}
 use Rattle.defs.specs.SeqGraph.{Edge, Graph, vertexSequence}
 use Rattle.defs.specs.Assembly.{bytesBefore, edgeBefore, edgesSorted}
-use Rattle.laws.proofs.ListLaws.{byOrder, rank-yes, rank-mono}
 use Rattle.tabs.proofs.Tabs.{getD-tab}
-use Rattle.tabs.proofs.ListTabs.{mem-tab, of-mem-tab}
+use Rattle.tabs.proofs.ListTabs.{mem-tab, of-mem-tab, of-mem-tab-from}
 use Rattle.store.specs.Store.{edgeIn, edgesIn, seqIn, graphIn, EndsBelow}
-use Rattle.cycle.proofs.Ranks.{rank-find}
-use Rattle.kmer_order.specs.Order.{times, KmerOrder}
+use Rattle.sort.proofs.PermutationLaws.{stands, stands-once}
+use Rattle.kmer_order.specs.Order.{KmerOrder}
 use Rattle.kmer_order.proofs.BytesOrder.{before-same}
 use Rattle.edge_order.specs.Order.{fromPlace, toPlace, EdgeOrder}
 use Rattle.edge_order.proofs.PlaceOrder.{not-earlier}
-use Rattle.convert.specs.Convert.{Separate, Numbers, Places}
+use Rattle.convert.specs.Convert.{Separate, Places}
 use Rattle.convert.proofs.SortLaws.{Sorted, Once, edge-no, edge-same, sorted-unique, of-sort, mem-sort, sorted-sort, once-sort}
-
-of-from : (f : ℕ → Edge) (s c : ℕ) (y : Edge) → List·Memᴰ y (tabFrom s c f) → (i : ℕ) × (s ≤ i) × (i < s + c) × (y ≡ f i)
-unfolding tabFrom
-of-from f s zero y m = absurd (List·Memᴰ·not-nil m)
-of-from f s (suc c) y m = ⊎-elim (λ (q : y ≡ f s). (s, omega arith, omega arith, q)) (λ k. let z = of-from f (suc s) c y k in (z .0, omega (arith, z .1), omega (arith, z .2), z .3)) (List·Memᴰ·cases-cons m)
-
--- ---- each number once
-
-module _ {n : ℕ} {order : List ℕ} (N : Numbers n order) where
-  twice : (i j : ℕ) → i < j → j < n → getD order i 0 ≡ getD order j 0 → ⊥
-  twice i j h b q =
-      let f : ℕ → Bool = λ (k : ℕ). eqb (getD order k 0) (getD order j 0) in
-      omega (
-        arith,
-        N .once (getD order j 0) (N .below j b),
-        rank-yes f i (eq-eqb (getD order i 0) (getD order j 0) q),
-        rank-mono f (suc i) j h,
-        rank-yes f j (eq-eqb (getD order j 0) (getD order j 0) refl),
-        rank-mono f (suc j) n b,
-      )
-
-  pub stands-once : (i j : ℕ) → i < n → j < n → getD order i 0 ≡ getD order j 0 → i ≡ j
-  stands-once i j a b q = elim (ℕ-discrete i j) [
-    | yes e ↦ e
-    | no ne ↦ absurd (byOrder i j (λ l. twice i j (omega arith) b q) (λ l. twice j i l a (sym q)))
-  ]
-
-  pub stands : (v : ℕ) → v < n → (i : ℕ) × (i < n) × (getD order i 0 ≡ v)
-  stands v h = rank-find (λ (i : ℕ). eqb (getD order i 0) v) n (λ z. absurd (omega (arith, N .once v h))) (λ i b t. (i, b, eqb-true (getD order i 0) v t))
 
 -- ---- the order of the places is that of the k-mers
 
-module _ {m n : ℕ} {es vs p order place : List ℕ} (S : Separate m n es vs p) (N : Numbers n order) (O : KmerOrder n vs p order) (P : Places n order place) where
+module _ {m n : ℕ} {es vs p order place : List ℕ} (S : Separate m n es vs p) (O : KmerOrder n vs p order) (P : Places n order place) where
   home : (v : ℕ) → v < n → (getD place v 0 < n) × (getD order (getD place v 0) 0 ≡ v)
   home v h =
-      let s = stands N v h in
+      let s = stands (O .numbers) v h in
       let q : getD place v 0 ≡ s .0 = ap (λ (x : ℕ). getD place x 0) (sym (s .2)) ∙ P .at (s .0) (s .1) in
       (omega (arith, s .1), ap (λ (x : ℕ). getD order x 0) q ∙ s .2)
 
@@ -108,7 +75,7 @@ module _ {m n : ℕ} {es vs p order place : List ℕ} (S : Separate m n es vs p)
     unfolding tabFrom
     sorted-from f s zero h = tt
     sorted-from f s (suc c) h = (
-      λ y m. let z = of-from f (suc s) c y m in rw (z .3) (h s (z .0) (omega arith) (omega (arith, z .1)) (omega (arith, z .2))),
+      λ y m. let z = of-mem-tab-from (suc s) c f m in rw (z .2) (h s (suc s + z .0) (omega arith) (omega arith) (omega (arith, z .1))),
       sorted-from f (suc s) c (λ i j a b d. h i j (omega arith) b (omega arith)),
     )
 
@@ -116,21 +83,21 @@ module _ {m n : ℕ} {es vs p order place : List ℕ} (S : Separate m n es vs p)
     unfolding tabFrom
     once-from f s zero h = tt
     once-from f s (suc c) h = (
-      λ m. let z = of-from f (suc s) c (f s) m in h s (z .0) (omega arith) (omega (arith, z .1)) (omega (arith, z .2)) (z .3),
+      λ m. let z = of-mem-tab-from (suc s) c f m in h s (suc s + z .0) (omega arith) (omega arith) (omega (arith, z .1)) (z .2),
       once-from f (suc s) c (λ i j a b d. h i j (omega arith) b (omega arith)),
     )
 
-    module _ {eorder : List ℕ} (M : Numbers m eorder) (Q : EdgeOrder m es place eorder) where
+    module _ {eorder : List ℕ} (Q : EdgeOrder m es place eorder) where
       abbrev at : ℕ → Edge
       at i = edgeIn es (getD eorder i 0)
 
       forth : (x : Edge) → List·Memᴰ x (tab m at) → List·Memᴰ x (edgesIn m es)
-      forth x k = let z = of-mem-tab m at k in rw (z .2) (mem-tab m (edgeIn es) (getD eorder (z .0) 0) (M .below (z .0) (z .1)))
+      forth x k = let z = of-mem-tab m at k in rw (z .2) (mem-tab m (edgeIn es) (getD eorder (z .0) 0) (Q .numbers .below (z .0) (z .1)))
 
       back : (x : Edge) → List·Memᴰ x (edgesIn m es) → List·Memᴰ x (tab m at)
       back x k =
           let z = of-mem-tab m (edgeIn es) k in
-          let s = stands M (z .0) (z .1) in
+          let s = stands (Q .numbers) (z .0) (z .1) in
           rw (z .2 ∙ ap (edgeIn es) (sym (s .2))) (mem-tab m at (s .0) (s .1))
 
       anti : (x y : Edge) → List·Memᴰ x (tab m at) → List·Memᴰ y (tab m at) → edgeBefore g x y ≡ false → edgeBefore g y x ≡ false → x ≡ y
@@ -139,14 +106,14 @@ module _ {m n : ℕ} {es vs p order place : List ℕ} (S : Separate m n es vs p)
           let v = of-mem-tab m at b in
           let i = getD eorder (u .0) 0 in
           let j = getD eorder (v .0) 0 in
-          u .2 ∙ ap (edgeIn es) (edge-is i j (M .below (u .0) (u .1)) (M .below (v .0) (v .1)) (rw (u .2, v .2) at f) (rw (u .2, v .2) at e)) ∙ sym (v .2)
+          u .2 ∙ ap (edgeIn es) (edge-is i j (Q .numbers .below (u .0) (u .1)) (Q .numbers .below (v .0) (v .1)) (rw (u .2, v .2) at f) (rw (u .2, v .2) at e)) ∙ sym (v .2)
 
       pub places-sorted : tab m at ≡ edgesSorted g
       unfolding edgesSorted
       places-sorted = sorted-unique g (tab m at) _
-          (sorted-from at 0 m (λ i j a b c. let d = Q .ordered .at i j (omega arith) b (omega arith) in let z = not-earlier es place (getD eorder j 0) (getD eorder i 0) d in edge-later (getD eorder j 0) (getD eorder i 0) (M .below j (omega arith)) (M .below i (omega arith)) (z .0) (z .1)))
+          (sorted-from at 0 m (λ i j a b c. let d = Q .ordered .at i j (omega arith) b (omega arith) in let z = not-earlier es place (getD eorder j 0) (getD eorder i 0) d in edge-later (getD eorder j 0) (getD eorder i 0) (Q .numbers .below j (omega arith)) (Q .numbers .below i (omega arith)) (z .0) (z .1)))
           (sorted-sort g (edgesIn m es))
-          (once-from at 0 m (λ i j a b c q. omega (arith, stands-once M i j (omega arith) (omega arith) (edge-equal (getD eorder i 0) (getD eorder j 0) (M .below i (omega arith)) (M .below j (omega arith)) q))))
+          (once-from at 0 m (λ i j a b c q. omega (arith, stands-once (Q .numbers) i j (omega arith) (omega arith) (edge-equal (getD eorder i 0) (getD eorder j 0) (Q .numbers .below i (omega arith)) (Q .numbers .below j (omega arith)) q))))
           (once-sort g (edgesIn m es) (once-from (edgeIn es) 0 m (λ i j a b c q. omega (arith, edge-equal i j (omega arith) (omega arith) q))))
           (λ x k. mem-sort g (edgesIn m es) x (forth x k))
           (λ x k. back x (of-sort g (edgesIn m es) x k))

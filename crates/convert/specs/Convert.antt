@@ -6,7 +6,8 @@ use lib.ListN.{length, getD}
 use Rattle.defs.specs.Lists.{tab}
 use Rattle.defs.specs.Assembly.{additionalSequence, edgesSorted}
 use Rattle.store.specs.Store.{edgesIn, seqIn, seqsIn, graphIn, EndsBelow, Within}
-use Rattle.kmer_order.specs.Order.{times, KmerOrder}
+use Rattle.sort.specs.Sort.{Permutation}
+use Rattle.kmer_order.specs.Order.{KmerOrder}
 
 -- n vertices, none of them empty
 pub record Trimmable (n : ℕ) (vs : List ℕ) : Type 0 where
@@ -24,26 +25,19 @@ pub record Separate (m n : ℕ) (es vs p : List ℕ) : Type 0 where
   pub kmers : (u v : ℕ) → u < n → v < n → seqIn vs p u ≡ seqIn vs p v → u ≡ v
   pub edges : (a b : ℕ) → a < m → b < m → getD es (4 * a) 0 ≡ getD es (4 * b) 0 → getD es (4 * a + 1) 0 ≡ getD es (4 * b + 1) 0 → a ≡ b
 
--- the numbers below n, each once
-pub record Numbers (n : ℕ) (order : List ℕ) : Type 0 where
-  pub room : n ≤ length order
-  pub below : (i : ℕ) → i < n → getD order i 0 < n
-  pub once : (v : ℕ) → v < n → times v order n ≡ 1
-
 -- place has where each number stands in the order
 pub record Places (n : ℕ) (order place : List ℕ) : Type 0 where
   pub at : (i : ℕ) → i < n → getD place (getD order i 0) 0 ≡ i
 
--- m edges, and room for as many
+-- m edges in some order, and room for as many
 pub record Copyable (m : ℕ) (es order out : List ℕ) : Type 0 where
   pub es-room : 4 * m ≤ length es
-  pub order-room : m ≤ length order
-  pub below : (i : ℕ) → i < m → getD order i 0 < m
+  pub numbers : Permutation m order
   pub out-room : 4 * m ≤ length out
 
 -- the vertices in some order, and room for the numbers of the edges, and for the edges once more
 pub record Convertible (m n : ℕ) (es order scratch place out : List ℕ) : Type 0 where
-  pub numbers : Numbers n order
+  pub numbers : Permutation n order
   pub ends : EndsBelow n m es
   pub es-room : 4 * m ≤ length es
   pub order-edges : m ≤ length order

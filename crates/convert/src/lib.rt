@@ -6,7 +6,8 @@ ghost use lib.ListN.{length, getD};
 ghost use Rattle.index.specs.Index.{Indexed};
 ghost use Rattle.defs.specs.Lists.{tab};
 ghost use Rattle.store.specs.Store.{edgeIn, edgesIn};
-ghost use Rattle.convert.specs.Convert.{Trimmable, Trimmed, Numbers, Places, Copyable, Convertible, EdgesSorted};
+ghost use Rattle.sort.specs.Sort.{Permutation};
+ghost use Rattle.convert.specs.Convert.{Trimmable, Trimmed, Places, Copyable, Convertible, EdgesSorted};
 
 // The vertices get their additional sequences, which are parts of their k-mers.
 pub fn additional_sequences(
@@ -34,7 +35,7 @@ pub fn additional_sequences(
 
 // Notes where each of the first n numbers of `order` stands.
 fn put_places(order: &[u32], n: usize, place: &mut [u32])
-    requires { ⌜ Numbers n (now order) × ((n ≤ length (now place)) × (n < 4294967296)) ⌝ }
+    requires { ⌜ Permutation n (now order) × ((n ≤ length (now place)) × (n < 4294967296)) ⌝ }
     ensures { λ _. ⌜ Places n (now (order .entry)) (now (place .exit)) ⌝ }
 {
     let mut i = 0;

@@ -1,4 +1,3 @@
 pub mod CycleLaws
-pub mod Ranks
 pub mod QueueLaws
 pub mod PeelLaws

@@ -26,7 +26,7 @@ use Rattle.index.specs.Index.{endOf, edgesAt, pairAt, Next, Index, Indexed}
 use Rattle.index.proofs.IndexLaws.{end-below}
 use Rattle.cycle.specs.Peel.{Peelable, Counted, stands, entering, Queued, Peeling, Sourced, HasCycle}
 use Rattle.cycle.proofs.CycleLaws.{ranked-no-cycle, closed-cycle}
-use Rattle.cycle.proofs.Ranks.{rank-same, rank-most, rank-none, rank-find, length-kept, distinct-tab}
+use Rattle.tabs.proofs.Ranks.{rank-same, rank-most, rank-none, rank-find, length-kept, distinct-tab}
 use Rattle.cycle.proofs.QueueLaws.{stands-later, stands-yes, stands-move, stands-turn, of-entering, placeAt, at-same, at-other, queue-room, queued-as, queued-push, queued-take, entered-some, entered-out}
 
 pub pair-first : (l : List ℕ) (i : ℕ) → getD l (2 * i) 0 ≡ pairAt 0 l i

@@ -20,7 +20,7 @@ use Rattle.store.specs.Store.{EndsBelow}
 use Rattle.index.specs.Index.{endOf}
 use Rattle.index.proofs.IndexLaws.{end-below}
 use Rattle.cycle.specs.Peel.{stands, entering, Queued}
-use Rattle.cycle.proofs.Ranks.{rank-same, rank-less, rank-none, distinct-tab}
+use Rattle.tabs.proofs.Ranks.{rank-same, rank-less, rank-none, distinct-tab}
 
 -- ---- an edge that stands
 

@@ -1,3 +1,1 @@
 pub mod PlaceOrder
-pub mod MergeLaws
-pub mod RunLaws

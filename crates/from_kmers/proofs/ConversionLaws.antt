@@ -1,18 +1,15 @@
 -- Conversion, step by step. Assumes nothing.
 use mathlib.Core.Path.{_≡_, refl, sym, ap, _∙_}
-use mathlib.Core.Bool.{Bool, true, false}
-use mathlib.Core.Logic.{⊎-elim}
-use mathlib.Core.List.{List, [], _∷_, List·Memᴰ·not-nil, List·Memᴰ·cases-cons}
+use mathlib.Core.List.{List, []}
 use Prim.Native.Nat.{ℕ, _+_, _*_, _≤_, _<_}
 use native.Mathlib.Omega.{arith}
 use native.Mathlib.Decide.{ℕ-discrete}
-use lib.Dec.{ltb}
 use lib.ListN.{length, getD}
 use borrow.Author.Tests.{lt-ltb, le-ltb}
 use Rattle.defs.specs.SeqGraph.{Edge, Graph}
 use Rattle.defs.specs.Simplify.{sequenceBytes}
 use Rattle.defs.specs.Record.{decode}
-use Rattle.defs.specs.Refusals.{Cause, refusalOf, kmerOnly, recordCauses, recordRefusal}
+use Rattle.defs.specs.Refusals.{refusalOf, kmerOnly, recordRefusal}
 use Rattle.defs.specs.Assembly.{fromAssemblyGraph}
 use Rattle.laws.proofs.ListLaws.{clash, byOrder}
 use Rattle.tabs.proofs.Tabs.{getD-tab, length-tab}
@@ -21,55 +18,45 @@ use Rattle.pool.specs.Pool.{bytesIn}
 use Rattle.pool.proofs.PoolLaws.{bytes-below}
 use Rattle.memory.specs.Memory.{graphOf}
 use Rattle.memory.specs.declared.Held.{Held}
+use Rattle.record.proofs.Accepted.{kmer-kind}
 use Rattle.record.specs.Layout.{WellFormed}
 use Rattle.sound.specs.Alike.{noEdge, SameEnds}
-use Rattle.sound.proofs.Accepted.{same-doubled, same-equal, accepted-layout}
-use Rattle.sound.proofs.Causes.{Numbered, refusal-earlier, refusal-later}
+use Rattle.sound.proofs.Accepted.{same-doubled, same-equal, accepted-early, accepted-layout}
 use Rattle.kmer_order.proofs.EqualLaws.{same-kmers}
 use Rattle.convert.specs.Convert.{Trimmable, Trimmed, Separate, Convertible, EdgesSorted}
 use Rattle.convert.proofs.CopyLaws.{converted}
 use Rattle.write_record.specs.Written.{Measured}
 use Rattle.write_record.proofs.WriteLaws.{bytes-are}
+use Rattle.calls.proofs.CauseLaws.{behind-refused, behind-present, behind-absent}
 use Rattle.accept.specs.declared.Read.{Read}
 use Rattle.read_kmers.specs.Kmers as K
 use Rattle.read_kmers.specs.Kmers.{HoldsKmers, KmersRead}
-use Rattle.read_kmers.proofs.KmerLaws.{sum-most, accepted-kind}
+use Rattle.read_kmers.proofs.KmerLaws.{sum-most}
 use Rattle.from_kmers.specs.Conversion.{conversionCauses, Roomy, ConvertedAs}
 use Rattle.from_kmers.specs.declared.Converted.{Converted}
 
 -- ---- the causes
 
-numbered-more : (n : ℕ) (b : Bool) (cs : List Cause) → 0 < n → Numbered cs → Numbered (record { number = n; present = b } ∷ cs)
-numbered-more n b cs l N = record { at = λ c m. ⊎-elim (λ (q : c ≡ record { number = n; present = b }). omega (arith, ap (λ (x : Cause). x .number) q)) (λ k. N .at c k) (List·Memᴰ·cases-cons m) }
-
-record-numbered : (bs : List ℕ) → Numbered (recordCauses kmerOnly bs)
-unfolding recordCauses
-record-numbered bs =
-    numbered-more 1 _ _ (omega arith) (numbered-more 2 _ _ (omega arith) (numbered-more 3 _ _ (omega arith) (numbered-more 4 _ _ (omega arith)
-    (numbered-more 5 _ _ (omega arith) (numbered-more 6 _ _ (omega arith) (numbered-more 7 _ _ (omega arith) record { at = λ c m. absurd (List·Memᴰ·not-nil m) }))))))
-
-one-cause : (b : Bool) → refusalOf (record { number = 8; present = b } ∷ []) ≡ elim b [ true ↦ 8 | false ↦ 0 ]
-unfolding refusalOf
-one-cause true = refl
-one-cause false = refl
-
 module _ (bs : List ℕ) where
-  early : {i : ℕ} → recordRefusal kmerOnly bs ≡ i → 0 < i → refusalOf (conversionCauses bs) ≡ i
-  unfolding conversionCauses recordRefusal
-  early e l = refusal-earlier (recordCauses kmerOnly bs) _ e l
+  early : {i : ℕ} → recordRefusal kmerOnly bs ≡ i → (i ≡ 0 → ⊥) → refusalOf (conversionCauses bs) ≡ i
+  unfolding conversionCauses
+  early e o = behind-refused kmerOnly bs 8 _ e o
 
-  late : recordRefusal kmerOnly bs ≡ 0 → {b : Bool} → ltb 8192 (sequenceBytes ((fromAssemblyGraph (decode bs)) .verts)) ≡ b → refusalOf (conversionCauses bs) ≡ elim b [ true ↦ 8 | false ↦ 0 ]
-  unfolding conversionCauses recordRefusal
-  late z {b} q = refusal-later (recordCauses kmerOnly bs) _ (record-numbered bs) z ∙ ap (λ (x : Bool). refusalOf (record { number = 8; present = x } ∷ [])) q ∙ one-cause b
+  module _ (z : recordRefusal kmerOnly bs ≡ 0) where
+    too-long : 8192 < sequenceBytes ((fromAssemblyGraph (decode bs)) .verts) → refusalOf (conversionCauses bs) ≡ 8
+    unfolding conversionCauses
+    too-long l = behind-present kmerOnly bs 8 _ z (lt-ltb 8192 (sequenceBytes ((fromAssemblyGraph (decode bs)) .verts)) l)
+
+    no-cause : sequenceBytes ((fromAssemblyGraph (decode bs)) .verts) ≤ 8192 → refusalOf (conversionCauses bs) ≡ 0
+    unfolding conversionCauses
+    no-cause l = behind-absent kmerOnly bs 8 _ z (le-ltb 8192 (sequenceBytes ((fromAssemblyGraph (decode bs)) .verts)) l)
 
   -- where no cause is present, none lies in the record, and the converted graph is small
   pub none-early : refusalOf (conversionCauses bs) ≡ 0 → recordRefusal kmerOnly bs ≡ 0
-  none-early z = byOrder 1 (recordRefusal kmerOnly bs) (λ l. absurd (omega (arith, early refl l))) (λ l. omega arith)
+  none-early z = elim (ℕ-discrete (recordRefusal kmerOnly bs) 0) [ yes q ↦ q | no ne ↦ absurd (ne (sym (early refl ne) ∙ z)) ]
 
   pub none-late : refusalOf (conversionCauses bs) ≡ 0 → sequenceBytes ((fromAssemblyGraph (decode bs)) .verts) ≤ 8192
-  none-late z = byOrder (sequenceBytes ((fromAssemblyGraph (decode bs)) .verts)) 8192
-      (λ l. l)
-      (λ l. absurd (omega (arith, late (none-early z) (lt-ltb 8192 (sequenceBytes ((fromAssemblyGraph (decode bs)) .verts)) l))))
+  none-late z = byOrder (sequenceBytes ((fromAssemblyGraph (decode bs)) .verts)) 8192 (λ l. l) (λ l. absurd (omega (arith, too-long (none-early z) l)))
 
 -- ---- no k-mer and no edge is there twice
 
@@ -107,7 +94,7 @@ module _ {bs : List ℕ} {h : Held} {es vs p heads nexts order : List ℕ} (H : 
 module _ {bs es vs p heads nexts order scratch place sorted : List ℕ} (R : Roomy bs es vs p heads nexts order scratch place sorted) {r : Read} {es′ vs′ p′ heads′ nexts′ order′ : List ℕ} (A : KmersRead bs r es′ vs′ p′ heads′ nexts′ order′) where
   pub refused : {c : Converted} {es₂ vs₂ p₂ : List ℕ} → (r .number ≡ 0 → ⊥) → c .number ≡ r .number → ConvertedAs bs c es₂ vs₂ p₂
   refused o q = record {
-    number = q ∙ sym (early bs (sym (A .number)) (byOrder 1 (r .number) (λ b. b) (λ b. absurd (o (omega arith)))));
+    number = q ∙ sym (early bs (sym (A .number)) o);
     is = λ z. absurd (o (sym q ∙ z));
     sendable = λ z. absurd (o (sym q ∙ z));
   }
@@ -120,12 +107,12 @@ module _ {bs es vs p heads nexts order scratch place sorted : List ℕ} (R : Roo
     formed = accepted-layout kmerOnly bs (sym (A .number) ∙ ok)
 
     room : K.Room bs es vs p heads nexts order scratch place
-    room = R .reading .room formed (accepted-kind bs (sym (A .number) ∙ ok))
+    room = R .reading .room formed (kmer-kind bs (accepted-early kmerOnly bs (sym (A .number) ∙ ok)))
 
     pub convertible : {scratch′ place′ : List ℕ} → length es′ ≡ length es → length order′ ≡ length order → length scratch′ ≡ length scratch → length place′ ≡ length place
         → Convertible (r .held .m) (r .held .n) es′ order′ scratch′ place′ sorted
     convertible a b c d = record {
-      numbers = record { room = omega (arith, held .n-is, room .order-room); below = held .ordered .below; once = held .ordered .once };
+      numbers = held .ordered .numbers;
       ends = held .ends;
       es-room = omega (arith, held .m-is, room .es-room);
       order-edges = omega (arith, held .m-is, R .order-room formed);
@@ -165,14 +152,14 @@ module _ {bs es vs p heads nexts order scratch place sorted : List ℕ} (R : Roo
         module _ {b : ℕ} (q : b ≡ bytesIn (r .held .n) vs″) where
           pub over : 8192 < b → {c : Converted} {es₂ vs₂ p₂ : List ℕ} → c .number ≡ 8 → ConvertedAs bs c es₂ vs₂ p₂
           over l e = record {
-            number = e ∙ sym (late bs (sym (A .number) ∙ ok) (lt-ltb 8192 (sequenceBytes ((fromAssemblyGraph (decode bs)) .verts)) (omega (arith, bytes-is))));
+            number = e ∙ sym (too-long bs (sym (A .number) ∙ ok) (omega (arith, bytes-is)));
             is = λ z. absurd (omega arith);
             sendable = λ z. absurd (omega arith);
           }
 
           pub done : b ≤ 8192 → length vs″ ≡ length vs′ → length vs′ ≡ length vs → length sorted′ ≡ length sorted → ConvertedAs bs record { number = 0; held = r .held } sorted′ vs″ p′
           done l lv lw ls = record {
-            number = sym (late bs (sym (A .number) ∙ ok) (le-ltb 8192 (sequenceBytes ((fromAssemblyGraph (decode bs)) .verts)) (omega (arith, bytes-is))));
+            number = sym (no-cause bs (sym (A .number) ∙ ok) (omega (arith, bytes-is)));
             is = λ _. graph-is;
             sendable = λ _. record {
               measured = measured;

@@ -1,4 +1,2 @@
 pub mod BytesOrder
-pub mod MergeLaws
-pub mod RunLaws
 pub mod EqualLaws

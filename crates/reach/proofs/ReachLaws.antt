@@ -22,7 +22,7 @@ use Rattle.store.specs.Store.{isSet, graphIn, EndsBelow}
 use Rattle.compact.proofs.CompactLaws.{order-in}
 use Rattle.index.specs.Index.{endOf, pairAt, Next, Index, Indexed}
 use Rattle.index.proofs.IndexLaws.{end-below}
-use Rattle.cycle.proofs.Ranks.{distinct-tab}
+use Rattle.tabs.proofs.Ranks.{distinct-tab}
 use Rattle.reach.specs.Reach.{walkStep, takesEnd, passable, bare, Walkable, Cleared, Found, Grown, Spread, Pushed, VertexLeft, Reached}
 use Rattle.reach.proofs.StepLaws.{step-hop, hop-step, short-reached}
 

@@ -4,18 +4,17 @@ use mathlib.Core.Bool.{Bool, true, false, _&&_, _||_}
 use mathlib.Core.List.{List, []}
 use Prim.Native.Nat.{ℕ, zero, suc, _+_, _*_, _≤_, _<_}
 use native.Mathlib.Nat.{mul-zero, mul-suc}
-use native.Mathlib.Numerals.{add-one}
 use native.Mathlib.Omega.{arith}
 use lib.ListN.{length, getD, take}
 use lib.Dec.{eqb}
-use borrow.Author.Tests.{eq-eqb, eqb-true}
+use borrow.Author.Tests.{eq-eqb}
 use Rattle.defs.specs.Lists.{tab, sum}
 use Rattle.defs.specs.SeqGraph.{Graph, vertexSequence}
 use Rattle.defs.specs.Record.{kindOf, kOf, verticesOf, bytesOf, lengthAt, decode}
-use Rattle.defs.specs.Refusals.{kmerOnly, takesKind, refusalOf, recordCauses, recordRefusal, doubledEdge, equalKmers, doubled, hasCycle}
+use Rattle.defs.specs.Refusals.{kmerOnly, refusalOf, recordCauses, doubledEdge, equalKmers, doubled, hasCycle}
 use Rattle.laws.proofs.ListLaws.{clash, byOrder}
 use Rattle.tabs.proofs.Tabs.{getD-tab}
-use Rattle.tabs.proofs.SumTabs.{sum-none, sum-more}
+use Rattle.tabs.proofs.SumTabs.{sum-none, sum-suc}
 use Rattle.store.specs.Store.{edgesIn, seqIn, seqsIn}
 use Rattle.index.specs.Index.{Indexed, Indexable}
 use Rattle.pool.proofs.PoolLaws.{part-long}
@@ -23,15 +22,15 @@ use Rattle.memory.specs.declared.Held.{Held}
 use Rattle.record.specs.Kinds.{takesOf}
 use Rattle.record.specs.declared.Takes.the-variants.{KmerOnly}
 use Rattle.record.specs.Layout.{WellFormed}
-use Rattle.record.proofs.Accepted.{well-formed, kind-taken}
+use Rattle.record.proofs.Accepted.{well-formed, kmer-kind}
 use Rattle.record.proofs.Tests.{or-false}
 use Rattle.record.proofs.Sequences.{vertex-is, length-sequence}
 use Rattle.load.specs.Loaded.{Loadable, Loaded}
 use Rattle.doubled.specs.Doubled.{Markable}
 use Rattle.cycle.specs.Peel.{Peelable, HasCycle}
-use Rattle.sound.proofs.Accepted.{refused-early, refused-6, refused-7, accepted, by-refusal, read-good}
-use Rattle.kmer_order.specs.Order.{Mergeable, Sortable, KmerOrder}
-use Rattle.kmer_order.proofs.RunLaws.{vertex-numbers}
+use Rattle.sound.proofs.Accepted.{refused-early, refused-6, refused-7, accepted, read-good}
+use Rattle.sort.specs.Sort.{Sortable}
+use Rattle.kmer_order.specs.Order.{Sequence, KmerOrder}
 use Rattle.accept.specs.declared.Read.{Read}
 use Rattle.read_kmers.specs.Kmers.{Room, Roomy, Doubles, KmersRead}
 
@@ -44,25 +43,15 @@ module _ {m n : ℕ} {es vs p : List ℕ} {d : Bool} {order : List ℕ} (q : d �
   pub kmers-double : {e : Bool} → d ≡ false → KmerOrder n vs p order → e ≡ equalKmers (seqsIn n vs p) → Doubles m n es vs p e order
   kmers-double f K r = record { is = rw (sym q ∙ f) r; ordered = λ _. K }
 
-pub sorted-mergeable : {n : ℕ} {order scratch vs p order′ : List ℕ} → Sortable n order scratch vs p → length order′ ≡ length order → KmerOrder n vs p order′ → Mergeable order′ n vs p
-sorted-mergeable S l K = vertex-numbers (K .below) (omega (arith, S .order-room)) (S .vs-room) (S .within)
-
 -- ---- the record
-
-kind-is : (bs : List ℕ) → refusalOf (take 5 (recordCauses kmerOnly bs)) ≡ 0 → kindOf bs ≡ 0
-kind-is bs z = eqb-true (kindOf bs) 0 (unfold takesKind in (kind-taken kmerOnly bs z))
 
 pub sum-most : (w n : ℕ) (f : ℕ → ℕ) → ((i : ℕ) → i < n → f i ≤ w) → sum (tab n f) ≤ w * n
 sum-most w zero f h = omega (arith, sum-none f)
-sum-most w (suc n) f h =
-    let s : sum (tab (suc n) f) ≡ sum (tab n f) + f n = ap (λ (x : ℕ). sum (tab x f)) (sym (add-one n)) ∙ sum-more n f in
-    omega (arith, s, h n (omega arith), sum-most w n f (λ i b. h i (omega arith)), mul-suc w n)
+sum-most w (suc n) f h = omega (arith, sum-suc n f, h n (omega arith), sum-most w n f (λ i b. h i (omega arith)), mul-suc w n)
 
 pub sum-least : (w n : ℕ) (f : ℕ → ℕ) → ((i : ℕ) → i < n → w ≤ f i) → w * n ≤ sum (tab n f)
 sum-least w zero f h = omega (arith, mul-zero w)
-sum-least w (suc n) f h =
-    let s : sum (tab (suc n) f) ≡ sum (tab n f) + f n = ap (λ (x : ℕ). sum (tab x f)) (sym (add-one n)) ∙ sum-more n f in
-    omega (arith, s, h n (omega arith), sum-least w n f (λ i b. h i (omega arith)), mul-suc w n)
+sum-least w (suc n) f h = omega (arith, sum-suc n f, h n (omega arith), sum-least w n f (λ i b. h i (omega arith)), mul-suc w n)
 
 -- a k-mer graph has 2 to 128 bytes a vertex
 module _ (bs : List ℕ) (W : WellFormed bs) (z : kindOf bs ≡ 0) where
@@ -84,10 +73,10 @@ module _ (bs : List ℕ) where
     formed = well-formed kmerOnly bs layout
 
     R : Room bs es vs p heads nexts order scratch place
-    R = Y .room formed (kind-is bs layout)
+    R = Y .room formed (kmer-kind bs layout)
 
     size-is : (i : ℕ) → i < verticesOf bs → lengthAt bs i ≡ kOf bs
-    size-is = formed .kmers (kind-is bs layout)
+    size-is = formed .kmers (kmer-kind bs layout)
 
     pub read-loadable : Loadable bs es vs p
     read-loadable = record {
@@ -105,7 +94,7 @@ module _ (bs : List ℕ) where
       m-small = omega (arith, L .m, formed .edges)
 
       used-small : h .used ≤ 262144
-      used-small = omega (arith, L .used, kmer-bytes-most bs formed (kind-is bs layout))
+      used-small = omega (arith, L .used, kmer-bytes-most bs formed (kmer-kind bs layout))
 
       pub read-indexable : length es′ ≡ length es → Indexable (h .m) (h .n) es′ heads nexts
       read-indexable l = record {
@@ -119,13 +108,12 @@ module _ (bs : List ℕ) where
       pub read-markable : Markable (h .n) scratch
       read-markable = record { room = omega (arith, L .n, R .scratch-room); small = omega (arith, n-small) }
 
-      pub read-sortable : length vs′ ≡ length vs → length p′ ≡ length p → Sortable (h .n) order scratch vs′ p′
+      pub read-sortable : length vs′ ≡ length vs → length p′ ≡ length p → Sortable (Sequence vs′ p′) (h .n) order scratch
       read-sortable a b = record {
         order-room = omega (arith, L .n, R .order-room);
         scratch-room = omega (arith, L .n, R .scratch-room);
         small = omega (arith, n-small);
-        vs-room = omega (arith, a, L .n, R .vs-room);
-        within = record { at = λ v c. omega (arith, L .within .at v c, L .used, b, R .p-room) };
+        keys = λ v c. record { room = omega (arith, a, L .n, R .vs-room); inside = omega (arith, L .within .at v c, L .used, b, R .p-room) };
       }
 
       pub read-peelable : {scratch′ : List ℕ} → length scratch′ ≡ length scratch → Peelable (h .n) scratch′ place
@@ -136,7 +124,7 @@ module _ (bs : List ℕ) where
 
       doubled-is : doubled bs ≡ (doubledEdge (edgesIn (h .m) es′) || equalKmers (seqsIn (h .n) vs′ p′))
       unfolding doubled
-      doubled-is = (λ j. doubledEdge ((sym (L .is) j) .edges) || (eqb (kindOf bs) 0 && equalKmers ((sym (L .is) j) .verts))) ∙ rw (eq-eqb (kindOf bs) 0 (kind-is bs layout))
+      doubled-is = (λ j. doubledEdge ((sym (L .is) j) .edges) || (eqb (kindOf bs) 0 && equalKmers ((sym (L .is) j) .verts))) ∙ rw (eq-eqb (kindOf bs) 0 (kmer-kind bs layout))
 
       -- a vertex's k-mer has k bytes
       size-held : length p′ ≡ length p → (v : ℕ) → v < h .n → getD vs′ (2 * v + 1) 0 ≡ h .k .0
@@ -187,9 +175,6 @@ module _ (bs : List ℕ) where
                   ordered = D .ordered t;
                 };
               }
-
-pub accepted-kind : (bs : List ℕ) → recordRefusal kmerOnly bs ≡ 0 → kindOf bs ≡ 0
-accepted-kind bs z = by-refusal kmerOnly bs (λ l u r. absurd (omega arith)) (λ a d r. kind-is bs a) (λ a d c r. kind-is bs a) (λ a d c r. kind-is bs a)
 
 -- the kinds that the call names are those of the definition
 pub layout-is : (bs : List ℕ) {i : ℕ} → i ≡ refusalOf (take 5 (recordCauses (takesOf KmerOnly) bs)) → i ≡ refusalOf (take 5 (recordCauses kmerOnly bs))

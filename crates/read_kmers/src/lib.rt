@@ -2,7 +2,8 @@
 // the order of their k-mers.
 ghost use Rattle.index.specs.Index.{Indexed};
 ghost use Rattle.doubled.specs.Doubled.{Markable};
-ghost use Rattle.kmer_order.specs.Order.{Sortable};
+ghost use Rattle.sort.specs.Sort.{Sortable};
+ghost use Rattle.kmer_order.specs.Order.{Sequence};
 ghost use Rattle.read_kmers.specs.Kmers.{Roomy, Doubles, KmersRead};
 use accept::Read;
 use record::Takes;
@@ -19,7 +20,7 @@ pub fn is_doubled(
     order: &mut [u32],
     scratch: &mut [u32],
 ) -> bool
-    requires { ⌜ Indexed m n (now es) (now heads) (now nexts) × (Markable n (now scratch) × Sortable n (now order) (now scratch) (now vs) (now p)) ⌝ }
+    requires { ⌜ Indexed m n (now es) (now heads) (now nexts) × (Markable n (now scratch) × Sortable (Sequence (now vs) (now p)) n (now order) (now scratch)) ⌝ }
     ensures { λ r. ⌜ Doubles m n (now (es .entry)) (now (vs .entry)) (now (p .entry)) r (now (order .exit)) ⌝ }
 {
     if doubled::doubled_edge(es, m, n, heads, nexts, scratch) {

@@ -11,19 +11,20 @@ use borrow.Author.Tests.{ltb-false, leb-true, leb-false, eqb-true, eq-eqb, not-f
 use Rattle.defs.specs.Lists.{sameList}
 use Rattle.defs.specs.Record.{mark, kindOf, statusOf, kOf, verticesOf, edgesOf, bytesOf, u32At, edgeAt, flagAt}
 use Rattle.defs.specs.Refusals.{Takes, kmerOnly, sequenceOnly, bothKinds, refusalOf, recordCauses, takesKind, otherLength, wrongMark, pastLimit, badEdge}
+use Rattle.laws.proofs.ListLaws.{clash}
 use Rattle.record.specs.Layout.{otherKmerLength, GoodEdge, WellFormed}
-use Rattle.record.proofs.TabLaws.{clash, any-false}
+use Rattle.record.proofs.TurnLaws.{any-false}
 use Rattle.record.proofs.Tests.{same-cons, or-false, no-cause, any-bad-is, offsets-agree, lengths-offset, edges-offset, bytes-offset, whole-is, sum-is, kmers-are}
 
 and-true : (a b : Bool) → (a && b) ≡ true → (a ≡ true) × (b ≡ true)
 and-true true b h = (refl, h)
-and-true false b h = clash (sym h)
+and-true false b h = clash h refl
 
 same-eq : (xs ys : List ℕ) → sameList xs ys ≡ true → xs ≡ ys
 unfolding sameList
 same-eq [] [] h = refl
-same-eq [] (y ∷ ys) h = clash (sym h)
-same-eq (x ∷ xs) [] h = clash (sym h)
+same-eq [] (y ∷ ys) h = clash h refl
+same-eq (x ∷ xs) [] h = clash h refl
 same-eq (x ∷ xs) (y ∷ ys) h =
     let s = and-true (eqb x y) (sameList xs ys) (sym (same-cons x y xs ys) ∙ h) in
     let p : x ≡ y = eqb-true x y (s .0) in
@@ -84,8 +85,14 @@ unfolding otherLength
 stated-is bs h = eqb-true _ _ (not-false _ (or-false (ltb (length bs) 32) _ h .1))
 
 -- the kind is one that the call takes
-pub kind-taken : (t : Takes) (bs : List ℕ) → refusalOf (take 5 (recordCauses t bs)) ≡ 0 → takesKind t (kindOf bs) ≡ true
+kind-taken : (t : Takes) (bs : List ℕ) → refusalOf (take 5 (recordCauses t bs)) ≡ 0 → takesKind t (kindOf bs) ≡ true
 kind-taken t bs h = not-false _ (mark-parts t bs (no-cause t bs h .1) .1)
+
+pub kmer-kind : (bs : List ℕ) → refusalOf (take 5 (recordCauses kmerOnly bs)) ≡ 0 → kindOf bs ≡ 0
+kmer-kind bs h = eqb-true (kindOf bs) 0 (unfold takesKind in (kind-taken kmerOnly bs h))
+
+pub sequence-kind : (bs : List ℕ) → refusalOf (take 5 (recordCauses sequenceOnly bs)) ≡ 0 → kindOf bs ≡ 1
+sequence-kind bs h = eqb-true (kindOf bs) 1 (unfold takesKind in (kind-taken sequenceOnly bs h))
 
 pub well-formed : (t : Takes) (bs : List ℕ) → refusalOf (take 5 (recordCauses t bs)) ≡ 0 → WellFormed bs
 well-formed t bs h =

@@ -1,4 +1,4 @@
-pub mod TabLaws
+pub mod TurnLaws
 pub mod Tests
 pub mod Fields
 pub mod Accepted

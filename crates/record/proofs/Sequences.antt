@@ -8,9 +8,10 @@ use lib.ListN.{length, drop, length-drop}
 use lib.Seq.{length-take-le}
 use Rattle.defs.specs.SeqGraph.{vertexSequence}
 use Rattle.defs.specs.Record.{verticesOf, edgesOf, bytesOf, lengthAt, sequenceStart, sequenceAt, decode}
+use Rattle.tabs.proofs.Tabs.{getD-tab}
+use Rattle.tabs.proofs.SumTabs.{sum-below}
 use Rattle.record.specs.Layout.{WellFormed}
 use Rattle.record.proofs.Fields.{bytesAt-is, wholeLength-is, sequenceStart-is, sequenceAt-is}
-use Rattle.record.proofs.TabLaws.{getD-tab, sum-upto}
 
 module _ (bs : List ℕ) (i : ℕ) (below : i < verticesOf bs) where
   -- vertex i of the graph that is read
@@ -24,7 +25,7 @@ module _ (bs : List ℕ) (i : ℕ) (below : i < verticesOf bs) where
         omega (
           arith,
           sequenceStart-is bs i,
-          sum-upto (lengthAt bs) i (verticesOf bs) below,
+          sum-below (verticesOf bs) i (lengthAt bs) below,
           ok .lengths,
           ok .whole,
           wholeLength-is (verticesOf bs) (edgesOf bs) (bytesOf bs),

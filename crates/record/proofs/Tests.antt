@@ -11,13 +11,14 @@ use borrow.Author.Tests.{lt-ltb, le-ltb, le-leb, lt-leb, eq-eqb, ne-eqb, ltb-fal
 use Rattle.defs.specs.Lists.{tabFrom, tab, sum, sameList, anyOf, upFrom}
 use Rattle.defs.specs.Record.{mark, kindOf, statusOf, kOf, verticesOf, edgesOf, bytesOf, u32At, lengthsAt, edgesAt, bytesAt, wholeLength, lengthAt, edgeAt, flagAt}
 use Rattle.defs.specs.Refusals.{Cause, Takes, refusalOf, recordCauses, takesKind, otherLength, wrongMark, pastLimit, layoutDisagrees, badEdge, anyBadEdge}
+use Rattle.laws.proofs.ListLaws.{clash}
+use Rattle.tabs.proofs.Tabs.{take-tab}
 use Rattle.kmer.specs.Size.{kPastLimit}
 use Rattle.record.specs.declared.Takes as declared
 use Rattle.record.specs.declared.Takes.the-variants.{KmerOnly, SequenceOnly, BothKinds}
 use Rattle.record.specs.Kinds.{takesOf}
 use Rattle.record.specs.Layout.{otherKmerLength, offsetsDisagree}
 use Rattle.record.proofs.Fields.{edgesAt-is, bytesAt-is, wholeLength-is}
-use Rattle.record.proofs.TabLaws.{clash, take-tab}
 
 both : (t a : Bool) → elim t [ true ↦ a | false ↦ false ] ≡ (t && a)
 both true a = refl
@@ -32,7 +33,7 @@ or-assoc true b c = refl
 or-assoc false b c = refl
 
 pub or-false : (a b : Bool) → (a || b) ≡ false → (a ≡ false) × (b ≡ false)
-or-false true b h = clash h
+or-false true b h = clash refl h
 or-false false b h = (refl, h)
 
 -- 1
@@ -206,10 +207,10 @@ module _ (bs : List ℕ) where
 -- the parts of a disagreement that is not there
 agreed : (a b c d : Bool) → (not a || (not b || (not c || not d))) ≡ false → (a ≡ true) × (b ≡ true) × (c ≡ true) × (d ≡ true)
 agreed true true true true g = (refl, refl, refl, refl)
-agreed true true true false g = clash g
-agreed true true false d g = clash g
-agreed true false c d g = clash g
-agreed false b c d g = clash g
+agreed true true true false g = clash refl g
+agreed true true false d g = clash refl g
+agreed true false c d g = clash refl g
+agreed false b c d g = clash refl g
 
 module _ (bs : List ℕ) (h : offsetsDisagree bs ≡ false) where
   offset-parts : (eqb (u32At bs 16) lengthsAt ≡ true) × (eqb (u32At bs 20) (edgesAt (verticesOf bs)) ≡ true)

@@ -9,7 +9,7 @@ use Rattle.defs.specs.Lists.{tabFrom, sum}
 use Rattle.defs.specs.Record.{verticesOf, edgesOf, lengthAt, sequenceStart, sequenceAt}
 use Rattle.record.proofs.Fields.{bytesAt-is, sequenceStart-is, sequenceAt-is}
 use Rattle.record.proofs.Sequences.{vertex-is}
-use Rattle.record.proofs.TabLaws.{sum-start, sum-turn, sum-none}
+use Rattle.record.proofs.TurnLaws.{sum-start, sum-turn, sum-none}
 use Rattle.sequence.specs.Part.{Part}
 
 -- what is added so far, and what is still to be added, up to vertex v

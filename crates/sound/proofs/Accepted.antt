@@ -246,8 +246,12 @@ module _ (t : Takes) (bs : List ℕ) where
   number-clash : {X : Type 0} {i j : ℕ} → recordRefusal t bs ≡ i → recordRefusal t bs ≡ j → (i ≡ j → ⊥) → X
   number-clash p q ne = absurd (ne (sym p ∙ q))
 
+  -- of the causes 1 to 5 none is present
+  pub accepted-early : recordRefusal t bs ≡ 0 → refusalOf (take 5 (recordCauses t bs)) ≡ 0
+  accepted-early z = by-refusal t bs (λ l u r. absurd (omega arith)) (λ a d r. a) (λ a d c r. a) (λ a d c r. a)
+
   pub accepted-layout : recordRefusal t bs ≡ 0 → WellFormed bs
-  accepted-layout z = well-formed t bs (by-refusal t bs (λ l u r. absurd (omega arith)) (λ a d r. a) (λ a d c r. a) (λ a d c r. a))
+  accepted-layout z = well-formed t bs (accepted-early z)
 
   pub accepted-good : recordRefusal t bs ≡ 0 → Good (decode bs)
   accepted-good z = by-refusal t bs

@@ -1,3 +1,4 @@
 pub mod Tabs
 pub mod ListTabs
 pub mod SumTabs
+pub mod Ranks

@@ -70,7 +70,7 @@ module _ {A : Type 0} where
   pub mem-tab : (n : ℕ) (f : ℕ → A) (k : ℕ) → k < n → List·Memᴰ (f k) (tab n f)
   mem-tab n f k h = rw zero-add at (mem-tab-from 0 n f k h)
 
-  of-mem-tab-from : (s n : ℕ) (f : ℕ → A) {x : A} → List·Memᴰ x (tabFrom s n f) → (k : ℕ) × (k < n) × (x ≡ f (s + k))
+  pub of-mem-tab-from : (s n : ℕ) (f : ℕ → A) {x : A} → List·Memᴰ x (tabFrom s n f) → (k : ℕ) × (k < n) × (x ≡ f (s + k))
   unfolding tabFrom
   of-mem-tab-from s zero f m = absurd (List·Memᴰ·not-nil m)
   of-mem-tab-from s (suc n) f {x} m = ⊎-elim

@@ -20,15 +20,16 @@ sum-none f = refl
 pub sum-more : (n : ℕ) (f : ℕ → ℕ) → sum (tab (n + 1) f) ≡ sum (tab n f) + f n
 sum-more n f = ap sum (tab-snoc n f) ∙ sum-snoc (tab n f) (f n)
 
+pub sum-suc : (n : ℕ) (f : ℕ → ℕ) → sum (tab (suc n) f) ≡ sum (tab n f) + f n
+sum-suc n f = ap (λ (x : ℕ). sum (tab x f)) (sym (add-one n)) ∙ sum-more n f
+
 -- what stands before i, with i, is at most all
 pub sum-below : (n i : ℕ) (f : ℕ → ℕ) → i < n → sum (tab i f) + f i ≤ sum (tab n f)
 sum-below zero i f h = absurd (omega arith)
-sum-below (suc n) i f h =
-    let s : sum (tab (suc n) f) ≡ sum (tab n f) + f n = ap (λ (x : ℕ). sum (tab x f)) (sym (add-one n)) ∙ sum-more n f in
-    elim (ℕ-discrete i n) [
-      | yes q ↦ rw q (omega (arith, s))
-      | no ne ↦ omega (arith, s, sum-below n i f (omega arith))
-    ]
+sum-below (suc n) i f h = elim (ℕ-discrete i n) [
+  | yes q ↦ rw q (omega (arith, sum-suc n f))
+  | no ne ↦ omega (arith, sum-suc n f, sum-below n i f (omega arith))
+]
 
 module _ {A : Type 0} where
   pub concat-append : (xs ys : List (List A)) → concat (xs ++ ys) ≡ concat xs ++ concat ys

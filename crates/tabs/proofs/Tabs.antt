@@ -8,7 +8,7 @@ use native.Mathlib.Numerals.{add-one}
 use native.Mathlib.Omega.{arith}
 use native.Mathlib.Decide.{ℕ-discrete}
 use lib.ListN.{length, getD, set, length-set, take, drop}
-use lib.Seq.{ext-getD, getD-set-same, getD-set-other}
+use lib.Seq.{ext-getD, getD-set-same, getD-set-other, take-suc, take-length}
 use Rattle.defs.specs.Lists.{tabFrom, tab}
 use Rattle.tabs.specs.First.{firstIx}
 
@@ -50,6 +50,19 @@ module _ {A : Type 0} where
   -- one more at the end: a turn of a loop that goes up
   pub tab-snoc : (n : ℕ) (f : ℕ → A) → tab (n + 1) f ≡ tab n f ++ (f n ∷ [])
   tab-snoc n f = ap (λ (k : ℕ). tab k f) (add-one n) ∙ tab-from-snoc zero n f ∙ ap (λ (k : ℕ). tab n f ++ (f k ∷ [])) (zero-add n)
+
+  -- the first n of a list are those at the indices below n
+  pub take-tab : (l : List A) (d : A) (n : ℕ) → n ≤ length l → take n l ≡ tab n (λ (i : ℕ). getD l i d)
+  unfolding tabFrom
+  take-tab l d zero h = refl
+  take-tab l d (suc n) h =
+      take-suc l n d (omega arith)
+      ∙ ap (λ (r : List A). r ++ (getD l n d ∷ [])) (take-tab l d n (omega arith))
+      ∙ sym (ap (λ (k : ℕ). tab k (λ (i : ℕ). getD l i d)) (sym (add-one n)) ∙ tab-snoc n (λ (i : ℕ). getD l i d))
+
+  -- a list is the list of its members by index
+  pub tab-getD : (l : List A) (d : A) → tab (length l) (λ (i : ℕ). getD l i d) ≡ l
+  tab-getD l d = sym (take-tab l d (length l) (omega arith)) ∙ take-length l
 
   pub tab-zero : (f : ℕ → A) → tab 0 f ≡ []
   unfolding tabFrom

@@ -7,12 +7,12 @@ use native.Mathlib.Numerals.{add-one}
 use native.Mathlib.Omega.{arith}
 use lib.Dec.{ltb}
 use lib.ListN.{length, getD, set, take, length-append}
-use lib.Seq.{sets, length-sets, take-suc, take-all, take-length, length-take-le}
+use lib.Seq.{sets, length-sets, take-suc, take-all, length-take-le}
 use borrow.Author.Tests.{ltb-true, ltb-false, lt-ltb, le-ltb, le-leb, lt-leb}
 use Rattle.defs.specs.Lists.{concat, tab, tabFrom}
 use Rattle.laws.proofs.Walks.{byTest}
 use Rattle.write_record.proofs.WriteLaws.{put-behind, Growing, growing-more, fields-none, fields-more}
-use Rattle.record.proofs.TabLaws.{take-tab}
+use Rattle.tabs.proofs.Tabs.{tab-getD}
 use Rattle.tabs.proofs.SumTabs.{map-tab}
 use Rattle.text.specs.Printed.{ascii, digit, decimalBy, decimal, isLetter, printedByte, printedSequence}
 use Rattle.text.specs.Put.{Put}
@@ -81,7 +81,7 @@ module _ {s text : List ℕ} {at : ℕ} {text′ : List ℕ} {i : ℕ} (G : Grow
 -- ---- the bytes of a sequence
 
 pub each-is : (s : List ℕ) → concat (tab (length s) (λ (k : ℕ). printedByte (getD s k 0))) ≡ concat (map printedByte s)
-each-is s = ap concat (sym (map-tab printedByte (length s) (λ (k : ℕ). getD s k 0)) ∙ ap (map printedByte) (sym (take-tab s 0 (length s) (omega arith)) ∙ take-length s))
+each-is s = ap concat (sym (map-tab printedByte (length s) (λ (k : ℕ). getD s k 0)) ∙ ap (map printedByte) (tab-getD s 0))
 
 pub sequence-none : (s : List ℕ) {text text′ : List ℕ} {at r : ℕ} → length s ≡ 0 → Put 1 (46 ∷ []) text at r text′ → Put (4 * length s + 1) (printedSequence s) text at r text′
 unfolding printedSequence ascii tabFrom

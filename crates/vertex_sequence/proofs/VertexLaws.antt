@@ -24,7 +24,6 @@ use Rattle.store.specs.Store.{edgesIn, seqsIn, graphIn}
 use Rattle.index.specs.Index.{Indexed, Indexable}
 use Rattle.doubled.specs.Doubled.{Markable}
 use Rattle.cycle.specs.Peel.{Peelable, HasCycle}
-use Rattle.kmer_order.specs.Order.{Sortable}
 use Rattle.memory.specs.declared.Held.{Held}
 use Rattle.load.specs.Loaded.{Loadable, Loaded}
 use Rattle.sound.proofs.Accepted.{refused-early, refused-6, refused-7, accepted, accepted-layout}
@@ -139,8 +138,7 @@ module _ (bs : List ℕ) where
             order-room = omega (arith, L .n, R .order-room);
             scratch-room = omega (arith, L .n, R .scratch-room);
             small = omega (arith, L .n, formed .vertices);
-            vs-room = omega (arith, a, L .n, R .vs-room);
-            within = record { at = λ v c. omega (arith, L .within .at v c, L .used, b, R .p-room) };
+            keys = λ v c. record { room = omega (arith, a, L .n, R .vs-room); inside = omega (arith, L .within .at v c, L .used, b, R .p-room) };
           };
           peelable = record { degrees-room = omega (arith, L .n, R .scratch-room); queue-room = omega (arith, L .n, R .place-room); small = omega (arith, L .n, formed .vertices) };
           few = omega (arith, L .m, formed .edges);

@@ -9,7 +9,8 @@ use Rattle.store.specs.Store.{edgesIn, seqsIn, graphIn}
 use Rattle.index.specs.Index.{Indexed}
 use Rattle.doubled.specs.Doubled.{Markable}
 use Rattle.cycle.specs.Peel.{Peelable}
-use Rattle.kmer_order.specs.Order.{Sortable}
+use Rattle.sort.specs.Sort.{Sortable}
+use Rattle.kmer_order.specs.Order.{Sequence}
 use Rattle.read_kmers.specs.Kmers.{Room}
 
 -- there is room for a record whose layout is right
@@ -20,7 +21,7 @@ pub record Roomy (bs es vs p heads nexts order scratch place : List ℕ) : Type 
 pub record Checkable (m n : ℕ) (es vs p heads nexts order scratch place : List ℕ) : Type 0 where
   pub indexed : Indexed m n es heads nexts
   pub markable : Markable n scratch
-  pub sortable : Sortable n order scratch vs p
+  pub sortable : Sortable (Sequence vs p) n order scratch
   pub peelable : Peelable n scratch place
   pub few : m < 4294967296
 

@@ -6,7 +6,8 @@ ghost use Rattle.defs.specs.Calls.{vertexSequenceNumber};
 ghost use Rattle.store.specs.Store.{edgesIn, seqsIn};
 ghost use Rattle.index.specs.Index.{Indexed};
 ghost use Rattle.doubled.specs.Doubled.{Markable};
-ghost use Rattle.kmer_order.specs.Order.{Sortable};
+ghost use Rattle.sort.specs.Sort.{Sortable};
+ghost use Rattle.kmer_order.specs.Order.{Sequence};
 ghost use Rattle.vertex_sequence.specs.Checks.{Roomy, Checkable, Checks};
 ghost use Rattle.vertex_sequence.specs.Handed.{Handed, Placed};
 use record::Takes;
@@ -31,7 +32,7 @@ fn is_doubled(
     order: &mut [u32],
     scratch: &mut [u32],
 ) -> bool
-    requires { ⌜ Indexed m n (now es) (now heads) (now nexts) × (Markable n (now scratch) × Sortable n (now order) (now scratch) (now vs) (now p)) ⌝ }
+    requires { ⌜ Indexed m n (now es) (now heads) (now nexts) × (Markable n (now scratch) × Sortable (Sequence (now vs) (now p)) n (now order) (now scratch)) ⌝ }
     ensures { λ r. ⌜ r ≡ (doubledEdge (edgesIn m (now (es .entry))) || (kmers && equalKmers (seqsIn n (now (vs .entry)) (now (p .entry))))) ⌝ }
 {
     if kmers {

@@ -8,7 +8,7 @@ edge-order-requires : tie.Need-edge-order-requires
 edge-order-requires c κs = edges-sortable (c .before .before .before .before .before .before .before .before .before .before .before .before .before .pre) (c .before .before .before .before .before .put-places .kept .1 .1 .0)
 
 returns : tie.Need-returns
-returns c = edges-done (c .before .before .before .before .before .before .before .before .before .before .before .before .before .before .before .before .before .before .before .before .before .before .before .pre) (c .before .before .before .before .before .before .before .before .before .edge-order .kept .0) (c .before .before .before .before .before .before .before .before .before .before .before .before .before .before .before .put-places .ensures) (c .before .before .before .before .before .before .before .before .before .edge-order .ensures) (c .before .before .copy-edges .ensures)
+returns c = edges-done (c .before .before .before .before .before .before .before .before .before .before .before .before .before .before .before .before .before .before .before .before .before .before .before .pre) (c .before .before .before .before .before .before .before .before .before .before .before .before .before .before .before .put-places .ensures) (c .before .before .before .before .before .before .before .before .before .edge-order .ensures) (c .before .before .copy-edges .ensures)
 
 pub edges-sorted-spec : {M : Type 1} → statement M
 edges-sorted-spec =

@@ -1,11 +1,12 @@
 -- `read_kmers::is_doubled` meets its contract. Assumes nothing.
-use Rattle.read_kmers.proofs.KmerLaws.{edges-double, kmers-double, sorted-mergeable}
+use Rattle.sort.proofs.PermutationLaws.{mergeable}
+use Rattle.read_kmers.proofs.KmerLaws.{edges-double, kmers-double}
 use borrow.Author.Needs.{needs}
 use Rattle.read_kmers.proofs.is_doubled.Statement.{statement}
 use Rattle.read_kmers.proofs.is_doubled.Tie as tie
 
 equal-kmers-requires : tie.Need-equal-kmers-requires
-equal-kmers-requires c κs = (sorted-mergeable (c .before .before .before .before .before .before .before .before .before .before .before .before .before .before .before .before .before .before .before .before .pre .1 .1) (c .before .before .before .before .before .kmer-order .kept .0) (c .before .before .before .before .before .kmer-order .ensures), c .before .before .before .before .before .kmer-order .ensures)
+equal-kmers-requires c κs = (mergeable (c .before .before .before .before .before .kmer-order .ensures .numbers) (c .before .before .before .before .before .before .before .before .before .before .before .before .before .before .before .before .before .before .before .before .pre .1 .1 .keys), c .before .before .before .before .before .kmer-order .ensures)
 
 returns-2 : tie.Need-returns-2
 returns-2 c = kmers-double (c .before .before .before .before .before .before .before .before .before .before .before .before .doubled-edge .ensures) (c .before .before .before .before .before .before .before .before .before .if1 .left) (c .before .before .before .before .before .before .kmer-order .ensures) (c .equal-kmers .ensures)

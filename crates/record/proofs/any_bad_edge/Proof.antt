@@ -6,7 +6,7 @@ use Rattle.defs.specs.Record.{verticesOf, edgesOf}
 use Rattle.defs.specs.Refusals.{badEdge}
 use Rattle.record.proofs.Fields.{edgeStart-is, bytesAt-is}
 use Rattle.record.proofs.Tests.{any-bad-is}
-use Rattle.record.proofs.TabLaws.{any-start, any-turn, any-found, any-none}
+use Rattle.record.proofs.TurnLaws.{any-start, any-turn, any-found, any-none}
 use native.Mathlib.Omega.{arith}
 use Rattle.record.proofs.any_bad_edge.Statement.{statement}
 use Rattle.record.proofs.any_bad_edge.Tie as tie

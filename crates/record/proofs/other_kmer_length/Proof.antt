@@ -3,7 +3,7 @@ use Prim.Native.Nat.{_-_, _≤_}
 use mathlib.Core.Path.{_≡_, sym, _∙_}
 use Rattle.defs.specs.Lists.{anyOf, upFrom}
 use Rattle.record.specs.Layout.{otherKmerLength}
-use Rattle.record.proofs.TabLaws.{any-start, any-turn, any-found, any-none}
+use Rattle.record.proofs.TurnLaws.{any-start, any-turn, any-found, any-none}
 use Rattle.record.proofs.Tests.{length-other, length-k}
 use native.Mathlib.Omega.{arith}
 use Rattle.record.proofs.other_kmer_length.Statement.{statement}

@@ -3,7 +3,7 @@ use Prim.Native.Nat.{_+_, _-_, _*_, _≤_}
 use mathlib.Core.Path.{_≡_}
 use Rattle.defs.specs.Lists.{tab, tabFrom, sum}
 use Rattle.defs.specs.Record.{lengthAt}
-use Rattle.record.proofs.TabLaws.{sum-start, sum-turn, sum-none}
+use Rattle.record.proofs.TurnLaws.{sum-start, sum-turn, sum-none}
 use native.Mathlib.Omega.{arith}
 use Rattle.record.proofs.total_length.Statement.{statement}
 use Rattle.record.proofs.total_length.Tie as tie

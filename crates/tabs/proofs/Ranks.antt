@@ -4,15 +4,14 @@ use native.Mathlib.Numerals.{add-one}
 use native.Mathlib.Omega.{arith}
 use native.Mathlib.Decide.{ℕ-discrete}
 use mathlib.Core.Path.{_≡_, refl, sym, ap, _∙_}
-use mathlib.Core.Logic.{⊎-elim}
 use mathlib.Core.Bool.{Bool, true, false}
-use mathlib.Core.List.{[], _∷_, List·Memᴰ, List·Memᴰ·not-nil, List·Memᴰ·cases-cons}
+use mathlib.Core.List.{[], _∷_}
 use lib.ListN.{length, length-append}
 use Rattle.defs.specs.Lists.{rank, bit, tab, tabFrom, keepIf}
 use Rattle.laws.proofs.Walks.{byTest}
 use Rattle.laws.proofs.ListLaws.{rank-yes, rank-no, rank-mono}
 use Rattle.laws.proofs.Counts.{Distinct}
-use Rattle.tabs.proofs.ListTabs.{keepIf-tab-yes, keepIf-tab-no}
+use Rattle.tabs.proofs.ListTabs.{keepIf-tab-yes, keepIf-tab-no, of-mem-tab-from}
 
 module _ (p : ℕ → Bool) where
   pub rank-most : (n : ℕ) → rank p n ≤ n
@@ -55,21 +54,12 @@ module _ (p q : ℕ → Bool) where
         byTest (p n) (λ y. omega (arith, rank-yes p n y, rank-yes q n (sym e ∙ y))) (λ y. omega (arith, rank-no p n y, rank-no q n (sym e ∙ y))))
   ]
 
--- a member of a list by index, with its index
-of-mem-from : (f : ℕ → ℕ) (s n : ℕ) {x : ℕ} → List·Memᴰ x (tabFrom s n f) → (k : ℕ) × (s ≤ k) × (k < s + n) × (x ≡ f k)
-unfolding tabFrom
-of-mem-from f s zero m = absurd (List·Memᴰ·not-nil m)
-of-mem-from f s (suc n) {x} m = ⊎-elim
-    (λ (e : x ≡ f s). (s, omega arith, omega arith, e))
-    (λ k. let r = of-mem-from f (suc s) n k in (r .0, omega (arith, r .1), omega (arith, r .2), r .3))
-    (List·Memᴰ·cases-cons m)
-
 -- different places hold different numbers
 distinct-from : (f : ℕ → ℕ) (s n : ℕ) → ((i j : ℕ) → s ≤ i → i < s + n → s ≤ j → j < s + n → f i ≡ f j → i ≡ j) → Distinct (tabFrom s n f)
 unfolding tabFrom
 distinct-from f s zero h = tt
 distinct-from f s (suc n) h = (
-  λ m. let r = of-mem-from f (suc s) n m in omega (arith, r .1, r .2, h s (r .0) (omega arith) (omega arith) (omega (arith, r .1)) (omega (arith, r .2)) (r .3)),
+  λ m. let r = of-mem-tab-from (suc s) n f m in omega (arith, h s (suc s + r .0) (omega arith) (omega arith) (omega arith) (omega (arith, r .1)) (r .2)),
   distinct-from f (suc s) n (λ i j a b c d. h i j (omega arith) (omega arith) (omega arith) (omega arith)),
 )
 

@@ -1,0 +1,3 @@
+pub mod PermutationLaws
+pub mod MergeLaws
+pub mod RunLaws
