@@ -1,8 +1,6 @@
 // clean_non_ref_paths: a record in, out the record of its graph without the paths to the reference source and from the reference sink
 // that are no reference paths. Nothing is asked of the caller.
-ghost use mathlib.Core.Path.{_≡_};
-ghost use lib.ListN.{length};
-ghost use Rattle.arrays.specs.Sized.{SizedGraph};
+ghost use Rattle.arrays.specs.Sized.{LentMarks};
 ghost use Rattle.clean_non_ref_paths.specs.CleansPaths.{CleansPaths};
 ghost use Rattle.clean_non_ref_paths.specs.MadeOf.{MadeOf};
 use accept::Read;
@@ -21,7 +19,7 @@ fn read_and_clean(
     map: &mut [u32],
     tried: &mut [u64],
 ) -> Read
-    requires { ⌜ SizedGraph (now es) (now vs) (now p) (now heads) (now nexts) (now nodes) (now map) × (length (now tried) ≡ 10240) ⌝ }
+    requires { ⌜ LentMarks (now rec) (now es) (now vs) (now p) (now heads) (now nexts) (now nodes) (now map) (now tried) ⌝ }
     ensures { λ r. ⌜ MadeOf (now (rec .entry)) (now (heads .entry)) (now (nexts .entry)) r (now (es .exit)) (now (vs .exit)) (now (p .exit)) ⌝ }
 {
     let read = accept::read_sequence_graph(rec, es, vs, p, heads, nexts, nodes, map);
@@ -57,7 +55,7 @@ fn clean_non_ref_paths_in(
     map: &mut [u32],
     tried: &mut [u64],
 ) -> Answer
-    requires { ⌜ SizedGraph (now es) (now vs) (now p) (now heads) (now nexts) (now nodes) (now map) × (length (now tried) ≡ 10240) ⌝ }
+    requires { ⌜ LentMarks (now rec) (now es) (now vs) (now p) (now heads) (now nexts) (now nodes) (now map) (now tried) ⌝ }
     ensures { λ r. ⌜ CleansPaths (now (rec .entry)) (now (out .entry)) tally r (now (out .exit)) ⌝ }
 {
     let made = read_and_clean(rec, es, vs, p, heads, nexts, nodes, map, tried);

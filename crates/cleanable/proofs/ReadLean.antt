@@ -8,11 +8,12 @@ use borrow.Author.Tests.{eqb-true}
 use Rattle.defs.specs.Record.{kindOf, decode}
 use Rattle.defs.specs.Refusals.{sequenceOnly, takesKind, refusalOf, recordCauses, recordRefusal}
 use Rattle.record.proofs.Accepted.{kind-taken}
-use Rattle.sound.proofs.Accepted.{by-refusal, accepted-good, accepted-limits}
+use Rattle.sound.proofs.Accepted.{by-refusal, accepted-layout, accepted-good, read-bytes}
+use Rattle.sound.proofs.Measured.{read-light, read-branching}
 use Rattle.accept.specs.Accept.{Roomy, ReadAs}
 use Rattle.accept.specs.declared.Read.{Read}
-use Rattle.choice.specs.Choice.{HoldsLean}
-use Rattle.choice.proofs.LeanLaws.{lean-as, limits-lean}
+use Rattle.choice.specs.Choice.{Lean, HoldsLean}
+use Rattle.choice.proofs.LeanLaws.{lean-as}
 use Rattle.choice.proofs.ChoiceLaws.{holds-lean}
 
 module _ (bs : List ℕ) (accepted : recordRefusal sequenceOnly bs ≡ 0) where
@@ -22,7 +23,14 @@ module _ (bs : List ℕ) (accepted : recordRefusal sequenceOnly bs ≡ 0) where
   kind-is : kindOf bs ≡ 1
   kind-is = eqb-true (kindOf bs) 1 (unfold takesKind in (kind-taken sequenceOnly bs layout))
 
-pub read-lean : {bs heads nexts : List ℕ} {r : Read} {es vs p : List ℕ} → ReadAs bs heads nexts r es vs p → Roomy heads nexts → r .number ≡ 0 → HoldsLean (r .held) es vs p heads nexts
-read-lean {bs} A Y ok =
+pub read-lean : {bs heads nexts : List ℕ} {r : Read} {es vs p : List ℕ} → ReadAs bs heads nexts r es vs p → Roomy bs heads nexts → r .number ≡ 0 → HoldsLean (r .held) es vs p heads nexts
+read-lean {bs} {heads} {nexts} A Y ok =
     let z = sym (A .number) ∙ ok in
-    holds-lean (A .holds ok) (lean-as (A .is ok) (limits-lean (decode bs) (accepted-good sequenceOnly bs z) (accepted-limits sequenceOnly bs z (kind-is bs z)) (Y .vertices) (Y .edges)))
+    let formed = accepted-layout sequenceOnly bs z in
+    let enough = Y .room formed (kind-is bs z) in
+    let lean : Lean (decode bs) heads nexts = record {
+      good = accepted-good sequenceOnly bs z;
+      light = read-light bs formed (enough .vertices) (enough .weight);
+      narrow = omega (arith, read-branching bs formed, read-bytes bs formed, enough .edges);
+    } in
+    holds-lean (A .holds ok) (lean-as (A .is ok) lean)

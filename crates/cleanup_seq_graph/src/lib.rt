@@ -1,6 +1,6 @@
 // cleanup_seq_graph: a record in, its cleanup's record out. Nothing is asked of the caller.
 ghost use mathlib.Core.Path.{_≡_};
-ghost use Rattle.arrays.specs.Sized.{Sized};
+ghost use Rattle.arrays.specs.Sized.{Lent};
 ghost use Rattle.cleanup_seq_graph.specs.Cleans.{Cleans};
 ghost use Rattle.cleanup_seq_graph.specs.MadeOf.{MadeOf};
 use calls::CleanupAnswer;
@@ -41,7 +41,7 @@ fn read_and_clean(
     tried: &mut [u64],
     sig: &mut [u32],
 ) -> Made
-    requires { ⌜ Sized (now es) (now vs) (now p) (now heads) (now nexts) (now nodes) (now map) (now starts) (now tried) (now sig) ⌝ }
+    requires { ⌜ Lent (now rec) (now es) (now vs) (now p) (now heads) (now nexts) (now nodes) (now map) (now starts) (now tried) (now sig) ⌝ }
     ensures { λ r. ⌜ MadeOf (now (rec .entry)) (now (heads .entry)) (now (nexts .entry)) r (now (es .exit)) (now (vs .exit)) (now (p .exit)) ⌝ }
 {
     let read = accept::read_sequence_graph(rec, es, vs, p, heads, nexts, nodes, map);
@@ -83,7 +83,7 @@ fn cleanup_seq_graph_in(
     tried: &mut [u64],
     sig: &mut [u32],
 ) -> CleanupAnswer
-    requires { ⌜ Sized (now es) (now vs) (now p) (now heads) (now nexts) (now nodes) (now map) (now starts) (now tried) (now sig) ⌝ }
+    requires { ⌜ Lent (now rec) (now es) (now vs) (now p) (now heads) (now nexts) (now nodes) (now map) (now starts) (now tried) (now sig) ⌝ }
     ensures { λ r. ⌜ Cleans (now (rec .entry)) (now (out .entry)) tally r (now (out .exit)) ⌝ }
 {
     let made = read_and_clean(rec, es, vs, p, heads, nexts, nodes, map, starts, tried, sig);

@@ -4,7 +4,7 @@ ghost use mathlib.Core.Bool.{true};
 ghost use Prim.Native.Nat.{_<_};
 ghost use lib.ListN.{length};
 ghost use Rattle.defs.specs.Calls.{referencePathBytesResponse, pathBasesBytesResponse};
-ghost use Rattle.arrays.specs.Sized.{SizedGraph};
+ghost use Rattle.arrays.specs.Sized.{LentGraph};
 ghost use Rattle.calls.specs.Answers.{Responds};
 ghost use Rattle.string_calls.specs.Telling.{ReadIndexed, Tells};
 use accept::Read;
@@ -23,7 +23,7 @@ fn read_indexed(
     nodes: &mut [u32],
     map: &mut [u32],
 ) -> Read
-    requires { ⌜ SizedGraph (now es) (now vs) (now p) (now heads) (now nexts) (now nodes) (now map) ⌝ }
+    requires { ⌜ LentGraph (now rec) (now es) (now vs) (now p) (now heads) (now nexts) (now nodes) (now map) ⌝ }
     ensures { λ r. ⌜ ReadIndexed (now (rec .entry)) (now (heads .entry)) (now (nexts .entry)) r (now (es .exit)) (now (vs .exit)) (now (p .exit)) (now (heads .exit)) (now (nexts .exit)) ⌝ }
 {
     let read = accept::read_sequence_graph(rec, es, vs, p, heads, nexts, nodes, map);
@@ -61,7 +61,7 @@ fn reference_path_bytes_in(
     nodes: &mut [u32],
     map: &mut [u32],
 ) -> Answer
-    requires { ⌜ SizedGraph (now es) (now vs) (now p) (now heads) (now nexts) (now nodes) (now map) ⌝ }
+    requires { ⌜ LentGraph (now rec) (now es) (now vs) (now p) (now heads) (now nexts) (now nodes) (now map) ⌝ }
     ensures { λ r. ⌜ Responds (referencePathBytesResponse (now (rec .entry)) (length (now (out .entry)))) (now (out .entry)) tally r (now (out .exit)) ⌝ }
 {
     let read = read_indexed(rec, es, vs, p, heads, nexts, nodes, map);
@@ -130,7 +130,7 @@ fn path_bases_bytes_in(
     nodes: &mut [u32],
     map: &mut [u32],
 ) -> Answer
-    requires { ⌜ SizedGraph (now es) (now vs) (now p) (now heads) (now nexts) (now nodes) (now map) ⌝ }
+    requires { ⌜ LentGraph (now rec) (now es) (now vs) (now p) (now heads) (now nexts) (now nodes) (now map) ⌝ }
     ensures { λ r. ⌜ Responds (pathBasesBytesResponse (now (rec .entry)) start (now (list .entry)) (length (now (out .entry)))) (now (out .entry)) tally r (now (out .exit)) ⌝ }
 {
     let read = read_indexed(rec, es, vs, p, heads, nexts, nodes, map);
