@@ -11,9 +11,7 @@ use Rattle.defs.specs.SeqGraph.{Graph, nodeCount}
 use Rattle.defs.specs.Record.{kindOf, verticesOf, edgesOf, bytesOf, decode}
 use Rattle.defs.specs.Refusals.{sequenceOnly, refusalOf, recordCauses, recordRefusal, doubledEdge, equalKmers, doubled, hasCycle}
 use Rattle.laws.proofs.Fuel.{Good}
-use Rattle.laws.proofs.Measures.{weight, load}
-use Rattle.laws.proofs.Bound.{Small}
-use Rattle.laws.proofs.Room.{Limits, limits-narrow, narrow-small}
+use Rattle.laws.proofs.Measures.{load}
 use Rattle.tabs.proofs.Tabs.{length-tab}
 use Rattle.store.specs.Store.{edgeIn, edgesIn}
 use Rattle.index.specs.Index.{Indexable}
@@ -26,8 +24,9 @@ use Rattle.record.proofs.Accepted.{well-formed, sequence-kind}
 use Rattle.load.specs.Loaded.{Loadable, Loaded}
 use Rattle.doubled.specs.Doubled.{Markable}
 use Rattle.cycle.specs.Peel.{Peelable, HasCycle}
-use Rattle.sound.proofs.Accepted.{refused-early, refused-6, refused-7, accepted, read-good, read-limits}
-use Rattle.accept.specs.Accept.{Roomy, ReadAs}
+use Rattle.sound.proofs.Accepted.{refused-early, refused-6, refused-7, accepted, edges-read, read-bytes, read-good}
+use Rattle.sound.proofs.Measured.{read-light}
+use Rattle.accept.specs.Accept.{RoomFor, Roomy, ReadAs}
 use Rattle.accept.specs.declared.Read.{Read}
 
 module _ (bs : List ℕ) {heads nexts : List ℕ} where
@@ -38,42 +37,46 @@ module _ (bs : List ℕ) {heads nexts : List ℕ} where
     holds = λ z. absurd (o (sym q ∙ z));
   }
 
-  module _ (layout : refusalOf (take 5 (recordCauses sequenceOnly bs)) ≡ 0) {es vs p nodes mp : List ℕ} (R : Room es vs p heads nexts nodes mp) (Y : Roomy heads nexts) where
+  module _ (layout : refusalOf (take 5 (recordCauses sequenceOnly bs)) ≡ 0) {es vs p nodes mp : List ℕ} (R : Room es vs p heads nexts nodes mp) (Y : Roomy bs heads nexts) where
     formed : WellFormed bs
     formed = well-formed sequenceOnly bs layout
 
-    limits : Limits (decode bs)
-    limits = read-limits bs formed (sequence-kind bs layout)
+    enough : RoomFor bs heads nexts
+    enough = Y .room formed (sequence-kind bs layout)
+
+    load-is : load (decode bs) ≡ edgesOf bs + bytesOf bs / 4
+    unfolding load
+    load-is = rw (edges-read bs, read-bytes bs formed) refl
 
     pub read-loadable : Loadable bs es vs p
     read-loadable = record {
       good = formed;
-      es-room = omega (arith, formed .edges, R .es-room, Y .vertices, Y .edges);
-      vs-room = omega (arith, formed .vertices, R .vs-room, Y .vertices);
-      p-room = omega (arith, formed .bytes (sequence-kind bs layout), R .p-room, Y .vertices);
+      es-room = omega (arith, R .es-room, enough .edges);
+      vs-room = omega (arith, R .vs-room, enough .vertices);
+      p-room = omega (arith, R .p-room, enough .weight);
     }
 
     module _ {h : Held} {es′ vs′ p′ : List ℕ} (L : Loaded bs h es′ vs′ p′) where
-      n-small : h .n ≤ 2048
-      n-small = omega (arith, L .n, formed .vertices)
+      n-room : h .n < vertexRoom heads
+      n-room = omega (arith, L .n, enough .vertices)
 
-      m-small : h .m ≤ 4096
-      m-small = omega (arith, L .m, formed .edges)
+      m-room : h .m + vertexRoom heads ≤ edgeRoom nexts
+      m-room = omega (arith, L .m, enough .edges)
 
       pub read-indexable : length es′ ≡ length es → Indexable (h .m) (h .n) es′ heads nexts
       read-indexable l = record {
-        room = omega (arith, l, m-small, R .es-room, Y .vertices, Y .edges);
-        heads-room = omega (arith, n-small, Y .vertices);
-        nexts-room = omega (arith, m-small, Y .vertices, Y .edges);
-        small = omega (arith, m-small);
+        room = omega (arith, l, m-room, R .es-room);
+        heads-room = omega (arith, n-room);
+        nexts-room = omega (arith, m-room);
+        small = omega (arith, m-room, R .small);
         ends = L .ends;
       }
 
       pub read-markable : Markable (h .n) mp
-      read-markable = record { room = omega (arith, n-small, R .map-room, Y .vertices); small = omega (arith, n-small) }
+      read-markable = record { room = omega (arith, n-room, R .map-room); small = omega (arith, n-room, m-room, R .small) }
 
       pub read-peelable : {mp′ : List ℕ} → length mp′ ≡ length mp → Peelable (h .n) mp′ nodes
-      read-peelable l = record { degrees-room = omega (arith, l, n-small, R .map-room, Y .vertices); queue-room = omega (arith, n-small, R .nodes-room, Y .vertices, Y .edges); small = omega (arith, n-small) }
+      read-peelable l = record { degrees-room = omega (arith, l, n-room, R .map-room); queue-room = omega (arith, n-room, m-room, R .nodes-room); small = omega (arith, n-room, m-room, R .small) }
 
       doubled-is : doubled bs ≡ doubledEdge (edgesIn (h .m) es′)
       unfolding doubled
@@ -96,12 +99,11 @@ module _ (bs : List ℕ) {heads nexts : List ℕ} where
         pub read-0 : c ≡ false → ReadAs bs heads nexts record { number = 0; held = h } es′ vs′ p′
         read-0 s =
             let g = read-good bs formed (doubled-is ∙ sym a ∙ t) (cycle-is ∙ s) in
-            let small = narrow-small (decode bs) (limits-narrow (decode bs) g limits) in
-            let fit : Fit (decode bs) heads nexts = record { good = g; light = omega (arith, small .size, Y .vertices); surplus = omega (arith, small .surplus, Y .edges) } in
+            let fit : Fit (decode bs) heads nexts = record { good = g; light = omega (arith, read-light bs formed (enough .vertices) (enough .weight)); surplus = omega (arith, load-is, enough .edges) } in
             record {
               number = sym (accepted sequenceOnly bs layout (doubled-is ∙ sym a ∙ t) (cycle-is ∙ s));
               is = λ _. L .is;
-              holds = λ _. record { fit = rw (L .is) fit; within = L .within; used-room = omega (arith, L .used, formed .bytes (sequence-kind bs layout), Y .vertices) };
+              holds = λ _. record { fit = rw (L .is) fit; within = L .within; used-room = omega (arith, L .used, enough .weight) };
             }
 
 pub layout-zero : (bs : List ℕ) {i : ℕ} → i ≡ refusalOf (take 5 (recordCauses sequenceOnly bs)) → i ≡ 0 → refusalOf (take 5 (recordCauses sequenceOnly bs)) ≡ 0

@@ -1,16 +1,23 @@
 -- A record of kind 1 that is read. Assumes nothing.
 use mathlib.Core.Path.{_≡_}
 use mathlib.Core.List.{List}
-use Prim.Native.Nat.{ℕ, _+_, _≤_}
-use Rattle.defs.specs.Record.{decode}
+use Prim.Native.Nat.{ℕ, _+_, _/_, _≤_, _<_}
+use Rattle.defs.specs.Record.{kindOf, verticesOf, edgesOf, bytesOf, decode}
 use Rattle.defs.specs.Refusals.{sequenceOnly, recordRefusal}
+use Rattle.record.specs.Layout.{WellFormed}
 use Rattle.memory.specs.Memory.{graphOf, vertexRoom, edgeRoom, Holds}
 use Rattle.accept.specs.declared.Read.{Read}
 
--- room for every accepted record: N at most 10,240, and Φ at most 6,144
-pub record Roomy (heads nexts : List ℕ) : Type 0 where
-  pub vertices : 10240 ≤ vertexRoom heads
-  pub edges : vertexRoom heads + 6144 ≤ edgeRoom nexts
+-- Room for the record's graph, by the record's own counts: one vertex more than it has, for the empty one that cleanup may add; N, which is at
+-- most V and B together; and the edges, of which there may be E and a quarter of B more than vertices.
+pub record RoomFor (bs heads nexts : List ℕ) : Type 0 where
+  pub vertices : verticesOf bs < vertexRoom heads
+  pub weight : verticesOf bs + bytesOf bs ≤ vertexRoom heads
+  pub edges : edgesOf bs + bytesOf bs / 4 + vertexRoom heads ≤ edgeRoom nexts
+
+-- there is room if the record's layout is that of a sequence graph
+pub record Roomy (bs heads nexts : List ℕ) : Type 0 where
+  pub room : WellFormed bs → kindOf bs ≡ 1 → RoomFor bs heads nexts
 
 -- the number, and with number 0 the record's graph, held
 pub record ReadAs (bs heads nexts : List ℕ) (r : Read) (es vs p : List ℕ) : Type 0 where

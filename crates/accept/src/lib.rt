@@ -37,7 +37,7 @@ pub fn read_sequence_graph(
     nodes: &mut [u32],
     map: &mut [u32],
 ) -> Read
-    requires { ⌜ Room (now es) (now vs) (now p) (now heads) (now nexts) (now nodes) (now map) × Roomy (now heads) (now nexts) ⌝ }
+    requires { ⌜ Room (now es) (now vs) (now p) (now heads) (now nexts) (now nodes) (now map) × Roomy (now rec) (now heads) (now nexts) ⌝ }
     ensures { λ r. ⌜ ReadAs (now (rec .entry)) (now (heads .entry)) (now (nexts .entry)) r (now (es .exit)) (now (vs .exit)) (now (p .exit)) ⌝ }
 {
     let number = record::layout_refusal(rec, Takes::SequenceOnly);

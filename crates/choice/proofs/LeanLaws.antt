@@ -1,6 +1,5 @@
 -- Room that stays when vertices go. Assumes nothing.
 use mathlib.Core.Path.{_≡_, refl}
-use mathlib.Core.Logic.{⊎-elim, _⊎_, inl, inr}
 use mathlib.Core.Bool.{Bool}
 use mathlib.Core.List.{List, [], _∷_}
 use Prim.Native.Nat.{ℕ, suc, _+_, _*_, _≤_, _<_}
@@ -18,7 +17,6 @@ use Rattle.laws.proofs.Branching.{branching-restrict, surplus-branching}
 use Rattle.laws.proofs.Measures.{weight, load, bytes-is, weight-is, Tame}
 use Rattle.laws.proofs.Bound.{simplify-tame, simplify-bound}
 use Rattle.laws.proofs.Cleaned.{restrict-good, orphans-keep, connected-keeps}
-use Rattle.laws.proofs.Room.{Limits, limits-narrow}
 use Rattle.memory.specs.Memory.{vertexRoom, edgeRoom, Fit}
 use Rattle.choice.specs.Choice.{Lean}
 
@@ -68,28 +66,3 @@ module _ {heads nexts : List ℕ} {g : Graph} (L : Lean g heads nexts) where
 
   pub lean-rewrites : (simplifyGraphFull 10 g) .rewrites ≤ 202 * vertexRoom heads
   lean-rewrites = omega (arith, simplify-bound 10 (omega arith) g (L .good), L .light)
-
--- ---- a record's graph: where there are bytes, a vertex at least is not empty
-
-few-empty : (vs : List (List ℕ)) → emptyVertices vs ≤ length vs
-unfolding emptyVertices
-few-empty [] = omega arith
-few-empty ([] ∷ vs) = omega (arith, few-empty vs)
-few-empty ((x ∷ xs) ∷ vs) = omega (arith, few-empty vs)
-
-some-full : (vs : List (List ℕ)) → (sequenceBytes vs ≡ 0) ⊎ (emptyVertices vs < length vs)
-unfolding sequenceBytes emptyVertices
-some-full [] = inl refl
-some-full ([] ∷ vs) = ⊎-elim (λ (q : sequenceBytes vs ≡ 0). inl (omega arith)) (λ (l : emptyVertices vs < length vs). inr (omega arith)) (some-full vs)
-some-full ((x ∷ xs) ∷ vs) = inr (omega (arith, few-empty vs))
-
-limits-light : (g : Graph) → Limits g → weight g < 10240
-unfolding weight nodeCount
-limits-light g l = ⊎-elim
-    (λ (q : sequenceBytes (g .verts) ≡ 0). omega (arith, l .vertices, few-empty (g .verts)))
-    (λ (k : emptyVertices (g .verts) < length (g .verts)). omega (arith, l .vertices, l .few))
-    (some-full (g .verts))
-
--- document 01's limits, in room for 10,240 vertices and 6,144 edges more than vertices
-pub limits-lean : {heads nexts : List ℕ} (g : Graph) → Good g → Limits g → 10240 ≤ vertexRoom heads → vertexRoom heads + 6144 ≤ edgeRoom nexts → Lean g heads nexts
-limits-lean g h l a b = record { good = h; light = omega (arith, limits-light g l); narrow = omega (arith, limits-narrow g h l .branches, l .few) }

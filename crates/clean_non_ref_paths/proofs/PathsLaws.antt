@@ -18,7 +18,7 @@ use Rattle.compact.specs.Compact.{Compactable}
 use Rattle.index.specs.Index.{Indexable}
 use Rattle.memory.specs.Memory.{graphOf}
 use Rattle.memory.specs.declared.Held.{Held}
-use Rattle.memory.proofs.RoomLaws.{holds-kept}
+use Rattle.memory.proofs.RoomLaws.{room-kept, holds-kept}
 use Rattle.reach.specs.Reach.{Walkable}
 use Rattle.orphans.specs.Orphans.{Reduced}
 use Rattle.accept.specs.Accept.{Roomy, ReadAs}
@@ -26,8 +26,7 @@ use Rattle.accept.specs.declared.Read.{Read}
 use Rattle.choice.proofs.ChoiceLaws.{lean-holds, reduced-lean, held-compactable, held-indexable, held-walkable}
 use Rattle.cleanable.proofs.ReadLean.{read-lean}
 use Rattle.cleanable.proofs.CleanLean.{clean-lean, clean-narrow}
-use Rattle.arrays.specs.Sized.{SizedGraph}
-use Rattle.arrays.proofs.SizedLaws.{sized-room}
+use Rattle.arrays.specs.Sized.{LentMarks}
 use Rattle.calls.specs.Answers.{Refuses, Accepts}
 use Rattle.calls.specs.Sending.{Sends}
 use Rattle.calls.specs.declared.Tally.{Tally}
@@ -38,22 +37,22 @@ use Rattle.calls.proofs.SendLaws.{sent-short, sent-whole}
 use Rattle.clean_non_ref_paths.specs.MadeOf.{MadeOf}
 use Rattle.clean_non_ref_paths.specs.CleansPaths.{CleansPaths}
 
--- the arrays are room enough to clean what was read
-module _ {es vs p heads nexts nodes mp : List ℕ} (Z : SizedGraph es vs p heads nexts nodes mp) {tried : List ℕ} (marks : length tried ≡ 10240) where
-  pub sized-walkable : {bs : List ℕ} {r : Read} {es′ vs′ p′ heads′ nexts′ nodes′ mp′ : List ℕ} → ReadAs bs heads nexts r es′ vs′ p′ → r .number ≡ 0
+-- what is lent is room enough to clean what was read
+module _ {bs es vs p heads nexts nodes mp tried : List ℕ} (Z : LentMarks bs es vs p heads nexts nodes mp tried) where
+  pub lent-walkable : {r : Read} {es′ vs′ p′ heads′ nexts′ nodes′ mp′ : List ℕ} → ReadAs bs heads nexts r es′ vs′ p′ → r .number ≡ 0
       → length es′ ≡ length es → length vs′ ≡ length vs → length p′ ≡ length p → length heads′ ≡ length heads → length nexts′ ≡ length nexts → length nodes′ ≡ length nodes → length mp′ ≡ length mp
       → Compactable (r .held .n) (r .held .m) es′ vs′ mp′ × (Indexable (r .held .m) (r .held .n) es′ heads′ nexts′ × Walkable (r .held .n) tried nodes′)
-  sized-walkable A ok la lb lc ld le lf lg =
-      let R = sized-room Z la lb lc ld le lf lg in
+  lent-walkable A ok la lb lc ld le lf lg =
+      let R = room-kept (Z .graph .room) la lb lc ld le lf lg in
       let H = holds-kept (A .holds ok) ld le in
-      (held-compactable R H, (held-indexable R H, held-walkable R H (omega (arith, ld, Z .heads-is, marks))))
+      (held-compactable R H, (held-indexable R H, held-walkable R H (omega (arith, ld, Z .tried-room))))
 
 -- reading, then cleaning
 module _ {bs heads nexts : List ℕ} {r : Read} {es vs p : List ℕ} (A : ReadAs bs heads nexts r es vs p) where
   pub made-refused : (r .number ≡ 0 → ⊥) → MadeOf bs heads nexts r es vs p
   made-refused o = record { number = A .number; is = λ z. absurd (o z); holds = λ z. absurd (o z) }
 
-  pub made-whole : Roomy heads nexts → r .number ≡ 0 → {c : Held} {es′ vs′ : List ℕ} → Reduced cleanNonRefPaths (r .held) es vs c es′ vs′ → MadeOf bs heads nexts record { number = 0; held = c } es′ vs′ p
+  pub made-whole : Roomy bs heads nexts → r .number ≡ 0 → {c : Held} {es′ vs′ : List ℕ} → Reduced cleanNonRefPaths (r .held) es vs c es′ vs′ → MadeOf bs heads nexts record { number = 0; held = c } es′ vs′ p
   made-whole Y ok R =
       let H = read-lean A Y ok in
       record {

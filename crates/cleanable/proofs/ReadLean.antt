@@ -2,17 +2,26 @@
 use mathlib.Core.Path.{_≡_, sym, _∙_}
 use mathlib.Core.List.{List}
 use Prim.Native.Nat.{ℕ}
+use native.Mathlib.Omega.{arith}
 use Rattle.defs.specs.Record.{decode}
 use Rattle.defs.specs.Refusals.{sequenceOnly}
 use Rattle.record.proofs.Accepted.{sequence-kind}
-use Rattle.sound.proofs.Accepted.{accepted-early, accepted-good, accepted-limits}
+use Rattle.sound.proofs.Accepted.{accepted-early, accepted-layout, accepted-good, read-bytes}
+use Rattle.sound.proofs.Measured.{read-light, read-branching}
 use Rattle.accept.specs.Accept.{Roomy, ReadAs}
 use Rattle.accept.specs.declared.Read.{Read}
-use Rattle.choice.specs.Choice.{HoldsLean}
-use Rattle.choice.proofs.LeanLaws.{lean-as, limits-lean}
+use Rattle.choice.specs.Choice.{Lean, HoldsLean}
+use Rattle.choice.proofs.LeanLaws.{lean-as}
 use Rattle.choice.proofs.ChoiceLaws.{holds-lean}
 
-pub read-lean : {bs heads nexts : List ℕ} {r : Read} {es vs p : List ℕ} → ReadAs bs heads nexts r es vs p → Roomy heads nexts → r .number ≡ 0 → HoldsLean (r .held) es vs p heads nexts
-read-lean {bs} A Y ok =
+pub read-lean : {bs heads nexts : List ℕ} {r : Read} {es vs p : List ℕ} → ReadAs bs heads nexts r es vs p → Roomy bs heads nexts → r .number ≡ 0 → HoldsLean (r .held) es vs p heads nexts
+read-lean {bs} {heads} {nexts} A Y ok =
     let z = sym (A .number) ∙ ok in
-    holds-lean (A .holds ok) (lean-as (A .is ok) (limits-lean (decode bs) (accepted-good sequenceOnly bs z) (accepted-limits sequenceOnly bs z (sequence-kind bs (accepted-early sequenceOnly bs z))) (Y .vertices) (Y .edges)))
+    let formed = accepted-layout sequenceOnly bs z in
+    let enough = Y .room formed (sequence-kind bs (accepted-early sequenceOnly bs z)) in
+    let lean : Lean (decode bs) heads nexts = record {
+      good = accepted-good sequenceOnly bs z;
+      light = read-light bs formed (enough .vertices) (enough .weight);
+      narrow = omega (arith, read-branching bs formed, read-bytes bs formed, enough .edges);
+    } in
+    holds-lean (A .holds ok) (lean-as (A .is ok) lean)

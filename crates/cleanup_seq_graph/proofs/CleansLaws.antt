@@ -17,7 +17,7 @@ use Rattle.laws.proofs.Cleaned.{cleanup-varies, cleanup-plain}
 use Rattle.sound.proofs.Accepted.{accepted-good}
 use Rattle.answers.proofs.Answers.{Bytes, decoded-narrow, cleanup-read-back}
 use Rattle.memory.specs.Memory.{graphOf}
-use Rattle.memory.proofs.RoomLaws.{holds-kept}
+use Rattle.memory.proofs.RoomLaws.{room-kept, holds-kept}
 use Rattle.accept.specs.Accept.{ReadAs}
 use Rattle.accept.specs.declared.Read.{Read}
 use Rattle.choice.specs.Choice.{Cleanable}
@@ -25,8 +25,8 @@ use Rattle.choice.proofs.ChoiceLaws.{holds-lean-kept}
 use Rattle.cleanable.proofs.ReadLean.{read-lean}
 use Rattle.cleanup.specs.CleanUp.{Answers, CleanUp}
 use Rattle.cleanup.specs.declared.CleanedUp.{CleanedUp}
-use Rattle.arrays.specs.Sized.{Sized}
-use Rattle.arrays.proofs.SizedLaws.{sized-room, sized-read}
+use Rattle.arrays.specs.Sized.{Lent}
+use Rattle.arrays.proofs.SizedLaws.{lent-scratch, lent-countable}
 use Rattle.calls.specs.Answers.{tallyOf, cleanupAnswerOf, cleanupAnswerFor, RefusesCleanup, AcceptsCleanup}
 use Rattle.calls.specs.Sending.{Sends}
 use Rattle.calls.specs.declared.Tally.{Tally}
@@ -38,17 +38,17 @@ use Rattle.cleanup_seq_graph.specs.MadeOf.{MadeOf}
 use Rattle.cleanup_seq_graph.specs.Cleans.{SpellsChosen, Cleans}
 use Rattle.cleanup_seq_graph.specs.declared.Made.{Made}
 
--- the arrays are room enough to clean what was read
-module _ {es vs p heads nexts nodes mp starts tried sig : List ℕ} (Z : Sized es vs p heads nexts nodes mp starts tried sig) where
-  pub sized-cleanable : {bs : List ℕ} {r : Read} {es′ vs′ p′ heads′ nexts′ nodes′ mp′ : List ℕ} → ReadAs bs heads nexts r es′ vs′ p′ → r .number ≡ 0
+-- what is lent is room enough to clean what was read
+module _ {bs es vs p heads nexts nodes mp starts tried sig : List ℕ} (Z : Lent bs es vs p heads nexts nodes mp starts tried sig) where
+  pub lent-cleanable : {r : Read} {es′ vs′ p′ heads′ nexts′ nodes′ mp′ : List ℕ} → ReadAs bs heads nexts r es′ vs′ p′ → r .number ≡ 0
       → length es′ ≡ length es → length vs′ ≡ length vs → length p′ ≡ length p → length heads′ ≡ length heads → length nexts′ ≡ length nexts → length nodes′ ≡ length nodes → length mp′ ≡ length mp
       → Cleanable (r .held) es′ vs′ p′ heads′ nexts′ nodes′ mp′ starts tried sig
-  sized-cleanable A ok la lb lc ld le lf lg = record {
-    room = sized-room (Z .graph) la lb lc ld le lf lg;
-    holds = holds-lean-kept (read-lean A ((sized-read (Z .graph)) .1) ok) ld le;
-    scratch = record { starts-room = omega (arith, ld, Z .graph .heads-is, Z .starts-is); tried-room = omega (arith, ld, Z .graph .heads-is, Z .tried-is) };
-    sig-room = omega (arith, ld, Z .graph .heads-is, Z .sig-is);
-    countable = record { small = omega (arith, ld, Z .graph .heads-is) };
+  lent-cleanable A ok la lb lc ld le lf lg = record {
+    room = room-kept (Z .graph .room) la lb lc ld le lf lg;
+    holds = holds-lean-kept (read-lean A (Z .graph .roomy) ok) ld le;
+    scratch = lent-scratch Z ld;
+    sig-room = omega (arith, ld, Z .sig-room);
+    countable = lent-countable Z ld;
   }
 
 -- reading, then cleaning

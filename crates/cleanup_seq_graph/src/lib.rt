@@ -1,6 +1,8 @@
 // cleanup_seq_graph: a record in, its cleanup's record out. Nothing is asked of the caller.
 ghost use mathlib.Core.Path.{_≡_};
-ghost use Rattle.arrays.specs.Sized.{Sized};
+ghost use Prim.Native.Nat.{_≤_};
+ghost use lib.ListN.{length};
+ghost use Rattle.arrays.specs.Sized.{Lent};
 ghost use Rattle.cleanup_seq_graph.specs.Cleans.{Cleans};
 ghost use Rattle.cleanup_seq_graph.specs.MadeOf.{MadeOf};
 use calls::CleanupAnswer;
@@ -41,7 +43,7 @@ fn read_and_clean(
     tried: &mut [u64],
     sig: &mut [u32],
 ) -> Made
-    requires { ⌜ Sized (now es) (now vs) (now p) (now heads) (now nexts) (now nodes) (now map) (now starts) (now tried) (now sig) ⌝ }
+    requires { ⌜ Lent (now rec) (now es) (now vs) (now p) (now heads) (now nexts) (now nodes) (now map) (now starts) (now tried) (now sig) ⌝ }
     ensures { λ r. ⌜ MadeOf (now (rec .entry)) (now (heads .entry)) (now (nexts .entry)) r (now (es .exit)) (now (vs .exit)) (now (p .exit)) ⌝ }
 {
     let read = accept::read_sequence_graph(rec, es, vs, p, heads, nexts, nodes, map);
@@ -83,7 +85,7 @@ fn cleanup_seq_graph_in(
     tried: &mut [u64],
     sig: &mut [u32],
 ) -> CleanupAnswer
-    requires { ⌜ Sized (now es) (now vs) (now p) (now heads) (now nexts) (now nodes) (now map) (now starts) (now tried) (now sig) ⌝ }
+    requires { ⌜ Lent (now rec) (now es) (now vs) (now p) (now heads) (now nexts) (now nodes) (now map) (now starts) (now tried) (now sig) ⌝ }
     ensures { λ r. ⌜ Cleans (now (rec .entry)) (now (out .entry)) tally r (now (out .exit)) ⌝ }
 {
     let made = read_and_clean(rec, es, vs, p, heads, nexts, nodes, map, starts, tried, sig);
@@ -101,7 +103,7 @@ fn cleanup_seq_graph_in(
 }
 
 // Whole arrays, whose lengths are known.
-fn cleanup_seq_graph_with(
+fn large_with(
     rec: &[u8],
     out: &mut [u8],
     tally: Tally,
@@ -135,7 +137,7 @@ fn cleanup_seq_graph_with(
     )
 }
 
-pub fn cleanup_seq_graph(rec: &[u8], out: &mut [u8], tally: Tally) -> CleanupAnswer
+fn clean_large(rec: &[u8], out: &mut [u8], tally: Tally) -> CleanupAnswer
     ensures { λ r. ⌜ Cleans (now (rec .entry)) (now (out .entry)) tally r (now (out .exit)) ⌝ }
 {
     let mut es = [0u32; 131072];
@@ -148,7 +150,7 @@ pub fn cleanup_seq_graph(rec: &[u8], out: &mut [u8], tally: Tally) -> CleanupAns
     let mut starts = [0u32; 10240];
     let mut tried = [0u64; 10240];
     let mut sig = [0u32; 20482];
-    cleanup_seq_graph_with(
+    large_with(
         rec,
         out,
         tally,
@@ -163,4 +165,80 @@ pub fn cleanup_seq_graph(rec: &[u8], out: &mut [u8], tally: Tally) -> CleanupAns
         &mut tried,
         &mut sig,
     )
+}
+
+// A record of at most 1,024 bytes needs a tenth of the room, and so less time to clear it.
+fn small_with(
+    rec: &[u8],
+    out: &mut [u8],
+    tally: Tally,
+    es: &mut [u32; 10240],
+    vs: &mut [u32; 4096],
+    p: &mut [u8; 3072],
+    heads: &mut [u32; 2048],
+    nexts: &mut [u32; 2560],
+    nodes: &mut [u32; 1280],
+    map: &mut [u32; 2048],
+    starts: &mut [u32; 1024],
+    tried: &mut [u64; 1024],
+    sig: &mut [u32; 2050],
+) -> CleanupAnswer
+    requires { ⌜ length (now rec) ≤ 1024 ⌝ }
+    ensures { λ r. ⌜ Cleans (now (rec .entry)) (now (out .entry)) tally r (now (out .exit)) ⌝ }
+{
+    cleanup_seq_graph_in(
+        rec,
+        out,
+        tally,
+        es,
+        vs,
+        p,
+        heads,
+        nexts,
+        nodes,
+        map,
+        starts,
+        tried,
+        sig,
+    )
+}
+
+fn clean_small(rec: &[u8], out: &mut [u8], tally: Tally) -> CleanupAnswer
+    requires { ⌜ length (now rec) ≤ 1024 ⌝ }
+    ensures { λ r. ⌜ Cleans (now (rec .entry)) (now (out .entry)) tally r (now (out .exit)) ⌝ }
+{
+    let mut es = [0u32; 10240];
+    let mut vs = [0u32; 4096];
+    let mut p = [0u8; 3072];
+    let mut heads = [0u32; 2048];
+    let mut nexts = [0u32; 2560];
+    let mut nodes = [0u32; 1280];
+    let mut map = [0u32; 2048];
+    let mut starts = [0u32; 1024];
+    let mut tried = [0u64; 1024];
+    let mut sig = [0u32; 2050];
+    small_with(
+        rec,
+        out,
+        tally,
+        &mut es,
+        &mut vs,
+        &mut p,
+        &mut heads,
+        &mut nexts,
+        &mut nodes,
+        &mut map,
+        &mut starts,
+        &mut tried,
+        &mut sig,
+    )
+}
+
+pub fn cleanup_seq_graph(rec: &[u8], out: &mut [u8], tally: Tally) -> CleanupAnswer
+    ensures { λ r. ⌜ Cleans (now (rec .entry)) (now (out .entry)) tally r (now (out .exit)) ⌝ }
+{
+    if rec.len() <= 1024 {
+        return clean_small(rec, out, tally);
+    }
+    clean_large(rec, out, tally)
 }

@@ -25,7 +25,7 @@ use Rattle.rounds.specs.declared.Simplified.{Simplified}
 use Rattle.calls.proofs.AnswerLaws.{fits-short, fits-enough, respond-refused, respond-fits}
 use Rattle.write_record.specs.Written.{Measured}
 use Rattle.write_record.proofs.WriteLaws.{encode-length}
-use Rattle.arrays.specs.Sized.{Sized}
+use Rattle.arrays.specs.Sized.{Lent}
 use Rattle.simplify_graph.specs.MadeOf.{MadeOf}
 use Rattle.simplify_graph.specs.declared.Made.{Made}
 use Rattle.text.specs.Printed.{printedGraph, printedRefusal, printedAnswer, inputCauses, shown}
@@ -107,23 +107,23 @@ module _ {number : ℕ} {s : Simplified} {es vs p text : List ℕ} (P : Printing
 
 -- ---- the whole
 
-module _ {es vs p heads nexts nodes mp starts tried sig : List ℕ} (Z : Sized es vs p heads nexts nodes mp starts tried sig) where
+module _ {bs es vs p heads nexts nodes mp starts tried sig : List ℕ} (Z : Lent bs es vs p heads nexts nodes mp starts tried sig) where
   bounded : {h : Held} {es′ vs′ p′ : List ℕ} → Holds h es′ vs′ p′ heads nexts → length es′ ≡ length es → length vs′ ≡ length vs → length p′ ≡ length p → Bounded h es′ vs′ p′
   bounded {h} {es′} {vs′} {p′} H a b c = record {
-    vertices = omega (arith, held-vertices H, Z .graph .heads-is);
-    edges = omega (arith, held-edges H, Z .graph .nexts-is);
-    bytes = omega (arith, fit-bytes (H .fit), held-bytes (h .n) vs′ p′ in-pool, Z .graph .heads-is);
-    es-room = omega (arith, held-edges H, Z .graph .nexts-is, a, Z .graph .es-is);
-    vs-room = omega (arith, held-vertices H, Z .graph .heads-is, b, Z .graph .vs-is);
+    vertices = omega (arith, held-vertices H, Z .graph .vertices-most);
+    edges = omega (arith, held-edges H, Z .graph .edges-most);
+    bytes = omega (arith, fit-bytes (H .fit), held-bytes (h .n) vs′ p′ in-pool, Z .graph .vertices-most);
+    es-room = omega (arith, held-edges H, a, Z .graph .room .es-room);
+    vs-room = omega (arith, held-vertices H, b, Z .graph .room .vs-room);
     within = in-pool;
   }
     where
       in-pool : Within (length p′) (h .n) vs′
-      in-pool = record { at = λ v w. omega (arith, H .within .at v w, H .used-room, Z .graph .heads-is, c, Z .graph .p-is) }
+      in-pool = record { at = λ v w. omega (arith, H .within .at v w, H .used-room, c, Z .graph .room .p-room) }
 
-  pub made-printing : {bs : List ℕ} {r : Made} {es′ vs′ p′ text : List ℕ} {number : ℕ} → MadeOf bs heads nexts r es′ vs′ p′ → number ≡ refusalOf (inputCauses bs)
+  pub made-printing : {r : Made} {es′ vs′ p′ text : List ℕ} {number : ℕ} → MadeOf bs heads nexts r es′ vs′ p′ → number ≡ refusalOf (inputCauses bs)
       → length es′ ≡ length es → length vs′ ≡ length vs → length p′ ≡ length p → 340000 ≤ length text → Printing number (r .simplified) es′ vs′ p′ text
-  made-printing {bs} A q a b c h = record { bounded = λ z. bounded (A .holds (A .number ∙ causes-none bs (sym q ∙ z))) a b c; room = h }
+  made-printing A q a b c h = record { bounded = λ z. bounded (A .holds (A .number ∙ causes-none bs (sym q ∙ z))) a b c; room = h }
 
 -- the simplification that is held is the definition's
 simplified-is : {z : S.Simplified} {s : Simplified} {es vs p : List ℕ} → Answers z s es vs p → simplifiedIn (s .held) (s .rewrites) (s .rounds) (s .end) es vs p ≡ z

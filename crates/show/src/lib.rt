@@ -3,7 +3,7 @@ ghost use mathlib.Core.Path.{_≡_};
 ghost use Prim.Native.Nat.{_≤_};
 ghost use lib.ListN.{length};
 ghost use Rattle.defs.specs.Refusals.{refusalOf, sequenceOnly, recordRefusal};
-ghost use Rattle.arrays.specs.Sized.{Sized};
+ghost use Rattle.arrays.specs.Sized.{Lent};
 ghost use Rattle.text.specs.Printed.{inputCauses};
 ghost use Rattle.text.specs.Put.{Put};
 ghost use Rattle.show.specs.Show.{answerText, Printing, Shown};
@@ -53,7 +53,7 @@ fn show_in(
     tried: &mut [u64],
     sig: &mut [u32],
 ) -> usize
-    requires { ⌜ (340000 ≤ length (now text)) × Sized (now es) (now vs) (now p) (now heads) (now nexts) (now nodes) (now map) (now starts) (now tried) (now sig) ⌝ }
+    requires { ⌜ (340000 ≤ length (now text)) × Lent (now rec) (now es) (now vs) (now p) (now heads) (now nexts) (now nodes) (now map) (now starts) (now tried) (now sig) ⌝ }
     ensures { λ r. ⌜ Shown (now (rec .entry)) (now (text .entry)) r (now (text .exit)) ⌝ }
 {
     let made = simplify_graph::read_and_simplify(

@@ -1,7 +1,8 @@
 // simplify_graph: a record in, its simplification's record out. Nothing is asked of the caller.
 ghost use mathlib.Core.Path.{_≡_};
-ghost use Prim.Native.Nat.{ℕ};
-ghost use Rattle.arrays.specs.Sized.{Sized};
+ghost use Prim.Native.Nat.{ℕ, _≤_};
+ghost use lib.ListN.{length};
+ghost use Rattle.arrays.specs.Sized.{Lent};
 ghost use Rattle.simplify_graph.specs.Simplifies.{Simplifies};
 ghost use Rattle.simplify_graph.specs.MadeOf.{MadeOf};
 use calls::SimplifyAnswer;
@@ -43,7 +44,7 @@ pub fn read_and_simplify(
     tried: &mut [u64],
     sig: &mut [u32],
 ) -> Made
-    requires { ⌜ Sized (now es) (now vs) (now p) (now heads) (now nexts) (now nodes) (now map) (now starts) (now tried) (now sig) ⌝ }
+    requires { ⌜ Lent (now rec) (now es) (now vs) (now p) (now heads) (now nexts) (now nodes) (now map) (now starts) (now tried) (now sig) ⌝ }
     ensures { λ r. ⌜ MadeOf (now (rec .entry)) (now (heads .entry)) (now (nexts .entry)) r (now (es .exit)) (now (vs .exit)) (now (p .exit)) ⌝ }
 {
     let read = accept::read_sequence_graph(rec, es, vs, p, heads, nexts, nodes, map);
@@ -86,7 +87,7 @@ fn simplify_graph_in(
     tried: &mut [u64],
     sig: &mut [u32],
 ) -> SimplifyAnswer
-    requires { ⌜ Sized (now es) (now vs) (now p) (now heads) (now nexts) (now nodes) (now map) (now starts) (now tried) (now sig) ⌝ }
+    requires { ⌜ Lent (now rec) (now es) (now vs) (now p) (now heads) (now nexts) (now nodes) (now map) (now starts) (now tried) (now sig) ⌝ }
     ensures { λ r. ⌜ Simplifies (now (rec .entry)) (now (out .entry)) tally r (now (out .exit)) ⌝ }
 {
     let made = read_and_simplify(rec, es, vs, p, heads, nexts, nodes, map, starts, tried, sig);
@@ -104,7 +105,7 @@ fn simplify_graph_in(
 }
 
 // Whole arrays, whose lengths are known.
-fn simplify_graph_with(
+fn large_with(
     rec: &[u8],
     out: &mut [u8],
     tally: Tally,
@@ -138,7 +139,7 @@ fn simplify_graph_with(
     )
 }
 
-pub fn simplify_graph(rec: &[u8], out: &mut [u8], tally: Tally) -> SimplifyAnswer
+fn simplify_large(rec: &[u8], out: &mut [u8], tally: Tally) -> SimplifyAnswer
     ensures { λ r. ⌜ Simplifies (now (rec .entry)) (now (out .entry)) tally r (now (out .exit)) ⌝ }
 {
     let mut es = [0u32; 131072];
@@ -151,7 +152,7 @@ pub fn simplify_graph(rec: &[u8], out: &mut [u8], tally: Tally) -> SimplifyAnswe
     let mut starts = [0u32; 10240];
     let mut tried = [0u64; 10240];
     let mut sig = [0u32; 20482];
-    simplify_graph_with(
+    large_with(
         rec,
         out,
         tally,
@@ -166,4 +167,80 @@ pub fn simplify_graph(rec: &[u8], out: &mut [u8], tally: Tally) -> SimplifyAnswe
         &mut tried,
         &mut sig,
     )
+}
+
+// A record of at most 1,024 bytes needs a tenth of the room, and so less time to clear it.
+fn small_with(
+    rec: &[u8],
+    out: &mut [u8],
+    tally: Tally,
+    es: &mut [u32; 10240],
+    vs: &mut [u32; 4096],
+    p: &mut [u8; 3072],
+    heads: &mut [u32; 2048],
+    nexts: &mut [u32; 2560],
+    nodes: &mut [u32; 1280],
+    map: &mut [u32; 2048],
+    starts: &mut [u32; 1024],
+    tried: &mut [u64; 1024],
+    sig: &mut [u32; 2050],
+) -> SimplifyAnswer
+    requires { ⌜ length (now rec) ≤ 1024 ⌝ }
+    ensures { λ r. ⌜ Simplifies (now (rec .entry)) (now (out .entry)) tally r (now (out .exit)) ⌝ }
+{
+    simplify_graph_in(
+        rec,
+        out,
+        tally,
+        es,
+        vs,
+        p,
+        heads,
+        nexts,
+        nodes,
+        map,
+        starts,
+        tried,
+        sig,
+    )
+}
+
+fn simplify_small(rec: &[u8], out: &mut [u8], tally: Tally) -> SimplifyAnswer
+    requires { ⌜ length (now rec) ≤ 1024 ⌝ }
+    ensures { λ r. ⌜ Simplifies (now (rec .entry)) (now (out .entry)) tally r (now (out .exit)) ⌝ }
+{
+    let mut es = [0u32; 10240];
+    let mut vs = [0u32; 4096];
+    let mut p = [0u8; 3072];
+    let mut heads = [0u32; 2048];
+    let mut nexts = [0u32; 2560];
+    let mut nodes = [0u32; 1280];
+    let mut map = [0u32; 2048];
+    let mut starts = [0u32; 1024];
+    let mut tried = [0u64; 1024];
+    let mut sig = [0u32; 2050];
+    small_with(
+        rec,
+        out,
+        tally,
+        &mut es,
+        &mut vs,
+        &mut p,
+        &mut heads,
+        &mut nexts,
+        &mut nodes,
+        &mut map,
+        &mut starts,
+        &mut tried,
+        &mut sig,
+    )
+}
+
+pub fn simplify_graph(rec: &[u8], out: &mut [u8], tally: Tally) -> SimplifyAnswer
+    ensures { λ r. ⌜ Simplifies (now (rec .entry)) (now (out .entry)) tally r (now (out .exit)) ⌝ }
+{
+    if rec.len() <= 1024 {
+        return simplify_small(rec, out, tally);
+    }
+    simplify_large(rec, out, tally)
 }

@@ -198,11 +198,11 @@ module _ (bs : List ℕ) where
 
   -- ---- the graph of an accepted record
 
-  order-read : nodeCount (decode bs) ≡ verticesOf bs
+  pub order-read : nodeCount (decode bs) ≡ verticesOf bs
   unfolding nodeCount decode
   order-read = length-tab (verticesOf bs) (sequenceAt bs)
 
-  edges-read : length ((decode bs) .edges) ≡ edgesOf bs
+  pub edges-read : length ((decode bs) .edges) ≡ edgesOf bs
   unfolding decode
   edges-read = length-tab (edgesOf bs) (edgeAt bs)
 

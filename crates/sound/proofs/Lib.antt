@@ -1,3 +1,4 @@
 pub mod Pairs
 pub mod Causes
 pub mod Accepted
+pub mod Measured

@@ -18,7 +18,7 @@ use Rattle.laws.proofs.ListLaws.{clash, given-some, byOrder}
 use Rattle.laws.proofs.Whole.{no-some}
 use Rattle.memory.specs.Memory.{graphOf, vertexRoom, Room, Holds}
 use Rattle.memory.specs.declared.Held.{Held}
-use Rattle.memory.proofs.RoomLaws.{held-vertices, held-edges, held-ends, fit-bytes}
+use Rattle.memory.proofs.RoomLaws.{held-vertices, held-edges, held-ends, fit-bytes, room-kept}
 use Rattle.index.specs.Index.{Indexable, Indexed}
 use Rattle.accept.specs.Accept.{ReadAs}
 use Rattle.accept.specs.declared.Read.{Read}
@@ -33,14 +33,13 @@ use Rattle.string_calls.proofs.LengthLaws.{path-most, reference-most}
 use Rattle.calls.proofs.CauseLaws.{behind-refused, behind-present, behind-absent}
 use Rattle.calls.proofs.AnswerLaws.{fits-short, fits-enough, respond-refused, respond-fits, responds-refused, responds-accepted}
 use Rattle.string_calls.specs.Telling.{ReadIndexed, Tells}
-use Rattle.arrays.specs.Sized.{SizedGraph}
-use Rattle.arrays.proofs.SizedLaws.{sized-room}
+use Rattle.arrays.specs.Sized.{LentGraph}
 
 -- a held graph can be indexed, and spelled
-module _ {es vs p heads nexts nodes mp : List ℕ} (Z : SizedGraph es vs p heads nexts nodes mp) {h : Held} {es′ vs′ p′ : List ℕ} (H : Holds h es′ vs′ p′ heads nexts)
+module _ {bs es vs p heads nexts nodes mp : List ℕ} (Z : LentGraph bs es vs p heads nexts nodes mp) {h : Held} {es′ vs′ p′ : List ℕ} (H : Holds h es′ vs′ p′ heads nexts)
     (a : length es′ ≡ length es) (b : length vs′ ≡ length vs) (c : length p′ ≡ length p) where
   room : Room es′ vs′ p′ heads nexts nodes mp
-  room = sized-room Z {heads′ = heads} {nexts′ = nexts} {nodes′ = nodes} {mp′ = mp} a b c refl refl refl refl
+  room = room-kept {heads′ = heads} {nexts′ = nexts} {nodes′ = nodes} {mp′ = mp} (Z .room) a b c refl refl refl refl
 
   pub told-indexable : {heads′ nexts′ : List ℕ} → length heads′ ≡ length heads → length nexts′ ≡ length nexts → Indexable (h .m) (h .n) es′ heads′ nexts′
   told-indexable d e = record {
@@ -52,7 +51,7 @@ module _ {es vs p heads nexts nodes mp : List ℕ} (Z : SizedGraph es vs p heads
   }
 
   pub told-spellable : {nodes′ : List ℕ} → length nodes′ ≡ length nodes → Spellable h es′ vs′ p′ nodes′
-  told-spellable f = held-spellable (sized-room Z {heads′ = heads} {nexts′ = nexts} {mp′ = mp} a b c refl refl f refl) H
+  told-spellable f = held-spellable (room-kept {heads′ = heads} {nexts′ = nexts} {mp′ = mp} (Z .room) a b c refl refl f refl) H
 
 -- a record that was read and indexed
 module _ {bs heads nexts : List ℕ} {r : Read} {es vs p : List ℕ} (A : ReadAs bs heads nexts r es vs p) where

@@ -1,10 +1,10 @@
 // The string calls: the bytes of the reference path, and of a path along a list of edges. Nothing is asked of the caller.
 ghost use mathlib.Core.Path.{_≡_};
 ghost use mathlib.Core.Bool.{true};
-ghost use Prim.Native.Nat.{_<_};
+ghost use Prim.Native.Nat.{_≤_, _<_};
 ghost use lib.ListN.{length};
 ghost use Rattle.defs.specs.Calls.{referencePathBytesResponse, pathBasesBytesResponse};
-ghost use Rattle.arrays.specs.Sized.{SizedGraph};
+ghost use Rattle.arrays.specs.Sized.{LentGraph};
 ghost use Rattle.calls.specs.Answers.{Responds};
 ghost use Rattle.string_calls.specs.Telling.{ReadIndexed, Tells};
 use accept::Read;
@@ -23,7 +23,7 @@ fn read_indexed(
     nodes: &mut [u32],
     map: &mut [u32],
 ) -> Read
-    requires { ⌜ SizedGraph (now es) (now vs) (now p) (now heads) (now nexts) (now nodes) (now map) ⌝ }
+    requires { ⌜ LentGraph (now rec) (now es) (now vs) (now p) (now heads) (now nexts) (now nodes) (now map) ⌝ }
     ensures { λ r. ⌜ ReadIndexed (now (rec .entry)) (now (heads .entry)) (now (nexts .entry)) r (now (es .exit)) (now (vs .exit)) (now (p .exit)) (now (heads .exit)) (now (nexts .exit)) ⌝ }
 {
     let read = accept::read_sequence_graph(rec, es, vs, p, heads, nexts, nodes, map);
@@ -61,7 +61,7 @@ fn reference_path_bytes_in(
     nodes: &mut [u32],
     map: &mut [u32],
 ) -> Answer
-    requires { ⌜ SizedGraph (now es) (now vs) (now p) (now heads) (now nexts) (now nodes) (now map) ⌝ }
+    requires { ⌜ LentGraph (now rec) (now es) (now vs) (now p) (now heads) (now nexts) (now nodes) (now map) ⌝ }
     ensures { λ r. ⌜ Responds (referencePathBytesResponse (now (rec .entry)) (length (now (out .entry)))) (now (out .entry)) tally r (now (out .exit)) ⌝ }
 {
     let read = read_indexed(rec, es, vs, p, heads, nexts, nodes, map);
@@ -74,7 +74,8 @@ fn reference_path_bytes_in(
     tell(told, out.len(), 10, tally)
 }
 
-fn reference_path_bytes_with(
+// Whole arrays, whose lengths are known.
+fn reference_large_with(
     rec: &[u8],
     out: &mut [u8],
     tally: Tally,
@@ -91,8 +92,7 @@ fn reference_path_bytes_with(
     reference_path_bytes_in(rec, out, tally, es, vs, p, heads, nexts, nodes, map)
 }
 
-// 10 where there is no reference path.
-pub fn reference_path_bytes(rec: &[u8], out: &mut [u8], tally: Tally) -> Answer
+fn reference_large(rec: &[u8], out: &mut [u8], tally: Tally) -> Answer
     ensures { λ r. ⌜ Responds (referencePathBytesResponse (now (rec .entry)) (length (now (out .entry)))) (now (out .entry)) tally r (now (out .exit)) ⌝ }
 {
     let mut es = [0u32; 131072];
@@ -102,7 +102,7 @@ pub fn reference_path_bytes(rec: &[u8], out: &mut [u8], tally: Tally) -> Answer
     let mut nexts = [0u32; 32768];
     let mut nodes = [0u32; 16384];
     let mut map = [0u32; 20480];
-    reference_path_bytes_with(
+    reference_large_with(
         rec,
         out,
         tally,
@@ -114,6 +114,60 @@ pub fn reference_path_bytes(rec: &[u8], out: &mut [u8], tally: Tally) -> Answer
         &mut nodes,
         &mut map,
     )
+}
+
+// A record of at most 1,024 bytes needs a tenth of the room, and so less time to clear it.
+fn reference_small_with(
+    rec: &[u8],
+    out: &mut [u8],
+    tally: Tally,
+    es: &mut [u32; 10240],
+    vs: &mut [u32; 4096],
+    p: &mut [u8; 3072],
+    heads: &mut [u32; 2048],
+    nexts: &mut [u32; 2560],
+    nodes: &mut [u32; 1280],
+    map: &mut [u32; 2048],
+) -> Answer
+    requires { ⌜ length (now rec) ≤ 1024 ⌝ }
+    ensures { λ r. ⌜ Responds (referencePathBytesResponse (now (rec .entry)) (length (now (out .entry)))) (now (out .entry)) tally r (now (out .exit)) ⌝ }
+{
+    reference_path_bytes_in(rec, out, tally, es, vs, p, heads, nexts, nodes, map)
+}
+
+fn reference_small(rec: &[u8], out: &mut [u8], tally: Tally) -> Answer
+    requires { ⌜ length (now rec) ≤ 1024 ⌝ }
+    ensures { λ r. ⌜ Responds (referencePathBytesResponse (now (rec .entry)) (length (now (out .entry)))) (now (out .entry)) tally r (now (out .exit)) ⌝ }
+{
+    let mut es = [0u32; 10240];
+    let mut vs = [0u32; 4096];
+    let mut p = [0u8; 3072];
+    let mut heads = [0u32; 2048];
+    let mut nexts = [0u32; 2560];
+    let mut nodes = [0u32; 1280];
+    let mut map = [0u32; 2048];
+    reference_small_with(
+        rec,
+        out,
+        tally,
+        &mut es,
+        &mut vs,
+        &mut p,
+        &mut heads,
+        &mut nexts,
+        &mut nodes,
+        &mut map,
+    )
+}
+
+// 10 where there is no reference path.
+pub fn reference_path_bytes(rec: &[u8], out: &mut [u8], tally: Tally) -> Answer
+    ensures { λ r. ⌜ Responds (referencePathBytesResponse (now (rec .entry)) (length (now (out .entry)))) (now (out .entry)) tally r (now (out .exit)) ⌝ }
+{
+    if rec.len() <= 1024 {
+        return reference_small(rec, out, tally);
+    }
+    reference_large(rec, out, tally)
 }
 
 fn path_bases_bytes_in(
@@ -130,7 +184,7 @@ fn path_bases_bytes_in(
     nodes: &mut [u32],
     map: &mut [u32],
 ) -> Answer
-    requires { ⌜ SizedGraph (now es) (now vs) (now p) (now heads) (now nexts) (now nodes) (now map) ⌝ }
+    requires { ⌜ LentGraph (now rec) (now es) (now vs) (now p) (now heads) (now nexts) (now nodes) (now map) ⌝ }
     ensures { λ r. ⌜ Responds (pathBasesBytesResponse (now (rec .entry)) start (now (list .entry)) (length (now (out .entry)))) (now (out .entry)) tally r (now (out .exit)) ⌝ }
 {
     let read = read_indexed(rec, es, vs, p, heads, nexts, nodes, map);
@@ -143,7 +197,8 @@ fn path_bases_bytes_in(
     tell(told, out.len(), 9, tally)
 }
 
-fn path_bases_bytes_with(
+// Whole arrays, whose lengths are known.
+fn path_large_with(
     rec: &[u8],
     start: u32,
     list: &[u32],
@@ -175,14 +230,7 @@ fn path_bases_bytes_with(
     )
 }
 
-// 9 where the start or the list of edges is no path.
-pub fn path_bases_bytes(
-    rec: &[u8],
-    start: u32,
-    list: &[u32],
-    out: &mut [u8],
-    tally: Tally,
-) -> Answer
+fn path_large(rec: &[u8], start: u32, list: &[u32], out: &mut [u8], tally: Tally) -> Answer
     ensures { λ r. ⌜ Responds (pathBasesBytesResponse (now (rec .entry)) start (now (list .entry)) (length (now (out .entry)))) (now (out .entry)) tally r (now (out .exit)) ⌝ }
 {
     let mut es = [0u32; 131072];
@@ -192,7 +240,7 @@ pub fn path_bases_bytes(
     let mut nexts = [0u32; 32768];
     let mut nodes = [0u32; 16384];
     let mut map = [0u32; 20480];
-    path_bases_bytes_with(
+    path_large_with(
         rec,
         start,
         list,
@@ -206,4 +254,81 @@ pub fn path_bases_bytes(
         &mut nodes,
         &mut map,
     )
+}
+
+// A record of at most 1,024 bytes needs a tenth of the room, and so less time to clear it.
+fn path_small_with(
+    rec: &[u8],
+    start: u32,
+    list: &[u32],
+    out: &mut [u8],
+    tally: Tally,
+    es: &mut [u32; 10240],
+    vs: &mut [u32; 4096],
+    p: &mut [u8; 3072],
+    heads: &mut [u32; 2048],
+    nexts: &mut [u32; 2560],
+    nodes: &mut [u32; 1280],
+    map: &mut [u32; 2048],
+) -> Answer
+    requires { ⌜ length (now rec) ≤ 1024 ⌝ }
+    ensures { λ r. ⌜ Responds (pathBasesBytesResponse (now (rec .entry)) start (now (list .entry)) (length (now (out .entry)))) (now (out .entry)) tally r (now (out .exit)) ⌝ }
+{
+    path_bases_bytes_in(
+        rec,
+        start,
+        list,
+        out,
+        tally,
+        es,
+        vs,
+        p,
+        heads,
+        nexts,
+        nodes,
+        map,
+    )
+}
+
+fn path_small(rec: &[u8], start: u32, list: &[u32], out: &mut [u8], tally: Tally) -> Answer
+    requires { ⌜ length (now rec) ≤ 1024 ⌝ }
+    ensures { λ r. ⌜ Responds (pathBasesBytesResponse (now (rec .entry)) start (now (list .entry)) (length (now (out .entry)))) (now (out .entry)) tally r (now (out .exit)) ⌝ }
+{
+    let mut es = [0u32; 10240];
+    let mut vs = [0u32; 4096];
+    let mut p = [0u8; 3072];
+    let mut heads = [0u32; 2048];
+    let mut nexts = [0u32; 2560];
+    let mut nodes = [0u32; 1280];
+    let mut map = [0u32; 2048];
+    path_small_with(
+        rec,
+        start,
+        list,
+        out,
+        tally,
+        &mut es,
+        &mut vs,
+        &mut p,
+        &mut heads,
+        &mut nexts,
+        &mut nodes,
+        &mut map,
+    )
+}
+
+// 9 where the start or the list of edges is no path.
+pub fn path_bases_bytes(
+    rec: &[u8],
+    start: u32,
+    list: &[u32],
+    out: &mut [u8],
+    tally: Tally,
+) -> Answer
+    ensures { λ r. ⌜ Responds (pathBasesBytesResponse (now (rec .entry)) start (now (list .entry)) (length (now (out .entry)))) (now (out .entry)) tally r (now (out .exit)) ⌝ }
+{
+    if rec.len() <= 1024 {
+        return path_small(rec, start, list, out, tally);
+    }
+    path_large(rec, start, list, out, tally)
 }

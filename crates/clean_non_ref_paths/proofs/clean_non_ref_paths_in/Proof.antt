@@ -1,5 +1,5 @@
 use native.Mathlib.Omega.{arith}
-use Rattle.arrays.proofs.SizedLaws.{sized-sendable}
+use Rattle.arrays.proofs.SizedLaws.{lent-sendable}
 use Rattle.clean_non_ref_paths.proofs.PathsLaws.{paths-refused, paths-short, paths-accepted}
 use borrow.Author.Needs.{needs}
 use Rattle.clean_non_ref_paths.proofs.clean_non_ref_paths_in.Statement.{statement}
@@ -57,7 +57,7 @@ returns c = paths-refused (c .before .before .before .before .before .before .be
 
 -- src/lib.rt:69:9
 send-record-requires : tie.Need-send-record-requires
-send-record-requires c κs = sized-sendable (c .before .before .before .before .before .before .before .before .before .before .before .before .before .before .before .before .before .before .before .before .before .before .before .before .before .before .before .before .before .before .before .before .before .before .before .before .before .before .before .before .before .pre .0) 0 (omega arith) (c .before .before .before .before .before .before .before .before .before .before .before .before .before .before .before .before .before .before .before .before .before .before .read-and-clean .ensures .holds (c .before .before .before .before .before .if1 .left)) (c .before .before .before .before .before .before .before .before .before .before .before .before .before .before .before .before .before .before .before .before .before .before .read-and-clean .kept .1 .0) (c .before .before .before .before .before .before .before .before .before .before .before .before .before .before .before .before .before .before .before .before .before .before .read-and-clean .kept .1 .1 .0) (c .before .before .before .before .before .before .before .before .before .before .before .before .before .before .before .before .before .before .before .before .before .before .read-and-clean .kept .1 .1 .1 .0)
+send-record-requires c κs = lent-sendable (c .before .before .before .before .before .before .before .before .before .before .before .before .before .before .before .before .before .before .before .before .before .before .before .before .before .before .before .before .before .before .before .before .before .before .before .before .before .before .before .before .before .pre .graph) 0 (omega arith) (c .before .before .before .before .before .before .before .before .before .before .before .before .before .before .before .before .before .before .before .before .before .before .read-and-clean .ensures .holds (c .before .before .before .before .before .if1 .left)) (c .before .before .before .before .before .before .before .before .before .before .before .before .before .before .before .before .before .before .before .before .before .before .read-and-clean .kept .1 .0) (c .before .before .before .before .before .before .before .before .before .before .before .before .before .before .before .before .before .before .before .before .before .before .read-and-clean .kept .1 .1 .0) (c .before .before .before .before .before .before .before .before .before .before .before .before .before .before .before .before .before .before .before .before .before .before .read-and-clean .kept .1 .1 .1 .0)
 
 -- src/lib.rt:72:9
 refuse-requires-2 : tie.Need-refuse-requires-2

@@ -1,5 +1,5 @@
-use Rattle.arrays.proofs.SizedLaws.{sized-read}
-use Rattle.clean_non_ref_paths.proofs.PathsLaws.{sized-walkable, made-refused, made-whole}
+use Rattle.arrays.proofs.SizedLaws.{lent-read}
+use Rattle.clean_non_ref_paths.proofs.PathsLaws.{lent-walkable, made-refused, made-whole}
 use borrow.Author.Needs.{needs}
 use Rattle.clean_non_ref_paths.proofs.read_and_clean.Statement.{statement}
 use Rattle.clean_non_ref_paths.proofs.read_and_clean.Tie as tie
@@ -10,7 +10,7 @@ use Rattle.clean_non_ref.proofs.clean_non_ref_paths.Reads as clean-non-ref-path
 
 -- src/lib.rt:27:9
 read-sequence-graph-requires : tie.Need-read-sequence-graph-requires
-read-sequence-graph-requires c κs = sized-read (c .before .before .before .before .before .before .before .before .before .before .before .before .before .before .before .before .pre .0)
+read-sequence-graph-requires c κs = lent-read (c .before .before .before .before .before .before .before .before .before .before .before .before .before .before .before .before .pre .graph)
 
 -- src/lib.rt:29:9
 same-length : tie.Need-same-length
@@ -46,7 +46,7 @@ returns c = made-refused (c .before .before .before .before .before .before .bef
 
 -- src/lib.rt:31:9
 clean-non-ref-paths-requires : tie.Need-clean-non-ref-paths-requires
-clean-non-ref-paths-requires c κs = sized-walkable (c .before .before .before .before .before .before .before .before .before .before .before .before .before .before .before .before .before .before .before .before .before .before .before .before .before .before .before .before .before .before .before .before .before .before .before .before .before .before .before .before .pre .0) (c .before .before .before .before .before .before .before .before .before .before .before .before .before .before .before .before .before .before .before .before .before .before .before .before .before .before .before .before .before .before .before .before .before .before .before .before .before .before .before .before .pre .1) (c .before .before .before .before .before .before .before .before .before .before .before .before .before .before .before .before .before .before .before .before .before .before .before .read-sequence-graph .ensures) (c .before .before .before .before .before .before .before .if1 .left) (c .before .before .before .before .before .before .before .before .before .before .before .before .before .before .before .before .before .before .before .before .before .before .before .read-sequence-graph .kept .1 .0) (c .before .before .before .before .before .before .before .before .before .before .before .before .before .before .before .before .before .before .before .before .before .before .before .read-sequence-graph .kept .1 .1 .0) (c .before .before .before .before .before .before .before .before .before .before .before .before .before .before .before .before .before .before .before .before .before .before .before .read-sequence-graph .kept .1 .1 .1 .0) (c .before .before .before .before .before .before .before .before .before .before .before .before .before .before .before .before .before .before .before .before .before .before .before .read-sequence-graph .kept .1 .1 .1 .1 .0) (c .before .before .before .before .before .before .before .before .before .before .before .before .before .before .before .before .before .before .before .before .before .before .before .read-sequence-graph .kept .1 .1 .1 .1 .1 .0) (c .before .before .before .before .before .before .before .before .before .before .before .before .before .before .before .before .before .before .before .before .before .before .before .read-sequence-graph .kept .1 .1 .1 .1 .1 .1 .0) (c .before .before .before .before .before .before .before .before .before .before .before .before .before .before .before .before .before .before .before .before .before .before .before .read-sequence-graph .kept .1 .1 .1 .1 .1 .1 .1 .0)
+clean-non-ref-paths-requires c κs = lent-walkable (c .before .before .before .before .before .before .before .before .before .before .before .before .before .before .before .before .before .before .before .before .before .before .before .before .before .before .before .before .before .before .before .before .before .before .before .before .before .before .before .before .pre) (c .before .before .before .before .before .before .before .before .before .before .before .before .before .before .before .before .before .before .before .before .before .before .before .read-sequence-graph .ensures) (c .before .before .before .before .before .before .before .if1 .left) (c .before .before .before .before .before .before .before .before .before .before .before .before .before .before .before .before .before .before .before .before .before .before .before .read-sequence-graph .kept .1 .0) (c .before .before .before .before .before .before .before .before .before .before .before .before .before .before .before .before .before .before .before .before .before .before .before .read-sequence-graph .kept .1 .1 .0) (c .before .before .before .before .before .before .before .before .before .before .before .before .before .before .before .before .before .before .before .before .before .before .before .read-sequence-graph .kept .1 .1 .1 .0) (c .before .before .before .before .before .before .before .before .before .before .before .before .before .before .before .before .before .before .before .before .before .before .before .read-sequence-graph .kept .1 .1 .1 .1 .0) (c .before .before .before .before .before .before .before .before .before .before .before .before .before .before .before .before .before .before .before .before .before .before .before .read-sequence-graph .kept .1 .1 .1 .1 .1 .0) (c .before .before .before .before .before .before .before .before .before .before .before .before .before .before .before .before .before .before .before .before .before .before .before .read-sequence-graph .kept .1 .1 .1 .1 .1 .1 .0) (c .before .before .before .before .before .before .before .before .before .before .before .before .before .before .before .before .before .before .before .before .before .before .before .read-sequence-graph .kept .1 .1 .1 .1 .1 .1 .1 .0)
 
 -- src/lib.rt:13:1
 same-length-8 : tie.Need-same-length-8
@@ -82,7 +82,7 @@ same-length-15 c = search needs
 
 -- src/lib.rt:13:1
 returns-2 : tie.Need-returns-2
-returns-2 c = made-whole (c .before .before .before .before .before .before .before .before .before .before .before .before .before .before .before .before .before .before .before .before .before .before .before .before .before .before .before .before .before .before .before .before .before .before .before .before .before .before .read-sequence-graph .ensures) (sized-read (c .before .before .before .before .before .before .before .before .before .before .before .before .before .before .before .before .before .before .before .before .before .before .before .before .before .before .before .before .before .before .before .before .before .before .before .before .before .before .before .before .before .before .before .before .before .before .before .before .before .before .before .before .before .before .before .pre .0) .1) (c .before .before .before .before .before .before .before .before .before .before .before .before .before .before .before .before .before .before .before .before .before .before .if1 .left) (c .before .before .before .before .before .before .before .before .before .before .before .before .before .before .clean-non-ref-paths .ensures)
+returns-2 c = made-whole (c .before .before .before .before .before .before .before .before .before .before .before .before .before .before .before .before .before .before .before .before .before .before .before .before .before .before .before .before .before .before .before .before .before .before .before .before .before .before .read-sequence-graph .ensures) (lent-read (c .before .before .before .before .before .before .before .before .before .before .before .before .before .before .before .before .before .before .before .before .before .before .before .before .before .before .before .before .before .before .before .before .before .before .before .before .before .before .before .before .before .before .before .before .before .before .before .before .before .before .before .before .before .before .before .pre .graph) .1) (c .before .before .before .before .before .before .before .before .before .before .before .before .before .before .before .before .before .before .before .before .before .before .if1 .left) (c .before .before .before .before .before .before .before .before .before .before .before .before .before .before .clean-non-ref-paths .ensures)
 
 pub read-and-clean-spec : {M : Type 1} → statement M
 read-and-clean-spec =

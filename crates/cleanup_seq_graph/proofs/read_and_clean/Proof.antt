@@ -1,5 +1,5 @@
-use Rattle.arrays.proofs.SizedLaws.{sized-read}
-use Rattle.cleanup_seq_graph.proofs.CleansLaws.{sized-cleanable, made-refused, made-whole}
+use Rattle.arrays.proofs.SizedLaws.{lent-read}
+use Rattle.cleanup_seq_graph.proofs.CleansLaws.{lent-cleanable, made-refused, made-whole}
 use mathlib.Core.Path.{_∙_}
 use borrow.Author.Needs.{needs}
 use Rattle.cleanup_seq_graph.proofs.read_and_clean.Statement.{statement}
@@ -12,7 +12,7 @@ use Rattle.cleanup_seq_graph.proofs.refuse.Reads as refuse-reads
 
 -- src/lib.rt:47:9
 read-sequence-graph-requires : tie.Need-read-sequence-graph-requires
-read-sequence-graph-requires c κs = sized-read (c .before .before .before .before .before .before .before .before .before .before .before .before .before .before .before .before .before .before .pre .graph)
+read-sequence-graph-requires c κs = lent-read (c .before .before .before .before .before .before .before .before .before .before .before .before .before .before .before .before .before .before .pre .graph)
 
 -- src/lib.rt:50:9
 refuse-requires : tie.Need-refuse-requires
@@ -52,7 +52,7 @@ returns c = made-refused (c .before .before .before .before .before .before .bef
 
 -- src/lib.rt:52:9
 cleanup-seq-graph-requires : tie.Need-cleanup-seq-graph-requires
-cleanup-seq-graph-requires c κs = sized-cleanable (c .before .before .before .before .before .before .before .before .before .before .before .before .before .before .before .before .before .before .before .before .before .before .before .before .before .before .before .before .before .before .before .before .before .before .before .before .before .before .before .before .before .before .before .before .pre) (c .before .before .before .before .before .before .before .before .before .before .before .before .before .before .before .before .before .before .before .before .before .before .before .before .before .read-sequence-graph .ensures) (c .before .before .before .before .before .before .before .before .before .before .if1 .left) (c .before .before .before .before .before .before .before .before .before .before .before .before .before .before .before .before .before .before .before .before .before .before .before .before .before .read-sequence-graph .kept .1 .0) (c .before .before .before .before .before .before .before .before .before .before .before .before .before .before .before .before .before .before .before .before .before .before .before .before .before .read-sequence-graph .kept .1 .1 .0) (c .before .before .before .before .before .before .before .before .before .before .before .before .before .before .before .before .before .before .before .before .before .before .before .before .before .read-sequence-graph .kept .1 .1 .1 .0) (c .before .before .before .before .before .before .before .before .before .before .before .before .before .before .before .before .before .before .before .before .before .before .before .before .before .read-sequence-graph .kept .1 .1 .1 .1 .0) (c .before .before .before .before .before .before .before .before .before .before .before .before .before .before .before .before .before .before .before .before .before .before .before .before .before .read-sequence-graph .kept .1 .1 .1 .1 .1 .0) (c .before .before .before .before .before .before .before .before .before .before .before .before .before .before .before .before .before .before .before .before .before .before .before .before .before .read-sequence-graph .kept .1 .1 .1 .1 .1 .1 .0) (c .before .before .before .before .before .before .before .before .before .before .before .before .before .before .before .before .before .before .before .before .before .before .before .before .before .read-sequence-graph .kept .1 .1 .1 .1 .1 .1 .1 .0)
+cleanup-seq-graph-requires c κs = lent-cleanable (c .before .before .before .before .before .before .before .before .before .before .before .before .before .before .before .before .before .before .before .before .before .before .before .before .before .before .before .before .before .before .before .before .before .before .before .before .before .before .before .before .before .before .before .before .pre) (c .before .before .before .before .before .before .before .before .before .before .before .before .before .before .before .before .before .before .before .before .before .before .before .before .before .read-sequence-graph .ensures) (c .before .before .before .before .before .before .before .before .before .before .if1 .left) (c .before .before .before .before .before .before .before .before .before .before .before .before .before .before .before .before .before .before .before .before .before .before .before .before .before .read-sequence-graph .kept .1 .0) (c .before .before .before .before .before .before .before .before .before .before .before .before .before .before .before .before .before .before .before .before .before .before .before .before .before .read-sequence-graph .kept .1 .1 .0) (c .before .before .before .before .before .before .before .before .before .before .before .before .before .before .before .before .before .before .before .before .before .before .before .before .before .read-sequence-graph .kept .1 .1 .1 .0) (c .before .before .before .before .before .before .before .before .before .before .before .before .before .before .before .before .before .before .before .before .before .before .before .before .before .read-sequence-graph .kept .1 .1 .1 .1 .0) (c .before .before .before .before .before .before .before .before .before .before .before .before .before .before .before .before .before .before .before .before .before .before .before .before .before .read-sequence-graph .kept .1 .1 .1 .1 .1 .0) (c .before .before .before .before .before .before .before .before .before .before .before .before .before .before .before .before .before .before .before .before .before .before .before .before .before .read-sequence-graph .kept .1 .1 .1 .1 .1 .1 .0) (c .before .before .before .before .before .before .before .before .before .before .before .before .before .before .before .before .before .before .before .before .before .before .before .before .before .read-sequence-graph .kept .1 .1 .1 .1 .1 .1 .1 .0)
 
 -- src/lib.rt:31:1
 same-length-8 : tie.Need-same-length-8

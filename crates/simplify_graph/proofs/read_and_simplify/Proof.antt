@@ -1,5 +1,5 @@
 use native.Mathlib.Omega.{arith}
-use Rattle.arrays.proofs.SizedLaws.{sized-read, sized-simplifiable}
+use Rattle.arrays.proofs.SizedLaws.{lent-read, lent-simplifiable}
 use Rattle.simplify_graph.proofs.SimplifyLaws.{made-refused, made-whole}
 use mathlib.Core.Path.{refl, sym, _∙_}
 use borrow.Author.Needs.{needs}
@@ -13,7 +13,7 @@ use Rattle.simplify_graph.proofs.refuse.Reads as refuse-reads
 
 -- src/lib.rt:49:9
 read-sequence-graph-requires : tie.Need-read-sequence-graph-requires
-read-sequence-graph-requires c κs = sized-read (c .before .before .before .before .before .before .before .before .before .before .before .before .before .before .before .before .before .before .pre .graph)
+read-sequence-graph-requires c κs = lent-read (c .before .before .before .before .before .before .before .before .before .before .before .before .before .before .before .before .before .before .pre .graph)
 
 -- src/lib.rt:52:9
 refuse-requires : tie.Need-refuse-requires
@@ -53,7 +53,7 @@ returns c = made-refused (c .before .before .before .before .before .before .bef
 
 -- src/lib.rt:54:9
 simplify-graph-full-requires : tie.Need-simplify-graph-full-requires
-simplify-graph-full-requires c κs = sized-simplifiable (c .before .before .before .before .before .before .before .before .before .before .before .before .before .before .before .before .before .before .before .before .before .before .before .before .before .before .before .before .before .before .before .before .before .before .before .before .before .before .before .before .before .before .before .before .pre) (c .before .before .before .before .before .before .before .before .before .before .before .before .before .before .before .before .before .before .before .before .before .before .before .before .before .read-sequence-graph .ensures .holds (c .before .before .before .before .before .before .before .before .before .before .if1 .left)) (c .before .before .before .before .before .before .before .before .before .before .before .before .before .before .before .before .before .before .before .before .before .before .before .before .before .read-sequence-graph .kept .1 .0) (c .before .before .before .before .before .before .before .before .before .before .before .before .before .before .before .before .before .before .before .before .before .before .before .before .before .read-sequence-graph .kept .1 .1 .0) (c .before .before .before .before .before .before .before .before .before .before .before .before .before .before .before .before .before .before .before .before .before .before .before .before .before .read-sequence-graph .kept .1 .1 .1 .0) (c .before .before .before .before .before .before .before .before .before .before .before .before .before .before .before .before .before .before .before .before .before .before .before .before .before .read-sequence-graph .kept .1 .1 .1 .1 .0) (c .before .before .before .before .before .before .before .before .before .before .before .before .before .before .before .before .before .before .before .before .before .before .before .before .before .read-sequence-graph .kept .1 .1 .1 .1 .1 .0) (c .before .before .before .before .before .before .before .before .before .before .before .before .before .before .before .before .before .before .before .before .before .before .before .before .before .read-sequence-graph .kept .1 .1 .1 .1 .1 .1 .0) (c .before .before .before .before .before .before .before .before .before .before .before .before .before .before .before .before .before .before .before .before .before .before .before .before .before .read-sequence-graph .kept .1 .1 .1 .1 .1 .1 .1 .0)
+simplify-graph-full-requires c κs = lent-simplifiable (c .before .before .before .before .before .before .before .before .before .before .before .before .before .before .before .before .before .before .before .before .before .before .before .before .before .before .before .before .before .before .before .before .before .before .before .before .before .before .before .before .before .before .before .before .pre) (c .before .before .before .before .before .before .before .before .before .before .before .before .before .before .before .before .before .before .before .before .before .before .before .before .before .read-sequence-graph .ensures .holds (c .before .before .before .before .before .before .before .before .before .before .if1 .left)) (c .before .before .before .before .before .before .before .before .before .before .before .before .before .before .before .before .before .before .before .before .before .before .before .before .before .read-sequence-graph .kept .1 .0) (c .before .before .before .before .before .before .before .before .before .before .before .before .before .before .before .before .before .before .before .before .before .before .before .before .before .read-sequence-graph .kept .1 .1 .0) (c .before .before .before .before .before .before .before .before .before .before .before .before .before .before .before .before .before .before .before .before .before .before .before .before .before .read-sequence-graph .kept .1 .1 .1 .0) (c .before .before .before .before .before .before .before .before .before .before .before .before .before .before .before .before .before .before .before .before .before .before .before .before .before .read-sequence-graph .kept .1 .1 .1 .1 .0) (c .before .before .before .before .before .before .before .before .before .before .before .before .before .before .before .before .before .before .before .before .before .before .before .before .before .read-sequence-graph .kept .1 .1 .1 .1 .1 .0) (c .before .before .before .before .before .before .before .before .before .before .before .before .before .before .before .before .before .before .before .before .before .before .before .before .before .read-sequence-graph .kept .1 .1 .1 .1 .1 .1 .0) (c .before .before .before .before .before .before .before .before .before .before .before .before .before .before .before .before .before .before .before .before .before .before .before .before .before .read-sequence-graph .kept .1 .1 .1 .1 .1 .1 .1 .0)
 
 -- src/lib.rt:33:1
 same-length-8 : tie.Need-same-length-8

@@ -1,5 +1,5 @@
 use native.Mathlib.Omega.{arith}
-use Rattle.arrays.proofs.SizedLaws.{sized-sendable}
+use Rattle.arrays.proofs.SizedLaws.{lent-sendable}
 use Rattle.simplify_graph.proofs.SimplifyLaws.{simplifies-refused, simplifies-short, simplifies-accepted}
 use mathlib.Core.Path.{refl, sym, _∙_}
 use borrow.Author.Needs.{needs}
@@ -66,7 +66,7 @@ returns c = simplifies-refused (c .before .before .before .before .before .befor
 
 -- src/lib.rt:98:9
 send-record-requires : tie.Need-send-record-requires
-send-record-requires c κs = sized-sendable (c .before .before .before .before .before .before .before .before .before .before .before .before .before .before .before .before .before .before .before .before .before .before .before .before .before .before .before .before .before .before .before .before .before .before .before .before .before .before .before .before .before .before .before .before .before .before .before .before .before .pre .graph) 0 (omega arith) (c .before .before .before .before .before .before .before .before .before .before .before .before .before .before .before .before .before .before .before .before .before .before .before .before .before .before .read-and-simplify .ensures .holds (c .before .before .before .before .before .if1 .left)) (c .before .before .before .before .before .before .before .before .before .before .before .before .before .before .before .before .before .before .before .before .before .before .before .before .before .before .read-and-simplify .kept .1 .0) (c .before .before .before .before .before .before .before .before .before .before .before .before .before .before .before .before .before .before .before .before .before .before .before .before .before .before .read-and-simplify .kept .1 .1 .0) (c .before .before .before .before .before .before .before .before .before .before .before .before .before .before .before .before .before .before .before .before .before .before .before .before .before .before .read-and-simplify .kept .1 .1 .1 .0)
+send-record-requires c κs = lent-sendable (c .before .before .before .before .before .before .before .before .before .before .before .before .before .before .before .before .before .before .before .before .before .before .before .before .before .before .before .before .before .before .before .before .before .before .before .before .before .before .before .before .before .before .before .before .before .before .before .before .before .pre .graph) 0 (omega arith) (c .before .before .before .before .before .before .before .before .before .before .before .before .before .before .before .before .before .before .before .before .before .before .before .before .before .before .read-and-simplify .ensures .holds (c .before .before .before .before .before .if1 .left)) (c .before .before .before .before .before .before .before .before .before .before .before .before .before .before .before .before .before .before .before .before .before .before .before .before .before .before .read-and-simplify .kept .1 .0) (c .before .before .before .before .before .before .before .before .before .before .before .before .before .before .before .before .before .before .before .before .before .before .before .before .before .before .read-and-simplify .kept .1 .1 .0) (c .before .before .before .before .before .before .before .before .before .before .before .before .before .before .before .before .before .before .before .before .before .before .before .before .before .before .read-and-simplify .kept .1 .1 .1 .0)
 
 -- src/lib.rt:101:9
 refuse-simplify-requires-2 : tie.Need-refuse-simplify-requires-2

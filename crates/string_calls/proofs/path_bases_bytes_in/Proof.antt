@@ -1,6 +1,6 @@
 use native.Mathlib.Omega.{arith}
 use native.Mathlib.Omega.{arith}
-use Rattle.arrays.specs.Sized.{SizedGraph}
+use Rattle.arrays.specs.Sized.{LentGraph}
 use Rattle.string_calls.proofs.StringLaws.{told-spellable, path-stopped, path-counted, path-told}
 use mathlib.Core.Path.{refl, sym, _∙_}
 use borrow.Author.Needs.{needs}
@@ -59,7 +59,7 @@ path-bases-bytes-requires c κs = (told-spellable (c .before .before .before .be
 
 -- src/lib.rt:143:5
 tell-requires : tie.Need-tell-requires
-tell-requires c κs = path-counted (c .before .before .before .before .before .before .before .before .before .before .before .before .before .before .before .before .before .before .before .before .before .before .before .before .before .before .before .before .read-indexed .ensures .read) (c .before .before .before .before .before .before .before .before .before .before .before .before .before .if1 .left) (omega (arith, c .before .before .before .before .before .before .before .before .before .before .before .before .before .before .before .before .before .before .before .before .before .before .before .before .before .before .before .before .before .before .before .before .before .before .before .before .before .before .before .before .before .before .before .before .before .before .pre .heads-is)) _ _ (c .before .before .before .before .path-bases-bytes .ensures)
+tell-requires c κs = path-counted (c .before .before .before .before .before .before .before .before .before .before .before .before .before .before .before .before .before .before .before .before .before .before .before .before .before .before .before .before .read-indexed .ensures .read) (c .before .before .before .before .before .before .before .before .before .before .before .before .before .if1 .left) (omega (arith, c .before .before .before .before .before .before .before .before .before .before .before .before .before .before .before .before .before .before .before .before .before .before .before .before .before .before .before .before .before .before .before .before .before .before .before .before .before .before .before .before .before .before .before .before .before .before .pre .vertices-most)) _ _ (c .before .before .before .before .path-bases-bytes .ensures)
 
 -- src/lib.rt:119:1
 same-length-8 : tie.Need-same-length-8

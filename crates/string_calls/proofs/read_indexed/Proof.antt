@@ -1,5 +1,5 @@
 use native.Mathlib.Omega.{arith}
-use Rattle.arrays.proofs.SizedLaws.{sized-read}
+use Rattle.arrays.proofs.SizedLaws.{lent-read}
 use Rattle.string_calls.proofs.StringLaws.{told-indexable, read-other, read-indexed}
 use mathlib.Core.Path.{refl, sym, _∙_}
 use borrow.Author.Needs.{needs}
@@ -12,7 +12,7 @@ use Rattle.index.proofs.build_index.Reads as build-index-reads
 
 -- src/lib.rt:29:9
 read-sequence-graph-requires : tie.Need-read-sequence-graph-requires
-read-sequence-graph-requires c κs = sized-read (c .before .before .before .before .before .before .before .before .before .before .before .before .before .before .before .pre)
+read-sequence-graph-requires c κs = lent-read (c .before .before .before .before .before .before .before .before .before .before .before .before .before .before .before .pre)
 
 -- src/lib.rt:31:9
 build-index-requires : tie.Need-build-index-requires

@@ -1,6 +1,6 @@
 use native.Mathlib.Omega.{arith}
 use native.Mathlib.Omega.{arith}
-use Rattle.arrays.specs.Sized.{SizedGraph}
+use Rattle.arrays.specs.Sized.{LentGraph}
 use Rattle.string_calls.proofs.StringLaws.{told-spellable, reference-stopped, reference-counted, reference-told}
 use mathlib.Core.Path.{refl, sym, _∙_}
 use borrow.Author.Needs.{needs}
@@ -59,7 +59,7 @@ reference-path-bytes-requires c κs = (told-spellable (c .before .before .before
 
 -- src/lib.rt:74:5
 tell-requires : tie.Need-tell-requires
-tell-requires c κs = reference-counted (c .before .before .before .before .before .before .before .before .before .before .before .before .before .before .before .before .before .before .before .before .before .before .before .before .before .before .before .before .read-indexed .ensures .read) (c .before .before .before .before .before .before .before .before .before .before .before .before .before .if1 .left) (omega (arith, c .before .before .before .before .before .before .before .before .before .before .before .before .before .before .before .before .before .before .before .before .before .before .before .before .before .before .before .before .before .before .before .before .before .before .before .before .before .before .before .before .before .before .before .before .before .pre .heads-is)) (c .before .before .before .before .reference-path-bytes .ensures)
+tell-requires c κs = reference-counted (c .before .before .before .before .before .before .before .before .before .before .before .before .before .before .before .before .before .before .before .before .before .before .before .before .before .before .before .before .read-indexed .ensures .read) (c .before .before .before .before .before .before .before .before .before .before .before .before .before .if1 .left) (omega (arith, c .before .before .before .before .before .before .before .before .before .before .before .before .before .before .before .before .before .before .before .before .before .before .before .before .before .before .before .before .before .before .before .before .before .before .before .before .before .before .before .before .before .before .before .before .before .pre .vertices-most)) (c .before .before .before .before .reference-path-bytes .ensures)
 
 -- src/lib.rt:52:1
 same-length-8 : tie.Need-same-length-8

@@ -1,0 +1,11 @@
+-- `string_calls::path_small_with` meets its contract. Assumes nothing.
+use Rattle.arrays.proofs.SizedLaws.{small-graph}
+use borrow.Author.Needs.{needs}
+use Rattle.string_calls.proofs.path_small_with.Statement.{statement}
+use Rattle.string_calls.proofs.path_small_with.Tie as tie
+
+pub path-small-with-spec : {M : Type 1} → statement M
+path-small-with-spec = tie.close (tie.spec
+    (λ c κs. small-graph (c .before .before .before .before .before .before .before .before .before .before .before .pre) (search needs))
+    (λ c. search needs)
+    (λ c. search needs))
