@@ -1,8 +1,10 @@
+-- `until::first_at` meets its contract. Assumes nothing.
 use native.Mathlib.Omega.{arith}
 use mathlib.Core.Path.{ap, _∙_}
 use Prim.Native.Nat.{_-_}
 use lib.ListN.{length}
 use Rattle.memory.specs.Memory.{graphOf}
+use Rattle.memory.proofs.RoomLaws.{held-vertices}
 use Rattle.until.specs.Until.{rewriteOf}
 use Rattle.until.proofs.UntilLaws.{Scanning, scanning-start, scanning-more, scanning-found, scanning-none, scan-ready, scan-left}
 use Rattle.until.proofs.first_at.Statement.{statement}
@@ -35,6 +37,9 @@ same-length-5 c = c .before .before .before .before .before .before .before .bef
 returns : tie.Need-returns Inv-loop μ-loop
 returns c = scanning-found (c .before .before .before .before .before .before .before .before .before .before .before .before .before .before .before .before .before .before .loop .inv) (c .before .before .before .before .before .before .before .before .before .before .before .before .before .before .before .before .before .loop-test .taken) (scan-left (c .before .before .before .before .before .before .before .before .before .before .before .before .before .before .before .before .before .before .before .before .before .before .before .before .before .before .args .kind) (c .before .before .before .before .before .before .before .before .before .before .before .before .before .before .before .before .before .before .before .before .before .before .before .before .before .before .args .least) (c .before .before .before .before .before .before .before .before .before .before .before .before .before .before .before .before .before .before .loop .inv) (c .before .before .before .before .before .before .before .before .before .before .before .try-rewrite .ensures)) (c .if1 .taken)
 
+add-v : tie.Need-add-v Inv-loop μ-loop
+add-v c = omega (arith, c .before .before .before .before .before .before .before .before .before .before .before .before .before .before .before .before .before .loop-test .taken, held-vertices (c .before .before .before .before .before .before .before .before .before .before .before .before .before .before .before .before .before .before .before .before .before .before .before .before .before .before .pre .holds), c .before .before .before .before .before .before .before .before .before .before .before .before .before .before .before .before .before .before .before .before .before .before .before .before .before .before .pre .room .small, c .before .before .before .before .before .before .before .before .before .before .before .before .before .before .before .before .before .before .before .before .before .before .before .before .before .before .pre .room .vertices-edges)
+
 loop-again : tie.Need-loop-again Inv-loop μ-loop
 loop-again c = scanning-more (c .before .before .before .before .before .before .before .before .before .before .before .before .before .before .before .before .before .before .loop .inv) (c .before .before .before .before .before .before .before .before .before .before .before .before .before .before .before .before .before .loop-test .taken) (scan-left (c .before .before .before .before .before .before .before .before .before .before .before .before .before .before .before .before .before .before .before .before .before .before .before .before .before .before .args .kind) (c .before .before .before .before .before .before .before .before .before .before .before .before .before .before .before .before .before .before .before .before .before .before .before .before .before .before .args .least) (c .before .before .before .before .before .before .before .before .before .before .before .before .before .before .before .before .before .before .loop .inv) (c .before .before .before .before .before .before .before .before .before .before .before .try-rewrite .ensures)) (c .if1 .left) (c .before .before .before .before .before .before .before .before .before .before .before .try-rewrite .kept .1 .1 .1 .1 .1 .1 .1 .1 .0) (c .before .before .before .before .before .before .before .before .before .before .before .try-rewrite .kept .1 .1 .1 .1 .1 .1 .1 .1 .1 .0)
 
@@ -52,7 +57,7 @@ first-at-spec =
     same-length-4
     same-length-5
     returns
-    (λ c. omega arith)
+    add-v
     (λ c. omega arith)
     loop-again
     (λ c. ap length (c .before .loop .inv .same-es))
