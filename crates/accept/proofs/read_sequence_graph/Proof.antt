@@ -1,3 +1,4 @@
+-- `accept::read_sequence_graph` meets its contract. Assumes nothing.
 use native.Mathlib.Omega.{arith}
 use mathlib.Core.Path.{refl, sym, _∙_}
 use Rattle.accept.proofs.AcceptLaws.{of-takes, read-refused, layout-zero, read-loadable, read-indexable, read-markable, read-peelable, read-6, read-7, read-0}

@@ -1,3 +1,4 @@
+-- `calls::accept` meets its contract. Assumes nothing.
 use Rattle.calls.proofs.AnswerLaws.{accept-is}
 use borrow.Author.Needs.{needs}
 use Rattle.calls.proofs.accept.Statement.{statement}

@@ -1,3 +1,4 @@
+-- `calls::accept_cleanup` meets its contract. Assumes nothing.
 use Rattle.calls.proofs.AnswerLaws.{accept-cleanup-is}
 use borrow.Author.Needs.{needs}
 use Rattle.calls.proofs.accept_cleanup.Statement.{statement}

@@ -1,3 +1,4 @@
+-- `calls::accept_simplify` meets its contract. Assumes nothing.
 use Rattle.calls.proofs.AnswerLaws.{accept-simplify-is}
 use borrow.Author.Needs.{needs}
 use Rattle.calls.proofs.accept_simplify.Statement.{statement}

@@ -1,3 +1,4 @@
+-- `calls::refuse` meets its contract. Assumes nothing.
 use Rattle.calls.proofs.AnswerLaws.{refuse-is}
 use borrow.Author.Needs.{needs}
 use Rattle.calls.proofs.refuse.Statement.{statement}

@@ -1,3 +1,4 @@
+-- `calls::refuse_cleanup` meets its contract. Assumes nothing.
 use Rattle.calls.proofs.AnswerLaws.{refuse-cleanup-is}
 use borrow.Author.Needs.{needs}
 use Rattle.calls.proofs.refuse_cleanup.Statement.{statement}

@@ -1,3 +1,4 @@
+-- `calls::refuse_simplify` meets its contract. Assumes nothing.
 use Rattle.calls.proofs.AnswerLaws.{refuse-simplify-is}
 use borrow.Author.Needs.{needs}
 use Rattle.calls.proofs.refuse_simplify.Statement.{statement}

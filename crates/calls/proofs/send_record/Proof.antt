@@ -1,6 +1,6 @@
+-- `calls::send_record` meets its contract. Assumes nothing.
 use native.Mathlib.Omega.{arith}
 use Rattle.calls.proofs.SendLaws.{send-short, send-writable, send-written, send-small}
-use native.Mathlib.Omega.{arith}
 use borrow.Author.Needs.{needs}
 use Rattle.calls.proofs.send_record.Statement.{statement}
 use Rattle.calls.proofs.send_record.Tie as tie

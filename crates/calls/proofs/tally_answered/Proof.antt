@@ -1,3 +1,4 @@
+-- `calls::tally_answered` meets its contract. Assumes nothing.
 use mathlib.Core.Path.{refl}
 use Rattle.calls.proofs.AnswerLaws.{tally-answered-is}
 use borrow.Author.Needs.{needs}

@@ -1,3 +1,4 @@
+-- `calls::tally_refused` meets its contract. Assumes nothing.
 use mathlib.Core.Path.{refl}
 use Rattle.calls.proofs.AnswerLaws.{tally-refused-is}
 use borrow.Author.Needs.{needs}

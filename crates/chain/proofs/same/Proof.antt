@@ -1,3 +1,4 @@
+-- `chain::same` meets its contract. Assumes nothing.
 use native.Mathlib.Omega.{arith}
 use Rattle.chain.proofs.ChainLaws.{beq-yes, beq-no}
 use borrow.Author.Needs.{needs}

@@ -1,3 +1,4 @@
+-- `clean_non_ref_paths::clean_non_ref_paths_in` meets its contract. Assumes nothing.
 use native.Mathlib.Omega.{arith}
 use Rattle.arrays.proofs.SizedLaws.{lent-sendable}
 use Rattle.clean_non_ref_paths.proofs.PathsLaws.{paths-refused, paths-short, paths-accepted}

@@ -1,3 +1,4 @@
+-- `clean_non_ref_paths::read_and_clean` meets its contract. Assumes nothing.
 use Rattle.arrays.proofs.SizedLaws.{lent-read}
 use Rattle.clean_non_ref_paths.proofs.PathsLaws.{lent-walkable, made-refused, made-whole}
 use borrow.Author.Needs.{needs}

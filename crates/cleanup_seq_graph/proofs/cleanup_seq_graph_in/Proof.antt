@@ -1,3 +1,4 @@
+-- `cleanup_seq_graph::cleanup_seq_graph_in` meets its contract. Assumes nothing.
 use native.Mathlib.Omega.{arith}
 use Rattle.arrays.proofs.SizedLaws.{lent-sendable}
 use Rattle.cleanup_seq_graph.proofs.CleansLaws.{cleans-refused, made-status, cleans-short, cleans-accepted}

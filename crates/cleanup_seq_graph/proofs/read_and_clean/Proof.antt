@@ -1,3 +1,4 @@
+-- `cleanup_seq_graph::read_and_clean` meets its contract. Assumes nothing.
 use Rattle.arrays.proofs.SizedLaws.{lent-read}
 use Rattle.cleanup_seq_graph.proofs.CleansLaws.{lent-cleanable, made-refused, made-whole}
 use mathlib.Core.Path.{_∙_}

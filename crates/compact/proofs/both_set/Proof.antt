@@ -1,3 +1,4 @@
+-- `compact::both_set` meets its contract. Assumes nothing.
 use Rattle.compact.proofs.LoopLaws.{both-yes}
 use mathlib.Core.Path.{ap}
 use mathlib.Core.Bool.{not}

@@ -1,3 +1,4 @@
+-- `compact::close_vertices` meets its contract. Assumes nothing.
 use native.Mathlib.Omega.{arith}
 use Prim.Native.Nat.{_-_}
 use Rattle.compact.proofs.LoopLaws.{ClosingV, closing-v-start, closing-v-drop, closing-v-keep, closing-v-end}

@@ -1,3 +1,4 @@
+-- `compact::compact_vertices` meets its contract. Assumes nothing.
 use native.Mathlib.Omega.{arith}
 use Rattle.compact.proofs.CompactLaws.{compacted}
 use borrow.Author.Needs.{needs}

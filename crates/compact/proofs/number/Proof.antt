@@ -1,3 +1,4 @@
+-- `compact::number` meets its contract. Assumes nothing.
 use native.Mathlib.Omega.{arith}
 use Prim.Native.Nat.{_-_}
 use Rattle.compact.proofs.LoopLaws.{Numbering, numbering-start, numbering-stays, numbering-goes, numbering-end}

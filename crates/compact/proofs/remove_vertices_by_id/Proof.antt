@@ -1,3 +1,4 @@
+-- `compact::remove_vertices_by_id` meets its contract. Assumes nothing.
 use native.Mathlib.Omega.{arith}
 use Rattle.compact.proofs.CompactLaws.{removed}
 use borrow.Author.Needs.{needs}

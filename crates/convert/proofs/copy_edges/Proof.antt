@@ -1,3 +1,4 @@
+-- `convert::copy_edges` meets its contract. Assumes nothing.
 use native.Mathlib.Omega.{arith}
 use Prim.Native.Nat.{_-_}
 use Rattle.convert.proofs.CopyLaws.{Copying, copying-start, copying-more, copying-end}

@@ -1,3 +1,4 @@
+-- `convert::put_places` meets its contract. Assumes nothing.
 use native.Mathlib.Omega.{arith}
 use Prim.Native.Nat.{_-_}
 use Rattle.convert.proofs.CopyLaws.{Placing, placing-start, placing-more, placing-end}

@@ -1,3 +1,4 @@
+-- `diamond::is_middle` meets its contract. Assumes nothing.
 use mathlib.Core.Path.{_∙_}
 use borrow.Author.Tests.{ne-eqb}
 use Rattle.tabs.proofs.Tabs.{and-else}

@@ -1,3 +1,4 @@
+-- `diamond::is_tail` meets its contract. Assumes nothing.
 use mathlib.Core.Path.{_∙_, sym, ap}
 use Prim.Native.Nat.{ℕ}
 use lib.Dec.{eqb}

@@ -1,3 +1,4 @@
+-- `diamond::is_tails` meets its contract. Assumes nothing.
 use Rattle.diamond.proofs.TestLaws.{tails-few, tails-is}
 use borrow.Author.Needs.{needs}
 use Rattle.diamond.proofs.is_tails.Statement.{statement}

@@ -1,4 +1,4 @@
-use native.Mathlib.Omega.{arith}
+-- `index::collect` meets its contract. Assumes nothing.
 use native.Mathlib.Omega.{arith}
 use Prim.Native.Nat.{_+_, _*_, _-_}
 use Rattle.index.specs.Index.{endOf}

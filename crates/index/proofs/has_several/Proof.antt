@@ -1,3 +1,4 @@
+-- `index::has_several` meets its contract. Assumes nothing.
 use lib.ListN.{getD}
 use native.Mathlib.Omega.{arith}
 use Prim.Native.Nat.{_+_, _*_}

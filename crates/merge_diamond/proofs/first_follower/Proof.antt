@@ -1,3 +1,4 @@
+-- `merge_diamond::first_follower` meets its contract. Assumes nothing.
 use native.Mathlib.Omega.{arith}
 use mathlib.Core.Path.{_∙_, refl}
 use Prim.Native.Nat.{_*_}

@@ -1,3 +1,4 @@
+-- `merge_suffices::is_merge` meets its contract. Assumes nothing.
 use Rattle.merge_suffices.proofs.TestLaws.{merge-none, merge-all}
 use Rattle.merge_suffices.proofs.is_merge.Statement.{statement}
 use Rattle.merge_suffices.proofs.is_merge.Tie as tie

@@ -1,3 +1,4 @@
+-- `merge_suffices::is_prev` meets its contract. Assumes nothing.
 use native.Mathlib.Omega.{arith}
 use mathlib.Core.Path.{ap}
 use Prim.Native.Nat.{ℕ}

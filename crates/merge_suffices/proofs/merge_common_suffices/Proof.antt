@@ -1,3 +1,4 @@
+-- `merge_suffices::merge_common_suffices` meets its contract. Assumes nothing.
 use native.Mathlib.Omega.{arith}
 use mathlib.Core.Path.{refl, _∙_}
 use Rattle.memory.proofs.RoomLaws.{held-vertices}

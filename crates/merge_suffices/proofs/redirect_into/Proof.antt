@@ -1,3 +1,4 @@
+-- `merge_suffices::redirect_into` meets its contract. Assumes nothing.
 use native.Mathlib.Omega.{arith}
 use Prim.Native.Nat.{_-_}
 use Rattle.merge_suffices.proofs.EdgeLoops.{Taking, taking-start, taking-ready, taking-more, taking-end}

@@ -1,3 +1,4 @@
+-- `merge_suffices::redirect_merged` meets its contract. Assumes nothing.
 use native.Mathlib.Omega.{arith}
 use Rattle.merge_suffices.proofs.EdgeLoops.{into-ready, out-ready, edges-done}
 use borrow.Author.Needs.{needs}

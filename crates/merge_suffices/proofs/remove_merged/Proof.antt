@@ -1,3 +1,4 @@
+-- `merge_suffices::remove_merged` meets its contract. Assumes nothing.
 use native.Mathlib.Omega.{arith}
 use mathlib.Core.Path.{_∙_}
 use lib.ListN.{length-set}

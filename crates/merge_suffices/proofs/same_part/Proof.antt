@@ -1,3 +1,4 @@
+-- `merge_suffices::same_part` meets its contract. Assumes nothing.
 use native.Mathlib.Omega.{arith}
 use Prim.Native.Nat.{_-_}
 use borrow.Author.Count.{below-more}

@@ -1,3 +1,4 @@
+-- `merge_suffices::same_sequence` meets its contract. Assumes nothing.
 use native.Mathlib.Omega.{arith}
 use mathlib.Core.Path.{_∙_}
 use Rattle.merge_suffices.proofs.TestLaws.{lengths-differ, parts-same}

@@ -1,3 +1,4 @@
+-- `merge_suffices::try_merge_common_suffices` meets its contract. Assumes nothing.
 use native.Mathlib.Omega.{arith}
 use mathlib.Core.Path.{refl}
 use borrow.Author.Tests.{not-true, not-false}

@@ -1,3 +1,4 @@
+-- `merge_suffices::write_merged` meets its contract. Assumes nothing.
 use Rattle.merge_suffices.proofs.WriteLaws.{first-apart, second-apart, written}
 use borrow.Author.Needs.{needs}
 use Rattle.merge_suffices.proofs.write_merged.Statement.{statement}

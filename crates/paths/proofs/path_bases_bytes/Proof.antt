@@ -1,3 +1,4 @@
+-- `paths::path_bases_bytes` meets its contract. Assumes nothing.
 use native.Mathlib.Omega.{arith}
 use borrow.Author.Tests.{not-true, not-false}
 use Rattle.paths.proofs.RouteLaws.{route-listed}

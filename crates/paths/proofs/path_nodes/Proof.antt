@@ -1,3 +1,4 @@
+-- `paths::path_nodes` meets its contract. Assumes nothing.
 use native.Mathlib.Omega.{arith}
 use Prim.Native.Nat.{_-_}
 use lib.ListN.{length, length-set}

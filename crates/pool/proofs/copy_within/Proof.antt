@@ -1,3 +1,4 @@
+-- `pool::copy_within` meets its contract. Assumes nothing.
 use native.Mathlib.Omega.{arith}
 use Prim.Native.Nat.{_-_}
 use Rattle.pool.proofs.PoolLaws.{Copying, copying-start, copying-more, copying-end}

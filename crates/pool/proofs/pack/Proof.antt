@@ -1,3 +1,4 @@
+-- `pool::pack` meets its contract. Assumes nothing.
 use native.Mathlib.Omega.{arith}
 use mathlib.Core.Logic.{inr}
 use Rattle.pool.proofs.PoolLaws.{packed-front}

@@ -1,3 +1,4 @@
+-- `redirect::place_of` meets its contract. Assumes nothing.
 use borrow.Author.Tests.{le-leb, lt-leb}
 use Rattle.redirect.proofs.RedirectLaws.{then-is, else-is}
 use borrow.Author.Needs.{needs}

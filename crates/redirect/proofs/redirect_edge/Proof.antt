@@ -1,3 +1,4 @@
+-- `redirect::redirect_edge` meets its contract. Assumes nothing.
 use native.Mathlib.Omega.{arith}
 use Rattle.redirect.proofs.RedirectLaws.{joinable, edge-small, one-done}
 use borrow.Author.Needs.{needs}

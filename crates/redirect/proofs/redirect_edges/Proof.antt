@@ -1,3 +1,4 @@
+-- `redirect::redirect_edges` meets its contract. Assumes nothing.
 use native.Mathlib.Omega.{arith}
 use Prim.Native.Nat.{_+_, _*_, _-_}
 use Rattle.redirect.proofs.RedirectLaws.{Redirecting, redirecting-start, redirecting-edge, redirecting-on, redirecting-more, redirecting-end}

@@ -1,3 +1,4 @@
+-- `reference::next_on_reference` meets its contract. Assumes nothing.
 use native.Mathlib.Omega.{arith}
 use mathlib.Core.Path.{refl}
 use Prim.Native.Nat.{_*_, _-_}

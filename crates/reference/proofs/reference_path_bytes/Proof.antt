@@ -1,3 +1,4 @@
+-- `reference::reference_path_bytes` meets its contract. Assumes nothing.
 use native.Mathlib.Omega.{arith}
 use Rattle.paths.proofs.RouteLaws.{route-listed}
 use Rattle.reference.proofs.AnswerLaws.{no-source, no-sink, no-walk, walked-route, walked-told}

@@ -1,6 +1,6 @@
+-- `refs::any_ref` meets its contract. Assumes nothing.
 use native.Mathlib.Omega.{arith}
 use Rattle.refs.proofs.RefLaws.{set-yes, set-no}
-use native.Mathlib.Omega.{arith}
 use Prim.Native.Nat.{_+_, _*_, _-_}
 use borrow.Author.Tests.{eq-eqb, ne-eqb}
 use Rattle.index.specs.Index.{endOf}

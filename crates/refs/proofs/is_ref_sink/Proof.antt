@@ -1,3 +1,4 @@
+-- `refs::is_ref_sink` meets its contract. Assumes nothing.
 use native.Mathlib.Omega.{arith}
 use mathlib.Core.Path.{sym, _∙_}
 use Rattle.refs.proofs.RefLaws.{sink-single, sink-left, sink-entered}

@@ -1,3 +1,4 @@
+-- `refs::is_ref_source` meets its contract. Assumes nothing.
 use native.Mathlib.Omega.{arith}
 use mathlib.Core.Path.{sym, _∙_}
 use Rattle.refs.proofs.RefLaws.{source-single, source-entered, source-left}

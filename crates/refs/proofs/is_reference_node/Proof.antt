@@ -1,3 +1,4 @@
+-- `refs::is_reference_node` meets its contract. Assumes nothing.
 use native.Mathlib.Omega.{arith}
 use mathlib.Core.Path.{sym, _∙_}
 use Rattle.refs.proofs.RefLaws.{node-out, node-in}

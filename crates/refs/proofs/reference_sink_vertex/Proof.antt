@@ -1,6 +1,6 @@
+-- `refs::reference_sink_vertex` meets its contract. Assumes nothing.
 use native.Mathlib.Omega.{arith}
 use Rattle.refs.proofs.RefLaws.{sink-as}
-use native.Mathlib.Omega.{arith}
 use Prim.Native.Nat.{ℕ, _<_, _≤_, _-_}
 use mathlib.Core.Bool.{false}
 use borrow.Author.Count.{below-none, below-more}

@@ -1,3 +1,4 @@
+-- `replay::all_cases` meets its contract. Assumes nothing.
 use Prim.Native.Nat.{_≤_}
 use native.Mathlib.Omega.{arith}
 use Rattle.replay.proofs.all_cases.Statement.{statement}

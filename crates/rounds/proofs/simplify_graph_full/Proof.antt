@@ -1,3 +1,4 @@
+-- `rounds::simplify_graph_full` meets its contract. Assumes nothing.
 use native.Mathlib.Omega.{arith}
 use mathlib.Core.Path.{_∙_}
 use Rattle.rounds.proofs.FullLaws.{full-indexable, full-zip-ready, full-ready, full-countable, full-scratch, full-sig, full-all}

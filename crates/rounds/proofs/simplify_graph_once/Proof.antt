@@ -1,3 +1,4 @@
+-- `rounds::simplify_graph_once` meets its contract. Assumes nothing.
 use native.Mathlib.Omega.{arith}
 use mathlib.Core.Path.{refl, sym, _∙_}
 use Rattle.rounds.proofs.OnceLaws.{with-least, any-least, zip-ready, once}

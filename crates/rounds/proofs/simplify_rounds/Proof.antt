@@ -1,4 +1,4 @@
-use native.Mathlib.Omega.{arith}
+-- `rounds::simplify_rounds` meets its contract. Assumes nothing.
 use native.Mathlib.Omega.{arith}
 use mathlib.Core.Path.{_≡_, refl, sym, _∙_}
 use Prim.Native.Nat.{_-_}

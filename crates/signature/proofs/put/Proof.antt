@@ -1,3 +1,4 @@
+-- `signature::put` meets its contract. Assumes nothing.
 use native.Mathlib.Omega.{arith}
 use mathlib.Core.Path.{refl, _∙_}
 use Rattle.signature.proofs.SignLaws.{put-over, and-yes, and-no}

@@ -1,3 +1,4 @@
+-- `signature::put_bytes` meets its contract. Assumes nothing.
 use native.Mathlib.Omega.{arith}
 use Prim.Native.Nat.{_-_}
 use lib.ListN.{length}

@@ -1,3 +1,4 @@
+-- `simplify_graph::read_and_simplify` meets its contract. Assumes nothing.
 use native.Mathlib.Omega.{arith}
 use Rattle.arrays.proofs.SizedLaws.{lent-read, lent-simplifiable}
 use Rattle.simplify_graph.proofs.SimplifyLaws.{made-refused, made-whole}

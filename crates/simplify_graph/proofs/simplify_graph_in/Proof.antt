@@ -1,3 +1,4 @@
+-- `simplify_graph::simplify_graph_in` meets its contract. Assumes nothing.
 use native.Mathlib.Omega.{arith}
 use Rattle.arrays.proofs.SizedLaws.{lent-sendable}
 use Rattle.simplify_graph.proofs.SimplifyLaws.{simplifies-refused, simplifies-short, simplifies-accepted}

@@ -1,3 +1,4 @@
+-- `spell::copy_to` meets its contract. Assumes nothing.
 use native.Mathlib.Omega.{arith}
 use Prim.Native.Nat.{_-_}
 use Rattle.spell.proofs.SpellLaws.{Pasting, pasting-start, pasting-long, pasting-more, pasting-end}

@@ -1,3 +1,4 @@
+-- `spell::put_sequence` meets its contract. Assumes nothing.
 use native.Mathlib.Omega.{arith}
 use Rattle.spell.proofs.SpellLaws.{put-is}
 use borrow.Author.Needs.{needs}

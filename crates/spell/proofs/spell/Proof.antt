@@ -1,3 +1,4 @@
+-- `spell::spell` meets its contract. Assumes nothing.
 use native.Mathlib.Omega.{arith}
 use Rattle.spell.proofs.SpellLaws.{too-long, written-whole, listed-long}
 use borrow.Author.Needs.{needs}

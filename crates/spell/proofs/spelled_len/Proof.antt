@@ -1,3 +1,4 @@
+-- `spell::spelled_len` meets its contract. Assumes nothing.
 use native.Mathlib.Omega.{arith}
 use Prim.Native.Nat.{_-_}
 use Rattle.spell.proofs.SpellLaws.{Adding, adding-start, adding-small, adding-more, adding-end}

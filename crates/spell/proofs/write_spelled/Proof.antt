@@ -1,3 +1,4 @@
+-- `spell::write_spelled` meets its contract. Assumes nothing.
 use native.Mathlib.Omega.{arith}
 use Prim.Native.Nat.{_-_}
 use Rattle.spell.proofs.SpellLaws.{Spelling, spelling-start, spelling-puttable, spelling-more, spelling-end}

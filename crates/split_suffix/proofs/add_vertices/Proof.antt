@@ -1,3 +1,4 @@
+-- `split_suffix::add_vertices` meets its contract. Assumes nothing.
 use native.Mathlib.Omega.{arith}
 use Prim.Native.Nat.{_-_}
 use Rattle.split_suffix.proofs.VertexLoops.{Stacking, stacking-start, stacking-cut, stacking-more, stacking-end}

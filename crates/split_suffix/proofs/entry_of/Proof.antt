@@ -1,3 +1,4 @@
+-- `split_suffix::entry_of` meets its contract. Assumes nothing.
 use Rattle.redirect.proofs.RedirectLaws.{then-is, else-is}
 use borrow.Author.Needs.{needs}
 use Rattle.split_suffix.proofs.entry_of.Statement.{statement}

@@ -1,3 +1,4 @@
+-- `split_suffix::link_suffix` meets its contract. Assumes nothing.
 use native.Mathlib.Omega.{arith}
 use Rattle.split_suffix.proofs.EdgeLoops.{links-two, links-one}
 use borrow.Author.Needs.{needs}

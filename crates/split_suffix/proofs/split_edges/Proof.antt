@@ -1,3 +1,4 @@
+-- `split_suffix::split_edges` meets its contract. Assumes nothing.
 use native.Mathlib.Omega.{arith}
 use Prim.Native.Nat.{_*_}
 use Rattle.split_suffix.proofs.EdgeLoops.{block-link, block-redirectable, block-done}

@@ -1,3 +1,4 @@
+-- `split_suffix::split_vertex` meets its contract. Assumes nothing.
 use native.Mathlib.Omega.{arith}
 use Rattle.split_suffix.proofs.VertexLoops.{cut-room, cuts-one, cuts-room, cuts-two}
 use borrow.Author.Needs.{needs}

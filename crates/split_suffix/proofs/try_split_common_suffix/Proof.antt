@@ -1,3 +1,4 @@
+-- `split_suffix::try_split_common_suffix` meets its contract. Assumes nothing.
 use native.Mathlib.Omega.{arith}
 use Rattle.memory.proofs.RoomLaws.{held-vertices}
 use Rattle.merge_suffices.proofs.TryLaws.{collect-room}

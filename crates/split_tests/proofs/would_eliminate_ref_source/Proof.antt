@@ -1,3 +1,4 @@
+-- `split_tests::would_eliminate_ref_source` meets its contract. Assumes nothing.
 use native.Mathlib.Omega.{arith}
 use Prim.Native.Nat.{_-_}
 use borrow.Author.Count.{below-more}

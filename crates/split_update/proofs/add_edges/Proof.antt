@@ -1,3 +1,4 @@
+-- `split_update::add_edges` meets its contract. Assumes nothing.
 use mathlib.Core.Path.{refl}
 use Rattle.split_update.proofs.AddLaws.{room₁, room₂, asks₃, room₄, asks₅, pushed-all}
 use borrow.Author.Needs.{needs}

@@ -1,3 +1,4 @@
+-- `split_update::add_vertices` meets its contract. Assumes nothing.
 use native.Mathlib.Omega.{arith}
 use Rattle.shared.proofs.SharedLoops.{in-verts}
 use Rattle.split_update.proofs.VertLaws.{inside, long₀, small₀, first-part, from-is, last-part, ask₁, part₁, ask₂, part₂, rests, verts-added}

@@ -1,3 +1,4 @@
+-- `split_update::new_places` meets its contract. Assumes nothing.
 use Rattle.split_update.proofs.SplitLaws.{places-is}
 use borrow.Author.Needs.{needs}
 use Rattle.split_update.proofs.new_places.Statement.{statement}

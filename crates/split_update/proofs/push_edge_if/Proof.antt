@@ -1,3 +1,4 @@
+-- `split_update::push_edge_if` meets its contract. Assumes nothing.
 use Rattle.split_update.proofs.PushLaws.{pushed-not, pushed-yes, room-yes}
 use borrow.Author.Needs.{needs}
 use Rattle.split_update.proofs.push_edge_if.Statement.{statement}

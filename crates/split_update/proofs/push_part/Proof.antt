@@ -1,3 +1,4 @@
+-- `split_update::push_part` meets its contract. Assumes nothing.
 use native.Mathlib.Omega.{arith}
 use Rattle.split_update.proofs.PushLaws.{part-none, part-put}
 use borrow.Author.Needs.{needs}

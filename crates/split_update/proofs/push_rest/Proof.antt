@@ -1,3 +1,4 @@
+-- `split_update::push_rest` meets its contract. Assumes nothing.
 use native.Mathlib.Omega.{arith}
 use mathlib.Core.Path.{subst}
 use Prim.Native.Nat.{ℕ, _+_}

@@ -1,3 +1,4 @@
+-- `split_update::put_mid_edge` meets its contract. Assumes nothing.
 use mathlib.Core.Path.{_∙_}
 use borrow.Author.Tests.{eq-eqb, ne-eqb}
 use Rattle.split_update.proofs.NodeLaws.{cond-yes, cond-no}

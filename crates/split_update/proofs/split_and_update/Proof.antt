@@ -1,3 +1,4 @@
+-- `split_update::split_and_update` meets its contract. Assumes nothing.
 use native.Mathlib.Omega.{arith}
 use Rattle.split_update.proofs.SplitLaws.{vertable, placeable, edgeable, compactable, split-done}
 use borrow.Author.Needs.{needs}

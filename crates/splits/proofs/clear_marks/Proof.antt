@@ -1,3 +1,4 @@
+-- `splits::clear_marks` meets its contract. Assumes nothing.
 use native.Mathlib.Omega.{arith}
 use Prim.Native.Nat.{_-_}
 use Rattle.splits.proofs.MarkLaws.{Clearing, clearing-start, clearing-more, clearing-end}

@@ -1,3 +1,4 @@
+-- `store::add_or_update_edge` meets its contract. Assumes nothing.
 use native.Mathlib.Omega.{arith}
 use Rattle.store.proofs.EdgeLaws.{packed-hit, packed-miss}
 use borrow.Author.Needs.{needs}

@@ -1,4 +1,4 @@
-use native.Mathlib.Omega.{arith}
+-- `string_calls::path_bases_bytes_in` meets its contract. Assumes nothing.
 use native.Mathlib.Omega.{arith}
 use Rattle.arrays.specs.Sized.{LentGraph}
 use Rattle.string_calls.proofs.StringLaws.{told-spellable, path-stopped, path-counted, path-told}

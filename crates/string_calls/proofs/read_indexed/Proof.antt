@@ -1,3 +1,4 @@
+-- `string_calls::read_indexed` meets its contract. Assumes nothing.
 use native.Mathlib.Omega.{arith}
 use Rattle.arrays.proofs.SizedLaws.{lent-read}
 use Rattle.string_calls.proofs.StringLaws.{told-indexable, read-other, read-indexed}

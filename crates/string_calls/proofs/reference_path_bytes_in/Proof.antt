@@ -1,4 +1,4 @@
-use native.Mathlib.Omega.{arith}
+-- `string_calls::reference_path_bytes_in` meets its contract. Assumes nothing.
 use native.Mathlib.Omega.{arith}
 use Rattle.arrays.specs.Sized.{LentGraph}
 use Rattle.string_calls.proofs.StringLaws.{told-spellable, reference-stopped, reference-counted, reference-told}

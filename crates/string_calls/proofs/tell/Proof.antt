@@ -1,4 +1,4 @@
-use native.Mathlib.Omega.{arith}
+-- `string_calls::tell` meets its contract. Assumes nothing.
 use native.Mathlib.Omega.{arith}
 use borrow.Author.Tests.{not-true, not-false}
 use Rattle.string_calls.proofs.StringLaws.{tell-none, tell-short, tell-whole}

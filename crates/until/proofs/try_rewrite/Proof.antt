@@ -1,4 +1,4 @@
-use native.Mathlib.Omega.{arith}
+-- `until::try_rewrite` meets its contract. Assumes nothing.
 use native.Mathlib.Omega.{arith}
 use borrow.Author.Tests.{eq-eqb, ne-eqb}
 use borrow.Author.Needs.{needs}

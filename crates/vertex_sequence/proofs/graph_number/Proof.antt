@@ -1,3 +1,4 @@
+-- `vertex_sequence::graph_number` meets its contract. Assumes nothing.
 use native.Mathlib.Omega.{arith}
 use Rattle.vertex_sequence.proofs.VertexLaws.{peelable-kept, checks-6, checks-7, checks-0}
 use borrow.Author.Needs.{needs}

@@ -1,3 +1,4 @@
+-- `vertex_sequence::is_doubled` meets its contract. Assumes nothing.
 use native.Mathlib.Omega.{arith}
 use Rattle.vertex_sequence.proofs.VertexLaws.{kmers-doubled, edges-doubled}
 use borrow.Author.Needs.{needs}

@@ -1,4 +1,4 @@
-use native.Mathlib.Omega.{arith}
+-- `vertex_sequence::record_number` meets its contract. Assumes nothing.
 use native.Mathlib.Omega.{arith}
 use mathlib.Core.Path.{refl}
 use Rattle.vertex_sequence.proofs.VertexLaws.{number-early, layout-zero, long-enough, number-loadable, number-indexable, number-checkable, number-late}

@@ -1,3 +1,4 @@
+-- `vertex_sequence::record_number_with` meets its contract. Assumes nothing.
 use native.Mathlib.Omega.{arith}
 use Rattle.vertex_sequence.proofs.VertexLaws.{roomy}
 use mathlib.Core.Path.{refl}

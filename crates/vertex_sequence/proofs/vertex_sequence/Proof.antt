@@ -1,3 +1,4 @@
+-- `vertex_sequence::vertex_sequence` meets its contract. Assumes nothing.
 use native.Mathlib.Omega.{arith}
 use Rattle.vertex_sequence.proofs.VertexLaws.{handed-none, handed-part, known}
 use borrow.Author.Needs.{needs}

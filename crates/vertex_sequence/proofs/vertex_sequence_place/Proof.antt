@@ -1,4 +1,4 @@
-use native.Mathlib.Omega.{arith}
+-- `vertex_sequence::vertex_sequence_place` meets its contract. Assumes nothing.
 use native.Mathlib.Omega.{arith}
 use Rattle.record.proofs.Sequences.{length-is}
 use Rattle.vertex_sequence.proofs.VertexLaws.{placed-none, placed-part, placed-small, known}

@@ -1,3 +1,4 @@
+-- `zip::append_sequence` meets its contract. Assumes nothing.
 use native.Mathlib.Omega.{arith}
 use Rattle.zip.proofs.WriteLaws.{copy-apart, copied}
 use borrow.Author.Needs.{needs}

@@ -1,6 +1,6 @@
+-- `zip::move_edges` meets its contract. Assumes nothing.
 use native.Mathlib.Omega.{arith}
 use Rattle.zip.proofs.MoveLaws.{later}
-use native.Mathlib.Omega.{arith}
 use mathlib.Core.Path.{refl}
 use Prim.Native.Nat.{_*_, _-_}
 use Rattle.zip.proofs.MoveLaws.{Moving, moving-start, moving-more, moving-end}

@@ -1,4 +1,4 @@
-use native.Mathlib.Omega.{arith}
+-- `zip::remap_numbers` meets its contract. Assumes nothing.
 use native.Mathlib.Omega.{arith}
 use mathlib.Core.Path.{refl}
 use Prim.Native.Nat.{_-_}

@@ -1,3 +1,4 @@
+-- `zip::write_chain` meets its contract. Assumes nothing.
 use native.Mathlib.Omega.{arith}
 use Prim.Native.Nat.{_-_}
 use Rattle.zip.proofs.WriteLaws.{Writing, first-copyable, writable-then, writing-start, next-copyable, writing-more, writing-end}
