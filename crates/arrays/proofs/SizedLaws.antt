@@ -1,7 +1,7 @@
 -- Arrays of these lengths are room enough to read and to simplify a record. Assumes nothing.
 use mathlib.Core.Path.{_≡_, refl}
 use mathlib.Core.List.{List}
-use Prim.Native.Nat.{ℕ, _+_, _*_, _/_, _≤_, _<_}
+use Prim.Native.Nat.{ℕ, _+_, _/_, _≤_, _<_}
 use native.Mathlib.Omega.{arith}
 use lib.ListN.{length}
 use Rattle.defs.specs.Record.{kindOf, verticesOf, edgesOf, bytesOf}

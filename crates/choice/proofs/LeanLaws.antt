@@ -1,23 +1,22 @@
 -- Room that stays when vertices go. Assumes nothing.
-use mathlib.Core.Path.{_≡_, refl}
+use mathlib.Core.Path.{_≡_}
 use mathlib.Core.Bool.{Bool}
 use mathlib.Core.List.{List, [], _∷_}
-use Prim.Native.Nat.{ℕ, suc, _+_, _*_, _≤_, _<_}
+use Prim.Native.Nat.{ℕ, suc, _*_, _≤_}
 use native.Mathlib.Omega.{arith}
 use lib.ListN.{length}
 use Rattle.defs.specs.Lists.{keepAt}
 use Rattle.defs.specs.SeqGraph.{Graph, nodeCount, compactVertices}
-use Rattle.defs.specs.Simplify.{sequenceBytes, emptyVertices, simplifyGraphFull}
+use Rattle.defs.specs.Simplify.{simplifyGraphFull}
 use Rattle.defs.specs.Cleanup.{removeSingletonOrphanVertices, removeVerticesNotConnectedToRef, removePathsNotConnectedToRef}
 use Rattle.laws.proofs.Walks.{byTest}
 use Rattle.laws.proofs.ListLaws.{keepAt-yes, keepAt-no}
 use Rattle.laws.proofs.Counts.{total, heft}
-use Rattle.laws.proofs.Fuel.{Good}
 use Rattle.laws.proofs.Branching.{branching-restrict, surplus-branching}
-use Rattle.laws.proofs.Measures.{weight, load, bytes-is, weight-is, Tame}
+use Rattle.laws.proofs.Measures.{load, bytes-is, weight-is, Tame}
 use Rattle.laws.proofs.Bound.{simplify-tame, simplify-bound}
 use Rattle.laws.proofs.Cleaned.{restrict-good, orphans-keep, connected-keeps}
-use Rattle.memory.specs.Memory.{vertexRoom, edgeRoom, Fit}
+use Rattle.memory.specs.Memory.{vertexRoom, Fit}
 use Rattle.choice.specs.Choice.{Lean}
 
 pub lean-fit : {g : Graph} {heads nexts : List ℕ} → Lean g heads nexts → Fit g heads nexts

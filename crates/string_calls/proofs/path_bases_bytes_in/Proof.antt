@@ -1,6 +1,5 @@
 -- `string_calls::path_bases_bytes_in` meets its contract. Assumes nothing.
 use native.Mathlib.Omega.{arith}
-use Rattle.arrays.specs.Sized.{LentGraph}
 use Rattle.string_calls.proofs.StringLaws.{told-spellable, path-stopped, path-counted, path-told}
 use mathlib.Core.Path.{refl, sym, _∙_}
 use borrow.Author.Needs.{needs}
