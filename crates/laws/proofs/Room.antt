@@ -119,7 +119,7 @@ pub record Limits (g : Graph) : Type 0 where
   pub edges : length (g .edges) ≤ 4096
   pub few : sequenceBytes (g .verts) ≤ 8192
 
-empties-le : (vs : List (List ℕ)) → emptyVertices vs ≤ length vs
+pub empties-le : (vs : List (List ℕ)) → emptyVertices vs ≤ length vs
 unfolding emptyVertices
 empties-le [] = omega arith
 empties-le ([] ∷ vs) = omega (arith, empties-le vs)
@@ -130,7 +130,7 @@ unfolding sumTo
 sum-ones zero = refl
 sum-ones (suc n) = omega (arith, sum-ones n)
 
-sinks-le : (g : Graph) → sinks g ≤ nodeCount g
+pub sinks-le : (g : Graph) → sinks g ≤ nodeCount g
 unfolding sinks
 sinks-le g = omega (arith, sum-le (λ v. bit (ends g v)) (λ _. 1) (nodeCount g) (λ v _. bit-le (ends g v)), sum-ones (nodeCount g))
 

@@ -1,4 +1,5 @@
 -- `clean_non_ref_paths::read_and_clean` meets its contract. Assumes nothing.
+use mathlib.Core.Path.{_∙_}
 use Rattle.arrays.proofs.SizedLaws.{lent-read}
 use Rattle.clean_non_ref_paths.proofs.PathsLaws.{lent-walkable, made-refused, made-whole}
 use borrow.Author.Needs.{needs}
@@ -51,11 +52,11 @@ clean-non-ref-paths-requires c κs = lent-walkable (c .before .before .before .b
 
 -- src/lib.rt:13:1
 same-length-8 : tie.Need-same-length-8
-same-length-8 c = search needs
+same-length-8 c = c .before .before .before .before .before .before .before .before .before .before .before .before .before .before .clean-non-ref-paths .kept .1 .0 ∙ c .before .before .before .before .before .before .before .before .before .before .before .before .before .before .before .before .before .before .before .before .before .before .before .before .before .before .before .before .before .before .before .before .before .before .before .before .before .before .read-sequence-graph .kept .1 .0
 
 -- src/lib.rt:13:1
 same-length-9 : tie.Need-same-length-9
-same-length-9 c = search needs
+same-length-9 c = c .before .before .before .before .before .before .before .before .before .before .before .before .before .before .clean-non-ref-paths .kept .1 .1 .0 ∙ c .before .before .before .before .before .before .before .before .before .before .before .before .before .before .before .before .before .before .before .before .before .before .before .before .before .before .before .before .before .before .before .before .before .before .before .before .before .before .read-sequence-graph .kept .1 .1 .0
 
 -- src/lib.rt:13:1
 same-length-10 : tie.Need-same-length-10
