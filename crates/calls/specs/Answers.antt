@@ -4,7 +4,7 @@ use mathlib.Core.List.{List}
 use Prim.Native.Nat.{ℕ}
 use lib.ListN.{length}
 use Rattle.defs.specs.Calls as D
-use Rattle.defs.specs.Calls.{Response, refused, accepted, numberOf, lengthOf, fieldOf, tallied}
+use Rattle.defs.specs.Calls.{Response, refused, accepted, tallied}
 use Rattle.defs.specs.Simplify.{Simplified, endNumber}
 use Rattle.defs.specs.Cleanup.{Cleaned, statusNumber}
 use Rattle.calls.specs.declared.Tally.{Tally}
@@ -25,20 +25,6 @@ simplifyAnswerOf r = record { number = r .number; length = r .length; rewrites =
 abbrev pub cleanupAnswerOf : CleanupAnswer → D.CleanupAnswer
 cleanupAnswerOf r = record { number = r .number; length = r .length; status = r .status; tally = tallyOf (r .tally) }
 
--- the whole answer that goes with a response and what the call made
-abbrev pub simplifyAnswerFor : Response → Simplified → D.Tally → D.SimplifyAnswer
-simplifyAnswerFor r s t = record {
-  number = numberOf r;
-  length = lengthOf r;
-  rewrites = fieldOf r (s .rewrites);
-  rounds = fieldOf r (s .rounds);
-  end = fieldOf r (endNumber (s .end));
-  tally = tallied r (s .rewrites) t;
-}
-
-abbrev pub cleanupAnswerFor : Response → Cleaned → D.Tally → D.CleanupAnswer
-cleanupAnswerFor r c t = record { number = numberOf r; length = lengthOf r; status = fieldOf r (statusNumber (c .status)); tally = tallied r (c .rewrites) t }
-
 pub record TalliesRefused (t r : Tally) : Type 0 where
   pub is : (number rewrites : ℕ) → tallyOf r ≡ tallied (refused number) rewrites (tallyOf t)
 
@@ -58,15 +44,15 @@ pub record Responds (x : Response) (out : List ℕ) (t : Tally) (r : Answer) (ou
   pub written : out′ ≡ D.writtenOf x out
 
 pub record RefusesSimplify (number : ℕ) (t : Tally) (r : SimplifyAnswer) : Type 0 where
-  pub is : (s : Simplified) → simplifyAnswerOf r ≡ simplifyAnswerFor (refused number) s (tallyOf t)
+  pub is : (s : Simplified) → simplifyAnswerOf r ≡ D.simplifyAnswer (refused number) s (tallyOf t)
 
 pub record AcceptsSimplify (size rewrites rounds end : ℕ) (t : Tally) (r : SimplifyAnswer) : Type 0 where
   pub is : (bytes : List ℕ) (s : Simplified) → length bytes ≡ size → s .rewrites ≡ rewrites → s .rounds ≡ rounds → endNumber (s .end) ≡ end
-      → simplifyAnswerOf r ≡ simplifyAnswerFor (accepted bytes) s (tallyOf t)
+      → simplifyAnswerOf r ≡ D.simplifyAnswer (accepted bytes) s (tallyOf t)
 
 pub record RefusesCleanup (number : ℕ) (t : Tally) (r : CleanupAnswer) : Type 0 where
-  pub is : (c : Cleaned) → cleanupAnswerOf r ≡ cleanupAnswerFor (refused number) c (tallyOf t)
+  pub is : (c : Cleaned) → cleanupAnswerOf r ≡ D.cleanupAnswer (refused number) c (tallyOf t)
 
 pub record AcceptsCleanup (size status rewrites : ℕ) (t : Tally) (r : CleanupAnswer) : Type 0 where
   pub is : (bytes : List ℕ) (c : Cleaned) → length bytes ≡ size → statusNumber (c .status) ≡ status → c .rewrites ≡ rewrites
-      → cleanupAnswerOf r ≡ cleanupAnswerFor (accepted bytes) c (tallyOf t)
+      → cleanupAnswerOf r ≡ D.cleanupAnswer (accepted bytes) c (tallyOf t)

@@ -27,7 +27,7 @@ use Rattle.cleanup.specs.CleanUp.{Answers, CleanUp}
 use Rattle.cleanup.specs.declared.CleanedUp.{CleanedUp}
 use Rattle.arrays.specs.Sized.{Lent}
 use Rattle.arrays.proofs.SizedLaws.{lent-scratch, lent-countable}
-use Rattle.calls.specs.Answers.{tallyOf, cleanupAnswerOf, cleanupAnswerFor, RefusesCleanup, AcceptsCleanup}
+use Rattle.calls.specs.Answers.{tallyOf, cleanupAnswerOf, RefusesCleanup, AcceptsCleanup}
 use Rattle.calls.specs.Sending.{Sends}
 use Rattle.calls.specs.declared.Tally.{Tally}
 use Rattle.calls.specs.declared.Sent.{Sent}
@@ -81,9 +81,9 @@ status-one justReference e = refl
 status-one someVariation e = absurd (omega (arith, e))
 
 -- the answer goes by the response
-answer-by : (bs : List ℕ) (room : ℕ) (t : D.Tally) {x : Response} → cleanupSeqGraphResponse bs room ≡ x → cleanupAnswerFor x (cleanupSeqGraph (decode bs)) t ≡ cleanupSeqGraphAnswer bs room t
+answer-by : (bs : List ℕ) (room : ℕ) (t : D.Tally) {x : Response} → cleanupSeqGraphResponse bs room ≡ x → D.cleanupAnswer x (cleanupSeqGraph (decode bs)) t ≡ cleanupSeqGraphAnswer bs room t
 unfolding cleanupSeqGraphAnswer
-answer-by bs room t e = ap (λ (x : Response). cleanupAnswerFor x (cleanupSeqGraph (decode bs)) t) (sym e)
+answer-by bs room t e = ap (λ (x : Response). D.cleanupAnswer x (cleanupSeqGraph (decode bs)) t) (sym e)
 
 module _ (bs out : List ℕ) (t : Tally) where
   abbrev z : Cleaned
@@ -116,7 +116,7 @@ module _ (bs out : List ℕ) (t : Tally) where
   stopped n e o = respond-refused (recordCauses sequenceOnly bs) (length out) result n e o
 
   module _ (small : Bytes bs) (ok : recordRefusal sequenceOnly bs ≡ 0) where
-    accepted-with : {a : CleanupAnswer} {out′ : List ℕ} → cleanupSeqGraphResponse bs (length out) ≡ accepted result → cleanupAnswerOf a ≡ cleanupAnswerFor (accepted result) z (tallyOf t) → out′ ≡ result ++ drop (length result) out
+    accepted-with : {a : CleanupAnswer} {out′ : List ℕ} → cleanupSeqGraphResponse bs (length out) ≡ accepted result → cleanupAnswerOf a ≡ D.cleanupAnswer (accepted result) z (tallyOf t) → out′ ≡ result ++ drop (length result) out
         → Cleans bs out t a out′
     unfolding writtenOf lengthOf fieldOf
     accepted-with {a} {out′} e q w = record {

@@ -7,7 +7,7 @@ use mathlib.Core.List.{List, [], _∷_, _++_}
 use lib.Dec.{eqb, ltb, leb}
 use lib.ListN.{length, drop}
 use Rattle.defs.specs.SeqGraph.{Graph, vertexSequence, saturatingAdd}
-use Rattle.defs.specs.Simplify.{sequenceBytes, simplifyGraphFull, minTailSuffixLen, endNumber}
+use Rattle.defs.specs.Simplify.{Simplified, sequenceBytes, simplifyGraphFull, minTailSuffixLen, endNumber}
 use Rattle.defs.specs.Cleanup.{Cleaned, statusNumber, cleanupSeqGraph, cleanNonRefPaths}
 use Rattle.defs.specs.Record.{sequenceGraph, verticesOf, encode, decode}
 use Rattle.defs.specs.Refusals.{Cause, refusalOf, Takes, kmerOnly, sequenceOnly, bothKinds, recordCauses}
@@ -92,18 +92,18 @@ pub record SimplifyAnswer : Type 0 where
   pub end : ℕ
   pub tally : Tally
 
+abbrev pub simplifyAnswer : Response → Simplified → Tally → SimplifyAnswer
+simplifyAnswer r s t = record {
+  number = numberOf r;
+  length = lengthOf r;
+  rewrites = fieldOf r (s .rewrites);
+  rounds = fieldOf r (s .rounds);
+  end = fieldOf r (endNumber (s .end));
+  tally = tallied r (s .rewrites) t;
+}
+
 unfoldable pub simplifyGraphAnswer : List ℕ → ℕ → Tally → SimplifyAnswer
-simplifyGraphAnswer bs room t =
-    let s = simplifyGraphFull minTailSuffixLen (decode bs) in
-    let r = simplifyGraphResponse bs room in
-    record {
-      number = numberOf r;
-      length = lengthOf r;
-      rewrites = fieldOf r (s .rewrites);
-      rounds = fieldOf r (s .rounds);
-      end = fieldOf r (endNumber (s .end));
-      tally = tallied r (s .rewrites) t;
-    }
+simplifyGraphAnswer bs room t = simplifyAnswer (simplifyGraphResponse bs room) (simplifyGraphFull minTailSuffixLen (decode bs)) t
 
 -- cleanup_seq_graph
 unfoldable pub cleanupSeqGraphResponse : List ℕ → ℕ → Response
@@ -117,11 +117,11 @@ pub record CleanupAnswer : Type 0 where
   pub status : ℕ
   pub tally : Tally
 
+abbrev pub cleanupAnswer : Response → Cleaned → Tally → CleanupAnswer
+cleanupAnswer r c t = record { number = numberOf r; length = lengthOf r; status = fieldOf r (statusNumber (c .status)); tally = tallied r (c .rewrites) t }
+
 unfoldable pub cleanupSeqGraphAnswer : List ℕ → ℕ → Tally → CleanupAnswer
-cleanupSeqGraphAnswer bs room t =
-    let c = cleanupSeqGraph (decode bs) in
-    let r = cleanupSeqGraphResponse bs room in
-    record { number = numberOf r; length = lengthOf r; status = fieldOf r (statusNumber (c .status)); tally = tallied r (c .rewrites) t }
+cleanupSeqGraphAnswer bs room t = cleanupAnswer (cleanupSeqGraphResponse bs room) (cleanupSeqGraph (decode bs)) t
 
 -- clean_non_ref_paths
 unfoldable pub cleanNonRefPathsResponse : List ℕ → ℕ → Response

@@ -29,7 +29,7 @@ use Rattle.accept.specs.Accept.{ReadAs}
 use Rattle.accept.specs.declared.Read.{Read}
 use Rattle.rounds.specs.Rounds.{Answers, Full}
 use Rattle.rounds.specs.declared.Simplified.{Simplified}
-use Rattle.calls.specs.Answers.{tallyOf, simplifyAnswerOf, simplifyAnswerFor, RefusesSimplify, AcceptsSimplify}
+use Rattle.calls.specs.Answers.{tallyOf, simplifyAnswerOf, RefusesSimplify, AcceptsSimplify}
 use Rattle.calls.specs.Sending.{Sendable, Sends}
 use Rattle.calls.specs.declared.Tally.{Tally}
 use Rattle.calls.specs.declared.Sent.{Sent}
@@ -54,9 +54,9 @@ module _ {bs heads nexts : List ℕ} {r : Read} {es vs p : List ℕ} (A : ReadAs
   }
 
 -- the answer goes by the response
-answer-by : (bs : List ℕ) (room : ℕ) (t : D.Tally) {x : Response} → simplifyGraphResponse bs room ≡ x → simplifyAnswerFor x (simplifyGraphFull 10 (decode bs)) t ≡ simplifyGraphAnswer bs room t
+answer-by : (bs : List ℕ) (room : ℕ) (t : D.Tally) {x : Response} → simplifyGraphResponse bs room ≡ x → D.simplifyAnswer x (simplifyGraphFull 10 (decode bs)) t ≡ simplifyGraphAnswer bs room t
 unfolding simplifyGraphAnswer
-answer-by bs room t e = ap (λ (x : Response). simplifyAnswerFor x (simplifyGraphFull 10 (decode bs)) t) (sym e)
+answer-by bs room t e = ap (λ (x : Response). D.simplifyAnswer x (simplifyGraphFull 10 (decode bs)) t) (sym e)
 
 module _ (bs out : List ℕ) (t : Tally) where
   abbrev z : S.Simplified
@@ -89,7 +89,7 @@ module _ (bs out : List ℕ) (t : Tally) where
   stopped n e o = respond-refused (recordCauses sequenceOnly bs) (length out) result n e o
 
   module _ (small : Bytes bs) (ok : recordRefusal sequenceOnly bs ≡ 0) where
-    accepted-with : {a : SimplifyAnswer} {out′ : List ℕ} → simplifyGraphResponse bs (length out) ≡ accepted result → simplifyAnswerOf a ≡ simplifyAnswerFor (accepted result) z (tallyOf t) → out′ ≡ result ++ drop (length result) out
+    accepted-with : {a : SimplifyAnswer} {out′ : List ℕ} → simplifyGraphResponse bs (length out) ≡ accepted result → simplifyAnswerOf a ≡ D.simplifyAnswer (accepted result) z (tallyOf t) → out′ ≡ result ++ drop (length result) out
         → Simplifies bs out t a out′
     unfolding writtenOf lengthOf fieldOf weight
     accepted-with {a} {out′} e q w = record {
