@@ -7,11 +7,9 @@ use Rattle.calls.proofs.accept.Reads as reads
 use Rattle.calls.proofs.accept.Lts as lts
 use Rattle.calls.proofs.tally_answered.Reads as tally-answered-reads
 
--- src/lib.rt:83:9
 tally-answered-requires : tie.Need-tally-answered-requires
 tally-answered-requires c κs = search needs
 
--- src/lib.rt:80:1
 returns : tie.Need-returns
 returns c = accept-is _ (c .tally-answered .ensures)
 

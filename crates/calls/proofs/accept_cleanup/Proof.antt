@@ -7,11 +7,9 @@ use Rattle.calls.proofs.accept_cleanup.Reads as reads
 use Rattle.calls.proofs.accept_cleanup.Lts as lts
 use Rattle.calls.proofs.tally_answered.Reads as tally-answered-reads
 
--- src/lib.rt:134:9
 tally-answered-requires : tie.Need-tally-answered-requires
 tally-answered-requires c κs = search needs
 
--- src/lib.rt:131:1
 returns : tie.Need-returns
 returns c = accept-cleanup-is (c .tally-answered .ensures) _ _
 

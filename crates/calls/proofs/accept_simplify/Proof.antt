@@ -7,11 +7,9 @@ use Rattle.calls.proofs.accept_simplify.Reads as reads
 use Rattle.calls.proofs.accept_simplify.Lts as lts
 use Rattle.calls.proofs.tally_answered.Reads as tally-answered-reads
 
--- src/lib.rt:108:9
 tally-answered-requires : tie.Need-tally-answered-requires
 tally-answered-requires c κs = search needs
 
--- src/lib.rt:105:1
 returns : tie.Need-returns
 returns c = accept-simplify-is (c .tally-answered .ensures) _ _ _
 

@@ -7,11 +7,9 @@ use Rattle.calls.proofs.refuse_cleanup.Reads as reads
 use Rattle.calls.proofs.refuse_cleanup.Lts as lts
 use Rattle.calls.proofs.tally_refused.Reads as tally-refused-reads
 
--- src/lib.rt:122:9
 tally-refused-requires : tie.Need-tally-refused-requires
 tally-refused-requires c κs = search needs
 
--- src/lib.rt:119:1
 returns : tie.Need-returns
 returns c = refuse-cleanup-is (c .tally-refused .ensures) _
 

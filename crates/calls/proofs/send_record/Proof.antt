@@ -9,29 +9,52 @@ use Rattle.calls.proofs.send_record.Lts as lts
 use Rattle.write_record.proofs.record_length.Reads as record-length-reads
 use Rattle.write_record.proofs.write_record.Reads as write-record-reads
 
--- src/lib.rt:154:9
 record-length-requires : tie.Need-record-length-requires
 record-length-requires c κs = search needs
 
--- src/lib.rt:156:9
 returns : tie.Need-returns
-returns c = send-short (c .before .before .before .before .before .before .pre) _ (c .before .record-length .ensures) (c .if1 .taken)
+returns c =
+    let at-record-length : tie.After-record-length = search in
+    let start : tie.Start = search in
+    send-short (start .pre) _ (at-record-length .record-length .ensures) (c .if1 .taken)
 
--- src/lib.rt:161:9
 write-record-requires : tie.Need-write-record-requires
-write-record-requires c κs = send-writable (c .before .before .before .before .before .before .before .pre) _ (c .before .before .record-length .ensures) (c .before .if1 .left)
+write-record-requires c κs =
+    let at-if1 : tie.Else1 = search in
+    let at-record-length : tie.After-record-length = search in
+    let start : tie.Start = search in
+    send-writable (start .pre) _ (at-record-length .record-length .ensures) (at-if1 .if1 .left)
 
--- src/lib.rt:164:17
 cast-t13 : tie.Need-cast-t13
-cast-t13 c = omega (arith, send-small (c .before .before .before .before .before .before .before .before .before .before .pre) _ (c .before .before .before .before .before .record-length .ensures) (c .before .before .write-record .ensures))
+cast-t13 c =
+    omega (
+      arith,
+      send-small (start .pre) _ (at-record-length .record-length .ensures) (at-write-record .write-record .ensures),
+    )
+  where
+    at-write-record : tie.After-write-record
+    at-write-record = search
 
--- src/lib.rt:143:1
+    at-record-length : tie.After-record-length
+    at-record-length = let c = at-write-record in search
+
+    start : tie.Start
+    start = let c = at-record-length in search
+
 same-length : tie.Need-same-length
 same-length c = search needs
 
--- src/lib.rt:143:1
 returns-2 : tie.Need-returns-2
-returns-2 c = send-written (c .before .before .before .before .before .before .before .before .before .before .pre) _ (c .before .before .before .before .before .record-length .ensures) (c .before .before .before .before .if1 .left) (c .before .before .write-record .ensures)
+returns-2 c =
+    let at-write-record : tie.After-write-record = search in
+    let at-if1 : tie.Else1 = search in
+    let at-record-length : tie.After-record-length = search in
+    let start : tie.Start = search in
+    send-written
+    (start .pre) _
+    (at-record-length .record-length .ensures)
+    (at-if1 .if1 .left)
+    (at-write-record .write-record .ensures)
 
 pub send-record-spec : {M : Type 1} → statement M
 send-record-spec =

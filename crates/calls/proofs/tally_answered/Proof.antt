@@ -8,17 +8,16 @@ use Rattle.calls.proofs.tally_answered.Reads as reads
 use Rattle.calls.proofs.tally_answered.Lts as lts
 use Rattle.store.proofs.saturating_add.Reads as saturating-add-reads
 
--- src/lib.rt:63:19
 saturating-add-requires : tie.Need-saturating-add-requires
 saturating-add-requires c κs = search needs
 
--- src/lib.rt:65:19
 saturating-add-requires-2 : tie.Need-saturating-add-requires-2
 saturating-add-requires-2 c κs = search needs
 
--- src/lib.rt:59:1
 returns : tie.Need-returns
-returns c = tally-answered-is (c .before .saturating-add .ensures) refl (c .saturating-add2 .ensures)
+returns c =
+    let at-saturating-add : tie.After-saturating-add = search in
+    tally-answered-is (at-saturating-add .saturating-add .ensures) refl (c .saturating-add2 .ensures)
 
 pub tally-answered-spec : {M : Type 1} → statement M
 tally-answered-spec =

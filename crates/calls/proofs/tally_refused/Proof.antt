@@ -8,11 +8,9 @@ use Rattle.calls.proofs.tally_refused.Reads as reads
 use Rattle.calls.proofs.tally_refused.Lts as lts
 use Rattle.store.proofs.saturating_add.Reads as saturating-add-reads
 
--- src/lib.rt:54:18
 saturating-add-requires : tie.Need-saturating-add-requires
 saturating-add-requires c κs = search needs
 
--- src/lib.rt:49:1
 returns : tie.Need-returns
 returns c = tally-refused-is refl (c .saturating-add .ensures) refl
 

@@ -14,7 +14,37 @@ abbrev μ-loop : tie.MeasureT-loop
 μ-loop es m n heads nexts out₀ c₀ v₀ out c v = n - v
 
 loop-again : tie.Need-loop-again Inv-loop μ-loop
-loop-again c = starting-yes (c .before .before .before .loop .inv) (c .before .before .loop-test .taken) (c .before .before .before .before .before .before .before .before .pre .1 .0) (c .before .is-linear-chain-start .ensures) (c .if1 .taken)
+loop-again c =
+    let at-ilcs : tie.After-is-linear-chain-start Inv-loop μ-loop = search in
+    let at-loop-test : tie.In-loop Inv-loop μ-loop = search in
+    let at-loop : tie.At-loop Inv-loop μ-loop = search in
+    let start : tie.Start Inv-loop μ-loop = search in
+    starting-yes
+    (at-loop .loop .inv)
+    (at-loop-test .loop-test .taken)
+    (start .pre .1 .0)
+    (at-ilcs .is-linear-chain-start .ensures)
+    (c .if1 .taken)
+
+slice-write-out : tie.Need-slice-write-out Inv-loop μ-loop
+slice-write-out c = omega (arith, at-loop .loop .inv .low, at-loop .loop .inv .len, start .pre .1 .0)
+  where
+    at-loop : tie.At-loop Inv-loop μ-loop
+    at-loop = search
+
+    start : tie.Start Inv-loop μ-loop
+    start = let c = at-loop in search
+
+loop-again-2 : tie.Need-loop-again-2 Inv-loop μ-loop
+loop-again-2 c =
+    let at-ilcs : tie.After-is-linear-chain-start Inv-loop μ-loop = search in
+    let at-loop-test : tie.In-loop Inv-loop μ-loop = search in
+    let at-loop : tie.At-loop Inv-loop μ-loop = search in
+    starting-no
+    (at-loop .loop .inv)
+    (at-loop-test .loop-test .taken)
+    (at-ilcs .is-linear-chain-start .ensures)
+    (c .if1 .left)
 
 pub chain-starts-spec : {M : Type 1} → statement M
 chain-starts-spec =
@@ -24,14 +54,14 @@ chain-starts-spec =
     μ-loop
     (λ c. starting-start)
     (λ c. omega arith)
-    (λ c κs. (omega arith, c .before .before .before .before .before .before .pre .1 .1))
+    (λ c κs. let start : tie.Start Inv-loop μ-loop = search in (omega arith, start .pre .1 .1))
     (λ c. omega arith)
     (λ c. omega arith)
-    (λ c. omega (arith, c .before .before .before .loop .inv .low, c .before .before .before .loop .inv .len, c .before .before .before .before .before .before .before .before .pre .1 .0))
+    slice-write-out
     (λ c. omega arith)
     (λ c. omega arith)
     loop-again
     (λ c. omega arith)
-    (λ c. starting-no (c .before .before .before .loop .inv) (c .before .before .loop-test .taken) (c .before .is-linear-chain-start .ensures) (c .if1 .left))
+    loop-again-2
     (λ c. omega arith)
-    (λ c. starting-end (c .before .loop .inv) (c .loop-test .left)))
+    (λ c. let at-loop : tie.At-loop Inv-loop μ-loop = search in starting-end (at-loop .loop .inv) (c .loop-test .left)))

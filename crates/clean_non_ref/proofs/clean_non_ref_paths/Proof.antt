@@ -7,44 +7,161 @@ use Rattle.clean_non_ref.proofs.clean_non_ref_paths.Statement.{statemen
 use Rattle.clean_non_ref.proofs.clean_non_ref_paths.Tie as tie
 
 returns : tie.Need-returns
-returns c = untouched (c .before .before .before .before .before .before .before .before .before .before .before .before .before .before .before .before .before .before .before .before .args .held) (c .before .before .before .before .before .before .before .before .before .before .before .before .before .before .before .before .before .before .before .before .pre .0 .ends) (no-source (c .before .before .before .before .before .before .before .before .before .before .before .before .before .before .before .before .before .before .before .before .args .held) (c .before .before .before .before .before .before .before .before .before .before .before .before .before .before .before .before .before .before .before .before .args .es .now) (c .before .before .before .before .before .before .before .before .before .before .before .before .before .before .before .before .before .before .before .before .args .vs .now) (c .before .reference-source-vertex .ensures) (c .if1 .taken))
+returns c =
+    untouched
+    (start .args .held)
+    (start .pre .0 .ends)
+    (no-source (start .args .held) (start .args .es .now) (start .args .vs .now)
+    (at-rsv .reference-source-vertex .ensures) (c .if1 .taken))
+  where
+    at-rsv : tie.After-reference-source-vertex
+    at-rsv = search
+
+    start : tie.Start
+    start = let c = at-rsv in let c : tie.After-build-index = search in search
 
 returns-2 : tie.Need-returns-2
-returns-2 c = untouched (c .before .before .before .before .before .before .before .before .before .before .before .before .before .before .before .before .before .before .before .before .before .before .before .before .before .args .held) (c .before .before .before .before .before .before .before .before .before .before .before .before .before .before .before .before .before .before .before .before .before .before .before .before .before .pre .0 .ends) (no-sink (c .before .before .before .before .before .before .before .before .before .before .before .before .before .before .before .before .before .before .before .before .before .before .before .before .before .args .held) (c .before .before .before .before .before .before .before .before .before .before .before .before .before .before .before .before .before .before .before .before .before .before .before .before .before .args .es .now) (c .before .before .before .before .before .before .before .before .before .before .before .before .before .before .before .before .before .before .before .before .before .before .before .before .before .args .vs .now) (c .before .before .before .before .before .before .reference-source-vertex .ensures) (c .before .before .before .before .before .if1 .left) (c .before .reference-sink-vertex .ensures) (c .if2 .taken))
+returns-2 c =
+    untouched
+    (start .args .held)
+    (start .pre .0 .ends)
+    (no-sink (start .args .held) (start .args .es .now) (start .args .vs .now)
+    (at-rsv-2 .reference-source-vertex .ensures) (at-if1 .if1 .left) (at-rsv .reference-sink-vertex .ensures)
+    (c .if2 .taken))
+  where
+    at-rsv : tie.After-reference-sink-vertex
+    at-rsv = search
+
+    at-if1 : tie.Else1
+    at-if1 = let c = at-rsv in search
+
+    at-rsv-2 : tie.After-reference-source-vertex
+    at-rsv-2 = let c = at-if1 in search
+
+    start : tie.Start
+    start = let c = at-rsv-2 in let c : tie.After-build-index = search in search
 
 clean-between-requires : tie.Need-clean-between-requires
-clean-between-requires c κs = (c .before .before .before .before .before .before .before .before .before .before .before .before .if1 .left, (c .before .before .before .before .before .before .before .if2 .left, (c .before .before .before .before .before .before .before .before .before .before .before .before .before .before .before .before .before .before .before .before .before .before .before .before .before .before .before .before .before .before .before .before .pre .1 .0 .small, (c .before .before .before .before .before .before .before .before .before .before .before .before .before .before .before .before .before .before .before .before .before .before .before .before .before .before .before .before .before .before .before .before .pre .0, (c .before .before .before .before .before .before .before .before .before .before .before .before .before .before .before .before .before .before .before .before .before .build-index .ensures, c .before .before .before .before .before .before .before .before .before .before .before .before .before .before .before .before .before .before .before .before .before .before .before .before .before .before .before .before .before .before .before .before .pre .1 .1)))))
+clean-between-requires c κs = (
+  at-if1 .if1 .left,
+  (
+    at-if2 .if2 .left,
+    (start .pre .1 .0 .small, (start .pre .0, (at-build-index .build-index .ensures, start .pre .1 .1))),
+  ),
+)
+  where
+    at-if2 : tie.Else2
+    at-if2 = search
+
+    at-if1 : tie.Else1
+    at-if1 = let c = at-if2 in search
+
+    at-build-index : tie.After-build-index
+    at-build-index = let c = at-if1 in search
+
+    start : tie.Start
+    start = let c = at-build-index in search
 
 same-length-9 : tie.Need-same-length-9
-same-length-9 c = c .before .before .before .before .before .before .before .before .before .before .before .before .before .before .clean-between .kept .1 .1 .1 .1 .1 .0 ∙ c .before .before .before .before .before .before .before .before .before .before .before .before .before .before .before .before .before .before .before .before .before .before .before .before .before .before .before .before .before .before .before .before .before .before .before .before .build-index .kept .1 .1 .1 .0
+same-length-9 c =
+    at-clean-between .clean-between .kept .1 .1 .1 .1 .1 .0 ∙ at-build-index .build-index .kept .1 .1 .1 .0
+  where
+    at-clean-between : tie.After-clean-between
+    at-clean-between = let c : tie.After-vs = search in search
+
+    at-build-index : tie.After-build-index
+    at-build-index =
+        let c = at-clean-between in
+        let c : tie.After-reference-sink-vertex = search in
+        let c : tie.After-heads = search in
+        search
 
 same-length-10 : tie.Need-same-length-10
-same-length-10 c = c .before .before .before .before .before .before .before .before .before .before .before .before .before .before .clean-between .kept .1 .1 .1 .1 .1 .1 .0 ∙ c .before .before .before .before .before .before .before .before .before .before .before .before .before .before .before .before .before .before .before .before .before .before .before .before .before .before .before .before .before .before .before .before .before .before .before .before .build-index .kept .1 .1 .1 .1 .0
+same-length-10 c =
+    at-clean-between .clean-between .kept .1 .1 .1 .1 .1 .1 .0 ∙ at-build-index .build-index .kept .1 .1 .1 .1 .0
+  where
+    at-clean-between : tie.After-clean-between
+    at-clean-between = let c : tie.After-vs = search in search
+
+    at-build-index : tie.After-build-index
+    at-build-index =
+        let c = at-clean-between in
+        let c : tie.After-reference-sink-vertex = search in
+        let c : tie.After-heads = search in
+        search
 
 returns-3 : tie.Need-returns-3
-returns-3 c = reduced-as (chosen-is (c .before .before .before .before .before .before .before .before .before .before .before .before .before .before .before .before .before .before .before .before .before .before .before .before .before .before .before .before .before .before .before .before .before .before .before .before .before .before .before .before .before .before .before .before .before .before .before .args .held) (c .before .before .before .before .before .before .before .before .before .before .before .before .before .before .before .before .before .before .before .before .before .before .before .before .before .before .before .before .before .before .before .before .before .before .before .before .before .before .before .before .before .before .before .before .before .before .before .args .es .now) (c .before .before .before .before .before .before .before .before .before .before .before .before .before .before .before .before .before .before .before .before .before .before .before .before .before .before .before .before .before .before .before .before .before .before .before .before .before .before .before .before .before .before .before .before .before .before .before .args .vs .now) (c .before .before .before .before .before .before .before .before .before .before .before .before .before .before .before .before .before .before .before .before .before .before .before .before .before .before .before .before .reference-source-vertex .ensures) (c .before .before .before .before .before .before .before .before .before .before .before .before .before .before .before .before .before .before .before .before .before .before .before .before .before .before .before .if1 .left) (c .before .before .before .before .before .before .before .before .before .before .before .before .before .before .before .before .before .before .before .before .before .before .before .reference-sink-vertex .ensures) (c .before .before .before .before .before .before .before .before .before .before .before .before .before .before .before .before .before .before .before .before .before .before .if2 .left)) (c .before .before .before .before .before .before .before .before .before .before .before .before .before .before .clean-between .ensures)
+returns-3 c =
+    reduced-as
+    (chosen-is (start .args .held) (start .args .es .now) (start .args .vs .now)
+    (at-rsv-2 .reference-source-vertex .ensures) (at-if1 .if1 .left) (at-rsv .reference-sink-vertex .ensures)
+    (at-if2 .if2 .left))
+    (at-clean-between .clean-between .ensures)
+  where
+    at-clean-between : tie.After-clean-between
+    at-clean-between = let c : tie.After-vs = search in search
+
+    at-if2 : tie.Else2
+    at-if2 = let c = at-clean-between in search
+
+    at-rsv : tie.After-reference-sink-vertex
+    at-rsv = let c = at-if2 in search
+
+    at-if1 : tie.Else1
+    at-if1 = let c = at-rsv in search
+
+    at-rsv-2 : tie.After-reference-source-vertex
+    at-rsv-2 = let c = at-if1 in search
+
+    start : tie.Start
+    start = let c = at-rsv-2 in let c : tie.After-build-index = search in search
+
+same-length-7 : tie.Need-same-length-7
+same-length-7 c =
+    let at-clean-between : tie.After-clean-between = let c : tie.After-vs = search in search in
+    at-clean-between .clean-between .kept .1 .1 .1 .0
+
+same-length-8 : tie.Need-same-length-8
+same-length-8 c =
+    let at-clean-between : tie.After-clean-between = let c : tie.After-vs = search in search in
+    at-clean-between .clean-between .kept .1 .1 .1 .1 .0
+
+same-length-11 : tie.Need-same-length-11
+same-length-11 c =
+    let at-clean-between : tie.After-clean-between = let c : tie.After-vs = search in search in
+    at-clean-between .clean-between .kept .1 .1 .1 .1 .1 .1 .1 .0
+
+same-length-12 : tie.Need-same-length-12
+same-length-12 c =
+    let at-clean-between : tie.After-clean-between = let c : tie.After-vs = search in search in
+    at-clean-between .clean-between .kept .1 .1 .1 .1 .1 .1 .1 .1 .0
+
+same-length-13 : tie.Need-same-length-13
+same-length-13 c =
+    let at-clean-between : tie.After-clean-between = let c : tie.After-vs = search in search in
+    at-clean-between .clean-between .kept .1 .1 .1 .1 .1 .1 .1 .1 .1 .0
 
 pub clean-non-ref-paths-spec : {M : Type 1} → statement M
 clean-non-ref-paths-spec =
     tie.close
     (tie.spec
-    (λ c κs. c .before .before .before .before .before .before .before .before .before .before .pre .1 .0)
-    (λ c κs. c .before .before .before .before .before .before .before .build-index .ensures)
+    (λ c κs. let start : tie.Start = search in start .pre .1 .0)
+    (λ c κs. let at-build-index : tie.After-build-index = search in at-build-index .build-index .ensures)
     (λ c. search needs)
     (λ c. search needs)
     (λ c. search needs)
     returns
-    (λ c κs. c .before .before .before .before .before .before .before .before .before .before .before .before .build-index .ensures)
+    (λ c κs. let at-build-index : tie.After-build-index = search in at-build-index .build-index .ensures)
     (λ c. search needs)
     (λ c. search needs)
     (λ c. search needs)
     returns-2
     clean-between-requires
-    (λ c. c .before .before .before .before .before .before .before .before .before .before .before .before .before .before .clean-between .kept .1 .1 .1 .0)
-    (λ c. c .before .before .before .before .before .before .before .before .before .before .before .before .before .before .clean-between .kept .1 .1 .1 .1 .0)
+    same-length-7
+    same-length-8
     same-length-9
     same-length-10
-    (λ c. c .before .before .before .before .before .before .before .before .before .before .before .before .before .before .clean-between .kept .1 .1 .1 .1 .1 .1 .1 .0)
-    (λ c. c .before .before .before .before .before .before .before .before .before .before .before .before .before .before .clean-between .kept .1 .1 .1 .1 .1 .1 .1 .1 .0)
-    (λ c. c .before .before .before .before .before .before .before .before .before .before .before .before .before .before .clean-between .kept .1 .1 .1 .1 .1 .1 .1 .1 .1 .0)
+    same-length-11
+    same-length-12
+    same-length-13
     returns-3)

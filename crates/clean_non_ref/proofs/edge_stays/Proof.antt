@@ -5,10 +5,30 @@ use Rattle.clean_non_ref.proofs.edge_stays.Statement.{statement}
 use Rattle.clean_non_ref.proofs.edge_stays.Tie as tie
 
 returns : tie.Need-returns
-returns c = stays-ref (c .before .before .before .before .args .off) (c .before .before .before .before .args .marks .now) (c .before .before .before .before .args .es .now) (c .before .before .before .before .args .e) (c .before .edge-flag .ensures) (c .if1 .taken)
+returns c =
+    let at-edge-flag : tie.After-edge-flag = search in
+    let start : tie.Start = search in
+    stays-ref
+    (start .args .off)
+    (start .args .marks .now)
+    (start .args .es .now)
+    (start .args .e)
+    (at-edge-flag .edge-flag .ensures)
+    (c .if1 .taken)
 
 returns-2 : tie.Need-returns-2
-returns-2 c = stays-unmarked (c .before .before .before .before .before .before .args .off) (c .before .before .before .before .before .before .args .marks .now) (c .before .before .before .before .before .before .args .es .now) (c .before .before .before .before .before .before .args .e) (c .before .before .before .before .before .before .pre .1 .0) (c .before .before .before .edge-flag .ensures) (c .before .before .if1 .left)
+returns-2 c =
+    let at-if1 : tie.Else1 = search in
+    let at-edge-flag : tie.After-edge-flag = search in
+    let start : tie.Start = search in
+    stays-unmarked
+    (start .args .off)
+    (start .args .marks .now)
+    (start .args .es .now)
+    (start .args .e)
+    (start .pre .1 .0)
+    (at-edge-flag .edge-flag .ensures)
+    (at-if1 .if1 .left)
 
 pub edge-stays-spec : {M : Type 1} → statement M
 edge-stays-spec =

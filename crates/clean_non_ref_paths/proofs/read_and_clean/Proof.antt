@@ -10,81 +10,115 @@ use Rattle.clean_non_ref_paths.proofs.read_and_clean.Lts as lts
 use Rattle.accept.proofs.read_sequence_graph.Reads as read-sequence-graph-reads
 use Rattle.clean_non_ref.proofs.clean_non_ref_paths.Reads as clean-non-ref-paths-reads
 
--- src/lib.rt:27:9
 read-sequence-graph-requires : tie.Need-read-sequence-graph-requires
-read-sequence-graph-requires c κs = lent-read (c .before .before .before .before .before .before .before .before .before .before .before .before .before .before .before .before .pre .graph)
+read-sequence-graph-requires c κs =
+    let start : tie.Start = let c : tie.After-slice-known3 = search in search in
+    lent-read (start .pre .graph)
 
--- src/lib.rt:29:9
 same-length : tie.Need-same-length
 same-length c = search needs
 
--- src/lib.rt:29:9
 same-length-2 : tie.Need-same-length-2
 same-length-2 c = search needs
 
--- src/lib.rt:29:9
 same-length-3 : tie.Need-same-length-3
 same-length-3 c = search needs
 
--- src/lib.rt:29:9
 same-length-4 : tie.Need-same-length-4
 same-length-4 c = search needs
 
--- src/lib.rt:29:9
 same-length-5 : tie.Need-same-length-5
 same-length-5 c = search needs
 
--- src/lib.rt:29:9
 same-length-6 : tie.Need-same-length-6
 same-length-6 c = search needs
 
--- src/lib.rt:29:9
 same-length-7 : tie.Need-same-length-7
 same-length-7 c = search needs
 
--- src/lib.rt:29:9
 returns : tie.Need-returns
-returns c = made-refused (c .before .before .before .before .before .before .before .before .before .before .before .before .before .before .before .before .read-sequence-graph .ensures) (c .if1 .taken)
+returns c =
+    let at-rsg : tie.After-read-sequence-graph = let c : tie.After-p = search in search in
+    made-refused (at-rsg .read-sequence-graph .ensures) (c .if1 .taken)
 
--- src/lib.rt:31:9
 clean-non-ref-paths-requires : tie.Need-clean-non-ref-paths-requires
-clean-non-ref-paths-requires c κs = lent-walkable (c .before .before .before .before .before .before .before .before .before .before .before .before .before .before .before .before .before .before .before .before .before .before .before .before .before .before .before .before .before .before .before .before .before .before .before .before .before .before .before .before .pre) (c .before .before .before .before .before .before .before .before .before .before .before .before .before .before .before .before .before .before .before .before .before .before .before .read-sequence-graph .ensures) (c .before .before .before .before .before .before .before .if1 .left) (c .before .before .before .before .before .before .before .before .before .before .before .before .before .before .before .before .before .before .before .before .before .before .before .read-sequence-graph .kept .1 .0) (c .before .before .before .before .before .before .before .before .before .before .before .before .before .before .before .before .before .before .before .before .before .before .before .read-sequence-graph .kept .1 .1 .0) (c .before .before .before .before .before .before .before .before .before .before .before .before .before .before .before .before .before .before .before .before .before .before .before .read-sequence-graph .kept .1 .1 .1 .0) (c .before .before .before .before .before .before .before .before .before .before .before .before .before .before .before .before .before .before .before .before .before .before .before .read-sequence-graph .kept .1 .1 .1 .1 .0) (c .before .before .before .before .before .before .before .before .before .before .before .before .before .before .before .before .before .before .before .before .before .before .before .read-sequence-graph .kept .1 .1 .1 .1 .1 .0) (c .before .before .before .before .before .before .before .before .before .before .before .before .before .before .before .before .before .before .before .before .before .before .before .read-sequence-graph .kept .1 .1 .1 .1 .1 .1 .0) (c .before .before .before .before .before .before .before .before .before .before .before .before .before .before .before .before .before .before .before .before .before .before .before .read-sequence-graph .kept .1 .1 .1 .1 .1 .1 .1 .0)
+clean-non-ref-paths-requires c κs =
+    lent-walkable
+    (start .pre)
+    (at-rsg .read-sequence-graph .ensures)
+    (at-if1 .if1 .left)
+    (at-rsg .read-sequence-graph .kept .1 .0)
+    (at-rsg .read-sequence-graph .kept .1 .1 .0)
+    (at-rsg .read-sequence-graph .kept .1 .1 .1 .0)
+    (at-rsg .read-sequence-graph .kept .1 .1 .1 .1 .0)
+    (at-rsg .read-sequence-graph .kept .1 .1 .1 .1 .1 .0)
+    (at-rsg .read-sequence-graph .kept .1 .1 .1 .1 .1 .1 .0)
+    (at-rsg .read-sequence-graph .kept .1 .1 .1 .1 .1 .1 .1 .0)
+  where
+    at-if1 : tie.Else1
+    at-if1 = search
 
--- src/lib.rt:13:1
+    at-rsg : tie.After-read-sequence-graph
+    at-rsg = let c = at-if1 in let c : tie.After-p = search in search
+
+    start : tie.Start
+    start = let c = at-rsg in let c : tie.After-slice-known4 = search in search
+
 same-length-8 : tie.Need-same-length-8
-same-length-8 c = c .before .before .before .before .before .before .before .before .before .before .before .before .before .before .clean-non-ref-paths .kept .1 .0 ∙ c .before .before .before .before .before .before .before .before .before .before .before .before .before .before .before .before .before .before .before .before .before .before .before .before .before .before .before .before .before .before .before .before .before .before .before .before .before .before .read-sequence-graph .kept .1 .0
+same-length-8 c = at-cnrp .clean-non-ref-paths .kept .1 .0 ∙ at-rsg .read-sequence-graph .kept .1 .0
+  where
+    at-cnrp : tie.After-clean-non-ref-paths
+    at-cnrp = let c : tie.After-vs2 = search in search
 
--- src/lib.rt:13:1
+    at-rsg : tie.After-read-sequence-graph
+    at-rsg = let c = at-cnrp in let c : tie.After-map = search in let c : tie.After-es = search in search
+
 same-length-9 : tie.Need-same-length-9
-same-length-9 c = c .before .before .before .before .before .before .before .before .before .before .before .before .before .before .clean-non-ref-paths .kept .1 .1 .0 ∙ c .before .before .before .before .before .before .before .before .before .before .before .before .before .before .before .before .before .before .before .before .before .before .before .before .before .before .before .before .before .before .before .before .before .before .before .before .before .before .read-sequence-graph .kept .1 .1 .0
+same-length-9 c = at-cnrp .clean-non-ref-paths .kept .1 .1 .0 ∙ at-rsg .read-sequence-graph .kept .1 .1 .0
+  where
+    at-cnrp : tie.After-clean-non-ref-paths
+    at-cnrp = let c : tie.After-vs2 = search in search
 
--- src/lib.rt:13:1
+    at-rsg : tie.After-read-sequence-graph
+    at-rsg = let c = at-cnrp in let c : tie.After-map = search in let c : tie.After-es = search in search
+
 same-length-10 : tie.Need-same-length-10
 same-length-10 c = search needs
 
--- src/lib.rt:13:1
 same-length-11 : tie.Need-same-length-11
 same-length-11 c = search needs
 
--- src/lib.rt:13:1
 same-length-12 : tie.Need-same-length-12
 same-length-12 c = search needs
 
--- src/lib.rt:13:1
 same-length-13 : tie.Need-same-length-13
 same-length-13 c = search needs
 
--- src/lib.rt:13:1
 same-length-14 : tie.Need-same-length-14
 same-length-14 c = search needs
 
--- src/lib.rt:13:1
 same-length-15 : tie.Need-same-length-15
 same-length-15 c = search needs
 
--- src/lib.rt:13:1
 returns-2 : tie.Need-returns-2
-returns-2 c = made-whole (c .before .before .before .before .before .before .before .before .before .before .before .before .before .before .before .before .before .before .before .before .before .before .before .before .before .before .before .before .before .before .before .before .before .before .before .before .before .before .read-sequence-graph .ensures) (lent-read (c .before .before .before .before .before .before .before .before .before .before .before .before .before .before .before .before .before .before .before .before .before .before .before .before .before .before .before .before .before .before .before .before .before .before .before .before .before .before .before .before .before .before .before .before .before .before .before .before .before .before .before .before .before .before .before .pre .graph) .1) (c .before .before .before .before .before .before .before .before .before .before .before .before .before .before .before .before .before .before .before .before .before .before .if1 .left) (c .before .before .before .before .before .before .before .before .before .before .before .before .before .before .clean-non-ref-paths .ensures)
+returns-2 c =
+    made-whole
+    (at-rsg .read-sequence-graph .ensures)
+    (lent-read (start .pre .graph) .1)
+    (at-if1 .if1 .left)
+    (at-cnrp .clean-non-ref-paths .ensures)
+  where
+    at-cnrp : tie.After-clean-non-ref-paths
+    at-cnrp = let c : tie.After-vs2 = search in search
+
+    at-if1 : tie.Else1
+    at-if1 = let c = at-cnrp in search
+
+    at-rsg : tie.After-read-sequence-graph
+    at-rsg = let c = at-if1 in let c : tie.After-p = search in search
+
+    start : tie.Start
+    start = let c = at-rsg in let c : tie.After-slice-known4 = search in search
 
 pub read-and-clean-spec : {M : Type 1} → statement M
 read-and-clean-spec =

@@ -2,7 +2,15 @@
 use native.Mathlib.Omega.{arith}
 use Prim.Native.Nat.{_-_}
 use mathlib.Core.Path.{sym, _∙_}
-use Rattle.compact.proofs.LoopLaws.{ClosingE, closing-e-start, closing-e-ends, closing-e-drop, closing-e-keep, closing-e-end, closing-e-from}
+use Rattle.compact.proofs.LoopLaws.{
+  ClosingE,
+  closing-e-start,
+  closing-e-ends,
+  closing-e-drop,
+  closing-e-keep,
+  closing-e-end,
+  closing-e-from,
+}
 use Rattle.compact.proofs.close_edges.Statement.{statement}
 use Rattle.compact.proofs.close_edges.Tie as tie
 
@@ -13,16 +21,111 @@ abbrev μ-loop : tie.MeasureT-loop
 μ-loop es₀ m map n i₀ j₀ es i j = m - i
 
 shared-slice-read-a : tie.Need-shared-slice-read-a Inv-loop μ-loop
-shared-slice-read-a c = omega (arith, closing-e-from (c .before .before .before .before .loop .inv) (c .before .before .before .loop-test .taken) (c .before .edge-from .ensures) (c .before .before .before .before .before .before .before .pre .1 .1), c .before .before .before .before .before .before .before .pre .1 .0 .room)
+shared-slice-read-a c =
+    omega (
+      arith,
+      closing-e-from (at-loop .loop .inv) (at-loop-test .loop-test .taken) (at-edge-from .edge-from .ensures)
+          (start .pre .1 .1),
+      start .pre .1 .0 .room,
+    )
+  where
+    at-edge-from : tie.After-edge-from Inv-loop μ-loop
+    at-edge-from = search
+
+    at-loop-test : tie.In-loop Inv-loop μ-loop
+    at-loop-test = let c = at-edge-from in search
+
+    at-loop : tie.At-loop Inv-loop μ-loop
+    at-loop = let c = at-loop-test in search
+
+    start : tie.Start Inv-loop μ-loop
+    start = let c = at-loop in search
 
 shared-slice-read-b : tie.Need-shared-slice-read-b Inv-loop μ-loop
-shared-slice-read-b c = omega (arith, closing-e-ends (c .before .before .before .before .before .before .before .loop .inv) (c .before .before .before .before .before .before .loop-test .taken) (c .before .before .before .before .edge-from .ensures) (c .before .edge-to .ensures) (c .before .before .before .before .before .before .before .before .before .before .pre .1 .1) .1, c .before .before .before .before .before .before .before .before .before .before .pre .1 .0 .room)
+shared-slice-read-b c =
+    omega (
+      arith,
+      closing-e-ends (at-loop .loop .inv) (at-loop-test .loop-test .taken) (at-edge-from .edge-from .ensures)
+          (at-edge-to .edge-to .ensures) (start .pre .1 .1) .1,
+      start .pre .1 .0 .room,
+    )
+  where
+    at-edge-to : tie.After-edge-to Inv-loop μ-loop
+    at-edge-to = search
+
+    at-edge-from : tie.After-edge-from Inv-loop μ-loop
+    at-edge-from = let c = at-edge-to in search
+
+    at-loop-test : tie.In-loop Inv-loop μ-loop
+    at-loop-test = let c = at-edge-from in search
+
+    at-loop : tie.At-loop Inv-loop μ-loop
+    at-loop = let c = at-loop-test in search
+
+    start : tie.Start Inv-loop μ-loop
+    start = let c = at-loop in search
 
 loop-again : tie.Need-loop-again Inv-loop μ-loop
-loop-again c = closing-e-keep (c .before .before .before .before .before .before .before .before .before .before .before .before .before .before .before .before .before .loop .inv) (c .before .before .before .before .before .before .before .before .before .before .before .before .before .before .before .before .loop-test .taken) (c .before .before .before .before .before .before .before .before .before .before .before .before .before .before .edge-from .ensures) (c .before .before .before .before .before .before .before .before .before .before .before .edge-to .ensures) (c .before .before .before .before .before .before .before .before .before .before .before .before .before .before .before .before .before .before .before .before .pre .0) (c .before .before .before .before .before .before .before .before .before .before .before .before .before .before .before .before .before .before .before .before .pre .1 .0) (c .before .before .before .before .before .before .before .before .before .before .before .before .before .before .before .before .before .before .before .before .pre .1 .1) (sym (c .before .before .before .before .before .before .before .before .before .both-set .ensures .is) ∙ c .before .before .before .before .before .before .before .before .if1 .taken) (c .before .before .before .before .before .before .edge-support .ensures) (c .before .before .before .before .edge-flag .ensures) (c .before .before .put-edge .ensures)
+loop-again c =
+    let at-put-edge : tie.After-put-edge Inv-loop μ-loop = search in
+    let at-edge-flag : tie.After-edge-flag Inv-loop μ-loop = search in
+    let at-edge-support : tie.After-edge-support Inv-loop μ-loop = search in
+    let at-if1 : tie.Then1 Inv-loop μ-loop = search in
+    let at-both-set : tie.After-both-set Inv-loop μ-loop = search in
+    let at-edge-to : tie.After-edge-to Inv-loop μ-loop = search in
+    let at-edge-from : tie.After-edge-from Inv-loop μ-loop = search in
+    let at-loop-test : tie.In-loop Inv-loop μ-loop = search in
+    let at-loop : tie.At-loop Inv-loop μ-loop = search in
+    let start : tie.Start Inv-loop μ-loop = search in
+    closing-e-keep
+    (at-loop .loop .inv)
+    (at-loop-test .loop-test .taken)
+    (at-edge-from .edge-from .ensures)
+    (at-edge-to .edge-to .ensures)
+    (start .pre .0)
+    (start .pre .1 .0)
+    (start .pre .1 .1)
+    (sym (at-both-set .both-set .ensures .is) ∙ at-if1 .if1 .taken)
+    (at-edge-support .edge-support .ensures)
+    (at-edge-flag .edge-flag .ensures)
+    (at-put-edge .put-edge .ensures)
 
 loop-again-2 : tie.Need-loop-again-2 Inv-loop μ-loop
-loop-again-2 c = closing-e-drop (c .before .before .before .before .before .before .before .before .before .loop .inv) (c .before .before .before .before .before .before .before .before .loop-test .taken) (c .before .before .before .before .before .before .edge-from .ensures) (c .before .before .before .edge-to .ensures) (sym (c .before .both-set .ensures .is) ∙ c .if1 .left)
+loop-again-2 c =
+    let at-both-set : tie.After-both-set Inv-loop μ-loop = search in
+    let at-edge-to : tie.After-edge-to Inv-loop μ-loop = search in
+    let at-edge-from : tie.After-edge-from Inv-loop μ-loop = search in
+    let at-loop-test : tie.In-loop Inv-loop μ-loop = search in
+    let at-loop : tie.At-loop Inv-loop μ-loop = search in
+    closing-e-drop
+    (at-loop .loop .inv)
+    (at-loop-test .loop-test .taken)
+    (at-edge-from .edge-from .ensures)
+    (at-edge-to .edge-to .ensures)
+    (sym (at-both-set .both-set .ensures .is) ∙ c .if1 .left)
+
+sub-put-edge : tie.Need-sub-put-edge Inv-loop μ-loop
+sub-put-edge c = omega (arith, at-both-set .both-set .ensures .left (at-if1 .if1 .taken))
+  where
+    at-if1 : tie.Then1 Inv-loop μ-loop
+    at-if1 = search
+
+    at-both-set : tie.After-both-set Inv-loop μ-loop
+    at-both-set = let c = at-if1 in search
+
+sub-put-edge-2 : tie.Need-sub-put-edge-2 Inv-loop μ-loop
+sub-put-edge-2 c = omega (arith, at-both-set .both-set .ensures .right (at-if1 .if1 .taken))
+  where
+    at-if1 : tie.Then1 Inv-loop μ-loop
+    at-if1 = search
+
+    at-both-set : tie.After-both-set Inv-loop μ-loop
+    at-both-set = let c = at-if1 in search
+
+returns : tie.Need-returns Inv-loop μ-loop
+returns c =
+    let at-loop : tie.At-loop Inv-loop μ-loop = search in
+    closing-e-end (at-loop .loop .inv) (c .loop-test .left)
 
 pub close-edges-spec : {M : Type 1} → statement M
 close-edges-spec =
@@ -43,8 +146,8 @@ close-edges-spec =
     (λ c κs. omega arith)
     (λ c κs. omega arith)
     (λ c κs. omega arith)
-    (λ c. omega (arith, c .before .before .before .before .before .before .both-set .ensures .left (c .before .before .before .before .before .if1 .taken)))
-    (λ c. omega (arith, c .before .before .before .before .before .before .both-set .ensures .right (c .before .before .before .before .before .if1 .taken)))
+    sub-put-edge
+    sub-put-edge-2
     (λ c κs. omega arith)
     (λ c. omega arith)
     (λ c. omega arith)
@@ -52,4 +155,4 @@ close-edges-spec =
     (λ c. omega arith)
     loop-again-2
     (λ c. omega arith)
-    (λ c. closing-e-end (c .before .loop .inv) (c .loop-test .left)))
+    returns)

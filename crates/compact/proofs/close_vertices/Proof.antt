@@ -13,7 +13,23 @@ abbrev μ-loop : tie.MeasureT-loop
 μ-loop vs₀ n map i₀ j₀ vs i j = n - i
 
 loop-again : tie.Need-loop-again Inv-loop μ-loop
-loop-again c = closing-v-keep (c .before .before .before .before .before .loop .inv) (c .before .before .before .before .loop-test .taken) (c .before .before .before .before .before .before .pre .0) (c .before .before .if1 .taken)
+loop-again c =
+    let at-if1 : tie.Then1 Inv-loop μ-loop = search in
+    let at-loop-test : tie.In-loop Inv-loop μ-loop = search in
+    let at-loop : tie.At-loop Inv-loop μ-loop = search in
+    let start : tie.Start Inv-loop μ-loop = search in
+    closing-v-keep (at-loop .loop .inv) (at-loop-test .loop-test .taken) (start .pre .0) (at-if1 .if1 .taken)
+
+loop-again-2 : tie.Need-loop-again-2 Inv-loop μ-loop
+loop-again-2 c =
+    let at-loop-test : tie.In-loop Inv-loop μ-loop = search in
+    let at-loop : tie.At-loop Inv-loop μ-loop = search in
+    closing-v-drop (at-loop .loop .inv) (at-loop-test .loop-test .taken) (c .if1 .left)
+
+returns : tie.Need-returns Inv-loop μ-loop
+returns c =
+    let at-loop : tie.At-loop Inv-loop μ-loop = search in
+    closing-v-end (at-loop .loop .inv) (c .loop-test .left)
 
 pub close-vertices-spec : {M : Type 1} → statement M
 close-vertices-spec =
@@ -43,6 +59,6 @@ close-vertices-spec =
     (λ c. omega arith)
     loop-again
     (λ c. omega arith)
-    (λ c. closing-v-drop (c .before .before .before .loop .inv) (c .before .before .loop-test .taken) (c .if1 .left))
+    loop-again-2
     (λ c. omega arith)
-    (λ c. closing-v-end (c .before .loop .inv) (c .loop-test .left)))
+    returns)

@@ -6,7 +6,16 @@ use Rattle.compact.proofs.compact_vertices.Statement.{statement}
 use Rattle.compact.proofs.compact_vertices.Tie as tie
 
 returns : tie.Need-returns
-returns c = compacted (c .before .before .before .before .before .before .before .before .before .before .before .before .before .before .before .before .before .pre) (c .before .before .before .before .before .before .before .before .before .before .before .before .number .ensures) (c .before .before .before .before .before .before .before .close-vertices .ensures) (c .before .before .close-edges .ensures)
+returns c =
+    let at-close-edges : tie.After-close-edges = search in
+    let at-close-vertices : tie.After-close-vertices = search in
+    let at-number : tie.After-number = search in
+    let start : tie.Start = search in
+    compacted
+    (start .pre)
+    (at-number .number .ensures)
+    (at-close-vertices .close-vertices .ensures)
+    (at-close-edges .close-edges .ensures)
 
 pub compact-vertices-spec : {M : Type 1} → statement M
 compact-vertices-spec =

@@ -13,13 +13,59 @@ abbrev μ-loop : tie.MeasureT-loop
 μ-loop map₀ n gone g i₀ map i = g - i
 
 mul-map-2 : tie.Need-mul-map-2 Inv-loop μ-loop
-mul-map-2 c = omega (arith, c .before .before .before .before .before .before .before .before .before .pre .1 (c .before .before .loop .i) (c .before .loop-test .taken), c .before .before .before .before .before .before .before .before .before .pre .0, c .before .before .before .before .before .fill .kept)
+mul-map-2 c =
+    omega (arith, start .pre .1 (at-loop .loop .i) (at-loop-test .loop-test .taken), start .pre .0, at-fill .fill .kept)
+  where
+    at-loop-test : tie.In-loop Inv-loop μ-loop
+    at-loop-test = search
+
+    at-loop : tie.At-loop Inv-loop μ-loop
+    at-loop = let c = at-loop-test in search
+
+    at-fill : tie.After-fill Inv-loop μ-loop
+    at-fill = let c = at-loop in search
+
+    start : tie.Start Inv-loop μ-loop
+    start = let c = at-fill in search
 
 slice-write-map : tie.Need-slice-write-map Inv-loop μ-loop
-slice-write-map c = omega (arith, c .before .before .before .before .before .before .before .before .before .pre .1 (c .before .before .loop .i) (c .before .loop-test .taken), c .before .before .before .before .before .before .before .before .before .pre .0, c .before .before .before .before .before .fill .kept)
+slice-write-map c =
+    omega (arith, start .pre .1 (at-loop .loop .i) (at-loop-test .loop-test .taken), start .pre .0, at-fill .fill .kept)
+  where
+    at-loop-test : tie.In-loop Inv-loop μ-loop
+    at-loop-test = search
+
+    at-loop : tie.At-loop Inv-loop μ-loop
+    at-loop = let c = at-loop-test in search
+
+    at-fill : tie.After-fill Inv-loop μ-loop
+    at-fill = let c = at-loop in search
+
+    start : tie.Start Inv-loop μ-loop
+    start = let c = at-fill in search
 
 loop-again : tie.Need-loop-again Inv-loop μ-loop
-loop-again c = marking-more (c .before .before .loop .inv) (c .before .loop-test .taken) (c .before .before .before .before .before .before .before .before .before .pre .1 _ (c .before .loop-test .taken)) (omega arith)
+loop-again c =
+    marking-more
+    (at-loop .loop .inv)
+    (at-loop-test .loop-test .taken)
+    (start .pre .1 _ (at-loop-test .loop-test .taken))
+    (omega arith)
+  where
+    at-loop-test : tie.In-loop Inv-loop μ-loop
+    at-loop-test = search
+
+    at-loop : tie.At-loop Inv-loop μ-loop
+    at-loop = let c = at-loop-test in search
+
+    start : tie.Start Inv-loop μ-loop
+    start = let c = at-loop in search
+
+cast-map : tie.Need-cast-map Inv-loop μ-loop
+cast-map c = omega (arith, c .shared-slice-known2 .given (at-loop .loop .i))
+  where
+    at-loop : tie.At-loop Inv-loop μ-loop
+    at-loop = search
 
 pub mark-gone-spec : {M : Type 1} → statement M
 mark-gone-spec =
@@ -28,14 +74,14 @@ mark-gone-spec =
     Inv-loop
     μ-loop
     (λ c κs. omega arith)
-    (λ c. marking-start _ refl (c .before .before .fill .ensures))
+    (λ c. let at-fill : tie.After-fill Inv-loop μ-loop = search in marking-start _ refl (at-fill .fill .ensures))
     (λ c. omega arith)
     (λ c. omega arith)
-    (λ c. omega (arith, c .shared-slice-known2 .given (c .before .before .loop .i)))
+    cast-map
     mul-map-2
     slice-write-map
     (λ c. omega arith)
     (λ c. omega arith)
     loop-again
     (λ c. omega arith)
-    (λ c. marking-end (c .before .loop .inv) (c .loop-test .left)))
+    (λ c. let at-loop : tie.At-loop Inv-loop μ-loop = search in marking-end (at-loop .loop .inv) (c .loop-test .left)))

@@ -11,6 +11,26 @@ Inv-loop map₀ n v₀ j₀ map v j = Numbering n map₀ map v j
 abbrev μ-loop : tie.MeasureT-loop
 μ-loop map₀ n v₀ j₀ map v j = n - v
 
+loop-again : tie.Need-loop-again Inv-loop μ-loop
+loop-again c =
+    let at-loop-test : tie.In-loop Inv-loop μ-loop = search in
+    let at-loop : tie.At-loop Inv-loop μ-loop = search in
+    let start : tie.Start Inv-loop μ-loop = search in
+    numbering-stays (at-loop .loop .inv) (at-loop-test .loop-test .taken) (start .pre .0) (c .if1 .taken)
+
+loop-again-2 : tie.Need-loop-again-2 Inv-loop μ-loop
+loop-again-2 c =
+    let at-loop-test : tie.In-loop Inv-loop μ-loop = search in
+    let at-loop : tie.At-loop Inv-loop μ-loop = search in
+    let start : tie.Start Inv-loop μ-loop = search in
+    numbering-goes (at-loop .loop .inv) (at-loop-test .loop-test .taken) (start .pre .0) (c .if1 .left)
+
+returns : tie.Need-returns Inv-loop μ-loop
+returns c =
+    let at-loop : tie.At-loop Inv-loop μ-loop = search in
+    let start : tie.Start Inv-loop μ-loop = search in
+    numbering-end (at-loop .loop .inv) (c .loop-test .left) (start .pre .0)
+
 pub number-spec : {M : Type 1} → statement M
 number-spec =
     tie.close
@@ -25,10 +45,10 @@ number-spec =
     (λ c. omega arith)
     (λ c. omega arith)
     (λ c. omega arith)
-    (λ c. numbering-stays (c .before .before .before .loop .inv) (c .before .before .loop-test .taken) (c .before .before .before .before .pre .0) (c .if1 .taken))
+    loop-again
     (λ c. omega arith)
     (λ c. omega arith)
     (λ c. omega arith)
-    (λ c. numbering-goes (c .before .before .before .loop .inv) (c .before .before .loop-test .taken) (c .before .before .before .before .pre .0) (c .if1 .left))
+    loop-again-2
     (λ c. omega arith)
-    (λ c. numbering-end (c .before .loop .inv) (c .loop-test .left) (c .before .before .pre .0)))
+    returns)

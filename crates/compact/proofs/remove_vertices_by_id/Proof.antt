@@ -6,7 +6,11 @@ use Rattle.compact.proofs.remove_vertices_by_id.Statement.{statement}
 use Rattle.compact.proofs.remove_vertices_by_id.Tie as tie
 
 returns : tie.Need-returns
-returns c = removed (c .before .before .before .before .before .before .before .before .before .before .before .before .before .before .before .before .before .before .pre .0) (c .before .before .before .before .before .before .before .before .before .before .before .before .mark-gone .ensures) (c .before .before .before .before .before .before .compact-vertices .ensures)
+returns c =
+    let at-compact-vertices : tie.After-compact-vertices = search in
+    let at-mark-gone : tie.After-mark-gone = search in
+    let start : tie.Start = search in
+    removed (start .pre .0) (at-mark-gone .mark-gone .ensures) (at-compact-vertices .compact-vertices .ensures)
 
 pub remove-vertices-by-id-spec : {M : Type 1} → statement M
 remove-vertices-by-id-spec =

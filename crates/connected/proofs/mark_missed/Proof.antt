@@ -11,6 +11,52 @@ Inv-loop marks n map₀ v₀ map v = Missing n marks map₀ map v
 abbrev μ-loop : tie.MeasureT-loop
 μ-loop marks n map₀ v₀ map v = n - v
 
+shared-slice-read-if1 : tie.Need-shared-slice-read-if1 Inv-loop μ-loop
+shared-slice-read-if1 c = omega (arith, start .pre .0, at-loop-test .loop-test .taken)
+  where
+    at-loop-test : tie.In-loop Inv-loop μ-loop
+    at-loop-test = search
+
+    start : tie.Start Inv-loop μ-loop
+    start = let c = at-loop-test in search
+
+mul-map : tie.Need-mul-map Inv-loop μ-loop
+mul-map c = omega (arith, at-loop .loop .inv .len, start .pre .1, at-loop-test .loop-test .taken)
+  where
+    at-loop-test : tie.In-loop Inv-loop μ-loop
+    at-loop-test = search
+
+    at-loop : tie.At-loop Inv-loop μ-loop
+    at-loop = let c = at-loop-test in search
+
+    start : tie.Start Inv-loop μ-loop
+    start = let c = at-loop in search
+
+slice-write-map : tie.Need-slice-write-map Inv-loop μ-loop
+slice-write-map c = omega (arith, at-loop .loop .inv .len, start .pre .1, at-loop-test .loop-test .taken)
+  where
+    at-loop-test : tie.In-loop Inv-loop μ-loop
+    at-loop-test = search
+
+    at-loop : tie.At-loop Inv-loop μ-loop
+    at-loop = let c = at-loop-test in search
+
+    start : tie.Start Inv-loop μ-loop
+    start = let c = at-loop in search
+
+loop-again : tie.Need-loop-again Inv-loop μ-loop
+loop-again c =
+    let at-loop-test : tie.In-loop Inv-loop μ-loop = search in
+    let at-loop : tie.At-loop Inv-loop μ-loop = search in
+    let start : tie.Start Inv-loop μ-loop = search in
+    missing-yes (at-loop .loop .inv) (at-loop-test .loop-test .taken) (start .pre .1) (c .if1 .taken)
+
+loop-again-2 : tie.Need-loop-again-2 Inv-loop μ-loop
+loop-again-2 c =
+    let at-loop-test : tie.In-loop Inv-loop μ-loop = search in
+    let at-loop : tie.At-loop Inv-loop μ-loop = search in
+    missing-no (at-loop .loop .inv) (at-loop-test .loop-test .taken) (c .if1 .left)
+
 pub mark-missed-spec : {M : Type 1} → statement M
 mark-missed-spec =
     tie.close
@@ -20,12 +66,12 @@ mark-missed-spec =
     (λ c. missing-start)
     (λ c. omega arith)
     (λ c. omega arith)
-    (λ c. omega (arith, c .before .before .before .pre .0, c .before .loop-test .taken))
-    (λ c. omega (arith, c .before .before .before .loop .inv .len, c .before .before .before .before .pre .1, c .before .before .loop-test .taken))
-    (λ c. omega (arith, c .before .before .before .loop .inv .len, c .before .before .before .before .pre .1, c .before .before .loop-test .taken))
+    shared-slice-read-if1
+    mul-map
+    slice-write-map
     (λ c. omega arith)
-    (λ c. missing-yes (c .before .before .before .loop .inv) (c .before .before .loop-test .taken) (c .before .before .before .before .pre .1) (c .if1 .taken))
+    loop-again
     (λ c. omega arith)
-    (λ c. missing-no (c .before .before .before .loop .inv) (c .before .before .loop-test .taken) (c .if1 .left))
-    (λ c. c .before .loop .inv .len)
-    (λ c. missing-end (c .before .loop .inv) (c .loop-test .left)))
+    loop-again-2
+    (λ c. let at-loop : tie.At-loop Inv-loop μ-loop = search in at-loop .loop .inv .len)
+    (λ c. let at-loop : tie.At-loop Inv-loop μ-loop = search in missing-end (at-loop .loop .inv) (c .loop-test .left)))

@@ -9,25 +9,130 @@ use Rattle.connected.proofs.remove_paths_not_connected_to_ref.Statement
 use Rattle.connected.proofs.remove_paths_not_connected_to_ref.Tie as tie
 
 mark-unreached-requires : tie.Need-mark-unreached-requires
-mark-unreached-requires c κs = (c .before .before .before .before .before .before .before .before .before .before .before .before .before .before .before .pre .0, (omega (arith, c .before .before .before .before .before .before .fill .kept .0, c .before .before .before .before .before .before .before .before .before .before .before .before .before .before .before .pre .1 .1 .0 .mp-room), (c .before .before .before .before .before .before .before .before .before .before .before .before .before .before .before .pre .1 .1 .1 .0, c .before .before .before .before .before .before .before .before .before .before .before .before .before .before .before .pre .1 .1 .1 .1)))
+mark-unreached-requires c κs = (
+  start .pre .0,
+  (
+    omega (arith, at-fill .fill .kept .0, start .pre .1 .1 .0 .mp-room),
+    (start .pre .1 .1 .1 .0, start .pre .1 .1 .1 .1),
+  ),
+)
+  where
+    at-fill : tie.After-fill
+    at-fill = search
+
+    start : tie.Start
+    start = let c = at-fill in search
 
 mark-unreached-requires-2 : tie.Need-mark-unreached-requires-2
-mark-unreached-requires-2 c κs = (c .before .before .before .before .before .before .before .before .before .before .before .before .before .before .before .before .before .before .before .before .before .before .before .before .before .before .pre .1 .0, (omega (arith, c .before .before .before .before .before .before .before .before .before .before .mark-unreached .kept .1 .1 .1 .1 .1 .1 .1 .1 .0, c .before .before .before .before .before .before .before .before .before .before .before .before .before .before .before .before .before .fill .kept .0, c .before .before .before .before .before .before .before .before .before .before .before .before .before .before .before .before .before .before .before .before .before .before .before .before .before .before .pre .1 .1 .0 .mp-room), (c .before .before .before .before .before .before .before .before .before .before .before .before .before .before .before .before .before .before .before .before .before .before .before .before .before .before .pre .1 .1 .1 .0, walkable-kept (c .before .before .before .before .before .before .before .before .before .before .before .before .before .before .before .before .before .before .before .before .before .before .before .before .before .before .pre .1 .1 .1 .1) (c .before .before .before .before .before .before .before .before .before .before .mark-unreached .kept .1 .1 .1 .1 .1 .1 .1 .1 .1 .0) (c .before .before .before .before .before .before .before .before .before .before .mark-unreached .kept .1 .1 .1 .1 .1 .1 .1 .0))))
+mark-unreached-requires-2 c κs = (
+  start .pre .1 .0,
+  (
+    omega (
+      arith,
+      at-mark-unreached .mark-unreached .kept .1 .1 .1 .1 .1 .1 .1 .1 .0,
+      at-fill .fill .kept .0,
+      start .pre .1 .1 .0 .mp-room,
+    ),
+    (
+      start .pre .1 .1 .1 .0,
+      walkable-kept (start .pre .1 .1 .1 .1) (at-mark-unreached .mark-unreached .kept .1 .1 .1 .1 .1 .1 .1 .1 .1 .0)
+          (at-mark-unreached .mark-unreached .kept .1 .1 .1 .1 .1 .1 .1 .0),
+    ),
+  ),
+)
+  where
+    at-mark-unreached : tie.After-mark-unreached
+    at-mark-unreached = search
+
+    at-fill : tie.After-fill
+    at-fill = let c = at-mark-unreached in search
+
+    start : tie.Start
+    start = let c = at-fill in search
 
 remove-marked-requires : tie.Need-remove-marked-requires
-remove-marked-requires c κs = compactable-kept (c .before .before .before .before .before .before .before .before .before .before .before .before .before .before .before .before .before .before .before .before .before .before .before .before .before .before .before .before .before .before .before .before .before .before .before .before .pre .1 .1 .0) (c .before .before .before .before .before .before .before .before .before .mark-unreached2 .kept .1 .1 .1 .1 .1 .1 .1 .1 .0 ∙ c .before .before .before .before .before .before .before .before .before .before .before .before .before .before .before .before .before .before .before .before .mark-unreached .kept .1 .1 .1 .1 .1 .1 .1 .1 .0 ∙ c .before .before .before .before .before .before .before .before .before .before .before .before .before .before .before .before .before .before .before .before .before .before .before .before .before .before .before .fill .kept .0)
+remove-marked-requires c κs =
+    compactable-kept
+    (start .pre .1 .1 .0)
+    (at-mark-unreached2 .mark-unreached2 .kept .1 .1 .1 .1 .1 .1 .1 .1 .0
+    ∙ at-mark-unreached .mark-unreached .kept .1 .1 .1 .1 .1 .1 .1 .1 .0
+    ∙ at-fill .fill .kept .0)
+  where
+    at-mark-unreached2 : tie.After-mark-unreached2
+    at-mark-unreached2 = search
+
+    at-mark-unreached : tie.After-mark-unreached
+    at-mark-unreached = let c = at-mark-unreached2 in search
+
+    at-fill : tie.After-fill
+    at-fill = let c = at-mark-unreached in search
+
+    start : tie.Start
+    start = let c = at-fill in search
 
 same-length-3 : tie.Need-same-length-3
-same-length-3 c = c .before .before .before .before .before .before .before .before .before .before .before .before .before .before .before .before .mark-unreached2 .kept .1 .1 .1 .1 .1 .1 .1 .0 ∙ c .before .before .before .before .before .before .before .before .before .before .before .before .before .before .before .before .before .before .before .before .before .before .before .before .before .before .before .mark-unreached .kept .1 .1 .1 .1 .1 .1 .1 .0
+same-length-3 c =
+    at-mark-unreached2 .mark-unreached2 .kept .1 .1 .1 .1 .1 .1 .1 .0
+    ∙ at-mark-unreached .mark-unreached .kept .1 .1 .1 .1 .1 .1 .1 .0
+  where
+    at-mark-unreached2 : tie.After-mark-unreached2
+    at-mark-unreached2 = let c : tie.After-tried2 = search in search
+
+    at-mark-unreached : tie.After-mark-unreached
+    at-mark-unreached = let c = at-mark-unreached2 in search
 
 same-length-4 : tie.Need-same-length-4
-same-length-4 c = c .before .before .before .before .before .before .remove-marked .kept .1 .1 .1 .0 ∙ c .before .before .before .before .before .before .before .before .before .before .before .before .before .before .before .before .mark-unreached2 .kept .1 .1 .1 .1 .1 .1 .1 .1 .0 ∙ c .before .before .before .before .before .before .before .before .before .before .before .before .before .before .before .before .before .before .before .before .before .before .before .before .before .before .before .mark-unreached .kept .1 .1 .1 .1 .1 .1 .1 .1 .0 ∙ c .before .before .before .before .before .before .before .before .before .before .before .before .before .before .before .before .before .before .before .before .before .before .before .before .before .before .before .before .before .before .before .before .before .before .fill .kept .0
+same-length-4 c =
+    at-remove-marked .remove-marked .kept .1 .1 .1 .0
+    ∙ at-mark-unreached2 .mark-unreached2 .kept .1 .1 .1 .1 .1 .1 .1 .1 .0
+    ∙ at-mark-unreached .mark-unreached .kept .1 .1 .1 .1 .1 .1 .1 .1 .0
+    ∙ at-fill .fill .kept .0
+  where
+    at-remove-marked : tie.After-remove-marked
+    at-remove-marked = search
+
+    at-mark-unreached2 : tie.After-mark-unreached2
+    at-mark-unreached2 = let c = at-remove-marked in search
+
+    at-mark-unreached : tie.After-mark-unreached
+    at-mark-unreached = let c = at-mark-unreached2 in search
+
+    at-fill : tie.After-fill
+    at-fill = let c = at-mark-unreached in search
 
 same-length-5 : tie.Need-same-length-5
-same-length-5 c = c .before .before .before .before .before .before .before .before .before .before .before .before .before .before .before .before .mark-unreached2 .kept .1 .1 .1 .1 .1 .1 .1 .1 .1 .0 ∙ c .before .before .before .before .before .before .before .before .before .before .before .before .before .before .before .before .before .before .before .before .before .before .before .before .before .before .before .mark-unreached .kept .1 .1 .1 .1 .1 .1 .1 .1 .1 .0
+same-length-5 c =
+    at-mark-unreached2 .mark-unreached2 .kept .1 .1 .1 .1 .1 .1 .1 .1 .1 .0
+    ∙ at-mark-unreached .mark-unreached .kept .1 .1 .1 .1 .1 .1 .1 .1 .1 .0
+  where
+    at-mark-unreached2 : tie.After-mark-unreached2
+    at-mark-unreached2 = let c : tie.After-tried2 = search in search
+
+    at-mark-unreached : tie.After-mark-unreached
+    at-mark-unreached = let c = at-mark-unreached2 in search
 
 returns : tie.Need-returns
-returns c = reduced-as (paths-stay (c .before .before .before .before .before .before .before .before .before .before .before .before .before .before .before .before .before .before .before .before .before .before .before .before .before .before .before .before .before .before .before .before .before .before .before .before .before .before .before .before .before .before .before .args .held) (c .before .before .before .before .before .before .before .before .before .before .before .before .before .before .before .before .before .before .before .before .before .before .before .before .before .before .before .before .before .before .before .before .before .before .before .before .before .before .before .before .before .before .before .args .es .now) (c .before .before .before .before .before .before .before .before .before .before .before .before .before .before .before .before .before .before .before .before .before .before .before .before .before .before .before .before .before .before .before .before .before .before .before .before .before .before .before .before .before .before .before .args .vs .now) (c .before .before .before .before .before .before .before .before .before .before .before .before .before .before .before .before .before .before .before .before .before .before .before .before .before .before .before .before .before .before .before .before .before .before .before .before .before .before .before .before .before .before .before .pre .1 .1 .0 .ends) _ (c .before .before .before .before .before .before .before .before .before .before .before .before .before .before .before .before .before .before .before .before .before .before .before .before .before .before .before .before .before .before .before .before .before .before .fill .ensures) (c .before .before .before .before .before .before .before .before .before .before .before .before .before .before .before .before .before .before .before .before .before .before .before .before .before .before .before .mark-unreached .ensures) (c .before .before .before .before .before .before .before .before .before .before .before .before .before .before .before .before .mark-unreached2 .ensures)) (c .before .before .before .before .before .before .remove-marked .ensures)
+returns c =
+    reduced-as
+    (paths-stay (start .args .held) (start .args .es .now) (start .args .vs .now) (start .pre .1 .1 .0 .ends) _
+    (at-fill .fill .ensures) (at-mark-unreached .mark-unreached .ensures)
+    (at-mark-unreached2 .mark-unreached2 .ensures))
+    (at-remove-marked .remove-marked .ensures)
+  where
+    at-remove-marked : tie.After-remove-marked
+    at-remove-marked = search
+
+    at-mark-unreached2 : tie.After-mark-unreached2
+    at-mark-unreached2 = let c = at-remove-marked in search
+
+    at-mark-unreached : tie.After-mark-unreached
+    at-mark-unreached = let c = at-mark-unreached2 in search
+
+    at-fill : tie.After-fill
+    at-fill = let c = at-mark-unreached in search
+
+    start : tie.Start
+    start = let c = at-fill in search
 
 pub remove-paths-not-connected-to-ref-spec : {M : Type 1} → statement M
 remove-paths-not-connected-to-ref-spec =
@@ -37,8 +142,8 @@ remove-paths-not-connected-to-ref-spec =
     mark-unreached-requires
     mark-unreached-requires-2
     remove-marked-requires
-    (λ c. c .before .before .before .before .before .before .remove-marked .kept .1 .0)
-    (λ c. c .before .before .before .before .before .before .remove-marked .kept .1 .1 .0)
+    (λ c. let at-remove-marked : tie.After-remove-marked = search in at-remove-marked .remove-marked .kept .1 .0)
+    (λ c. let at-remove-marked : tie.After-remove-marked = search in at-remove-marked .remove-marked .kept .1 .1 .0)
     same-length-3
     same-length-4
     same-length-5

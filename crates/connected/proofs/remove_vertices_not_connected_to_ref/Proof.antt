@@ -8,19 +8,99 @@ use Rattle.connected.proofs.remove_vertices_not_connected_to_ref.Statem
 use Rattle.connected.proofs.remove_vertices_not_connected_to_ref.Tie as tie
 
 returns : tie.Need-returns
-returns c = reduced-same (c .before .before .before .before .before .before .before .before .before .before .args .held) (c .before .before .before .before .before .before .before .before .before .before .pre .0 .ends) (no-source-stays (c .before .before .before .before .before .before .before .before .before .before .args .held) (c .before .before .before .before .before .before .before .before .before .before .args .es .now) (c .before .before .before .before .before .before .before .before .before .before .args .vs .now) (c .before .reference-source-vertex .ensures) (c .if1 .taken))
+returns c =
+    reduced-same
+    (start .args .held)
+    (start .pre .0 .ends)
+    (no-source-stays (start .args .held) (start .args .es .now) (start .args .vs .now)
+    (at-rsv .reference-source-vertex .ensures) (c .if1 .taken))
+  where
+    at-rsv : tie.After-reference-source-vertex
+    at-rsv = search
+
+    start : tie.Start
+    start = let c = at-rsv in search
 
 mark-unreached-requires : tie.Need-mark-unreached-requires
-mark-unreached-requires c κs = (c .before .before .before .before .before .before .before .before .if1 .left, (omega (arith, c .before .before .before .before .before .before .fill .kept .0, c .before .before .before .before .before .before .before .before .before .before .before .before .before .before .before .before .before .before .pre .0 .mp-room), (c .before .before .before .before .before .before .before .before .before .before .before .before .before .before .before .before .before .before .pre .1 .0, c .before .before .before .before .before .before .before .before .before .before .before .before .before .before .before .before .before .before .pre .1 .1)))
+mark-unreached-requires c κs = (
+  at-if1 .if1 .left,
+  (omega (arith, at-fill .fill .kept .0, start .pre .0 .mp-room), (start .pre .1 .0, start .pre .1 .1)),
+)
+  where
+    at-fill : tie.After-fill
+    at-fill = search
+
+    at-if1 : tie.Else1
+    at-if1 = let c = at-fill in search
+
+    start : tie.Start
+    start = let c = at-if1 in search
 
 remove-marked-requires : tie.Need-remove-marked-requires
-remove-marked-requires c κs = compactable-kept (c .before .before .before .before .before .before .before .before .before .before .before .before .before .before .before .before .before .before .before .before .before .before .before .before .before .before .before .before .pre .0) (c .before .before .before .before .before .before .before .before .before .mark-unreached .kept .1 .1 .1 .1 .1 .1 .1 .1 .0 ∙ c .before .before .before .before .before .before .before .before .before .before .before .before .before .before .before .before .fill .kept .0)
+remove-marked-requires c κs =
+    compactable-kept
+    (start .pre .0)
+    (at-mark-unreached .mark-unreached .kept .1 .1 .1 .1 .1 .1 .1 .1 .0 ∙ at-fill .fill .kept .0)
+  where
+    at-mark-unreached : tie.After-mark-unreached
+    at-mark-unreached = search
+
+    at-fill : tie.After-fill
+    at-fill = let c = at-mark-unreached in search
+
+    start : tie.Start
+    start = let c = at-fill in search
 
 same-length-5 : tie.Need-same-length-5
-same-length-5 c = c .before .before .before .before .before .before .remove-marked .kept .1 .1 .1 .0 ∙ c .before .before .before .before .before .before .before .before .before .before .before .before .before .before .before .before .mark-unreached .kept .1 .1 .1 .1 .1 .1 .1 .1 .0 ∙ c .before .before .before .before .before .before .before .before .before .before .before .before .before .before .before .before .before .before .before .before .before .before .before .fill .kept .0
+same-length-5 c =
+    at-remove-marked .remove-marked .kept .1 .1 .1 .0
+    ∙ at-mark-unreached .mark-unreached .kept .1 .1 .1 .1 .1 .1 .1 .1 .0
+    ∙ at-fill .fill .kept .0
+  where
+    at-remove-marked : tie.After-remove-marked
+    at-remove-marked = search
+
+    at-mark-unreached : tie.After-mark-unreached
+    at-mark-unreached = let c = at-remove-marked in search
+
+    at-fill : tie.After-fill
+    at-fill = let c = at-mark-unreached in search
 
 returns-2 : tie.Need-returns-2
-returns-2 c = reduced-as (connected-stay (c .before .before .before .before .before .before .before .before .before .before .before .before .before .before .before .before .before .before .before .before .before .before .before .before .before .before .before .before .before .before .before .before .before .before .before .args .held) (c .before .before .before .before .before .before .before .before .before .before .before .before .before .before .before .before .before .before .before .before .before .before .before .before .before .before .before .before .before .before .before .before .before .before .before .args .es .now) (c .before .before .before .before .before .before .before .before .before .before .before .before .before .before .before .before .before .before .before .before .before .before .before .before .before .before .before .before .before .before .before .before .before .before .before .args .vs .now) (c .before .before .before .before .before .before .before .before .before .before .before .before .before .before .before .before .before .before .before .before .before .before .before .before .before .before .before .before .before .before .before .before .before .before .before .pre .0 .ends) _ (c .before .before .before .before .before .before .before .before .before .before .before .before .before .before .before .before .before .before .before .before .before .before .before .fill .ensures) (c .before .before .before .before .before .before .before .before .before .before .before .before .before .before .before .before .before .before .before .before .before .before .before .before .before .before .reference-source-vertex .ensures) (c .before .before .before .before .before .before .before .before .before .before .before .before .before .before .before .before .before .before .before .before .before .before .before .before .before .if1 .left) (c .before .before .before .before .before .before .before .before .before .before .before .before .before .before .before .before .mark-unreached .ensures)) (c .before .before .before .before .before .before .remove-marked .ensures)
+returns-2 c =
+    reduced-as
+    (connected-stay (start .args .held) (start .args .es .now) (start .args .vs .now) (start .pre .0 .ends) _
+    (at-fill .fill .ensures) (at-rsv .reference-source-vertex .ensures) (at-if1 .if1 .left)
+    (at-mark-unreached .mark-unreached .ensures))
+    (at-remove-marked .remove-marked .ensures)
+  where
+    at-remove-marked : tie.After-remove-marked
+    at-remove-marked = search
+
+    at-mark-unreached : tie.After-mark-unreached
+    at-mark-unreached = let c = at-remove-marked in search
+
+    at-fill : tie.After-fill
+    at-fill = let c = at-mark-unreached in search
+
+    at-if1 : tie.Else1
+    at-if1 = let c = at-fill in search
+
+    at-rsv : tie.After-reference-source-vertex
+    at-rsv = let c = at-if1 in search
+
+    start : tie.Start
+    start = let c = at-rsv in search
+
+same-length-4 : tie.Need-same-length-4
+same-length-4 c =
+    let at-mark-unreached : tie.After-mark-unreached = let c : tie.After-tried = search in search in
+    at-mark-unreached .mark-unreached .kept .1 .1 .1 .1 .1 .1 .1 .0
+
+same-length-6 : tie.Need-same-length-6
+same-length-6 c =
+    let at-mark-unreached : tie.After-mark-unreached = let c : tie.After-tried = search in search in
+    at-mark-unreached .mark-unreached .kept .1 .1 .1 .1 .1 .1 .1 .1 .1 .0
 
 pub remove-vertices-not-connected-to-ref-spec : {M : Type 1} → statement M
 remove-vertices-not-connected-to-ref-spec =
@@ -32,9 +112,9 @@ remove-vertices-not-connected-to-ref-spec =
     (λ c κs. search needs)
     mark-unreached-requires
     remove-marked-requires
-    (λ c. c .before .before .before .before .before .before .remove-marked .kept .1 .0)
-    (λ c. c .before .before .before .before .before .before .remove-marked .kept .1 .1 .0)
-    (λ c. c .before .before .before .before .before .before .before .before .before .before .before .before .before .before .before .before .mark-unreached .kept .1 .1 .1 .1 .1 .1 .1 .0)
+    (λ c. let at-remove-marked : tie.After-remove-marked = search in at-remove-marked .remove-marked .kept .1 .0)
+    (λ c. let at-remove-marked : tie.After-remove-marked = search in at-remove-marked .remove-marked .kept .1 .1 .0)
+    same-length-4
     same-length-5
-    (λ c. c .before .before .before .before .before .before .before .before .before .before .before .before .before .before .before .before .mark-unreached .kept .1 .1 .1 .1 .1 .1 .1 .1 .1 .0)
+    same-length-6
     returns-2)

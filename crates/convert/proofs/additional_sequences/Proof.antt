@@ -2,7 +2,14 @@
 use native.Mathlib.Omega.{arith}
 use mathlib.Core.Path.{refl}
 use Prim.Native.Nat.{_+_, _*_, _-_}
-use Rattle.convert.proofs.TrimLaws.{Trimming, trimming-start, trimming-kept, trimming-small, trimming-last, trimming-end}
+use Rattle.convert.proofs.TrimLaws.{
+  Trimming,
+  trimming-start,
+  trimming-kept,
+  trimming-small,
+  trimming-last,
+  trimming-end,
+}
 use Rattle.convert.proofs.additional_sequences.Statement.{statement}
 use Rattle.convert.proofs.additional_sequences.Tie as tie
 
@@ -13,19 +20,97 @@ abbrev μ-loop : tie.MeasureT-loop
 μ-loop es m n heads nexts vs₀ v₀ vs v = n - v
 
 sub-put-vertex : tie.Need-sub-put-vertex Inv-loop μ-loop
-sub-put-vertex c = omega (arith, trimming-small (c .before .before .before .before .before .before .before .before .before .before .before .pre .0) (c .before .before .before .before .before .before .before .before .before .before .before .pre .1) (c .before .before .before .before .before .before .loop .inv) (c .before .before .before .before .before .loop-test .taken) refl refl)
+sub-put-vertex c =
+    omega (
+      arith,
+      trimming-small (start .pre .0) (start .pre .1) (at-loop .loop .inv) (at-loop-test .loop-test .taken) refl refl,
+    )
+  where
+    at-loop-test : tie.In-loop Inv-loop μ-loop
+    at-loop-test = search
+
+    at-loop : tie.At-loop Inv-loop μ-loop
+    at-loop = let c = at-loop-test in search
+
+    start : tie.Start Inv-loop μ-loop
+    start = let c = at-loop in search
 
 add-put-vertex : tie.Need-add-put-vertex Inv-loop μ-loop
-add-put-vertex c = omega (arith, trimming-small (c .before .before .before .before .before .before .before .before .before .before .before .pre .0) (c .before .before .before .before .before .before .before .before .before .before .before .pre .1) (c .before .before .before .before .before .before .loop .inv) (c .before .before .before .before .before .loop-test .taken) refl refl)
+add-put-vertex c =
+    omega (
+      arith,
+      trimming-small (start .pre .0) (start .pre .1) (at-loop .loop .inv) (at-loop-test .loop-test .taken) refl refl,
+    )
+  where
+    at-loop-test : tie.In-loop Inv-loop μ-loop
+    at-loop-test = search
+
+    at-loop : tie.At-loop Inv-loop μ-loop
+    at-loop = let c = at-loop-test in search
+
+    start : tie.Start Inv-loop μ-loop
+    start = let c = at-loop in search
 
 put-vertex-requires : tie.Need-put-vertex-requires Inv-loop μ-loop
-put-vertex-requires c κs = omega (arith, c .before .before .before .before .before .before .before .before .before .before .before .pre .0 .vs-room, c .before .before .before .before .before .before .loop .inv .size)
+put-vertex-requires c κs = omega (arith, start .pre .0 .vs-room, at-loop .loop .inv .size)
+  where
+    at-loop : tie.At-loop Inv-loop μ-loop
+    at-loop = search
+
+    start : tie.Start Inv-loop μ-loop
+    start = let c = at-loop in search
 
 loop-again : tie.Need-loop-again Inv-loop μ-loop
-loop-again c = trimming-last (c .before .before .before .before .before .before .before .before .before .before .before .before .before .before .pre .0) (c .before .before .before .before .before .before .before .before .before .before .before .before .before .before .pre .1) (c .before .before .before .before .before .before .before .before .before .loop .inv) (c .before .before .before .before .before .before .before .before .loop-test .taken) (c .before .before .before .before .before .before .if1 .taken) (c .before .before .put-vertex .ensures)
+loop-again c =
+    let at-put-vertex : tie.After-put-vertex Inv-loop μ-loop = search in
+    let at-if1 : tie.Then1 Inv-loop μ-loop = search in
+    let at-loop-test : tie.In-loop Inv-loop μ-loop = search in
+    let at-loop : tie.At-loop Inv-loop μ-loop = search in
+    let start : tie.Start Inv-loop μ-loop = search in
+    trimming-last
+    (start .pre .0)
+    (start .pre .1)
+    (at-loop .loop .inv)
+    (at-loop-test .loop-test .taken)
+    (at-if1 .if1 .taken)
+    (at-put-vertex .put-vertex .ensures)
 
 loop-again-2 : tie.Need-loop-again-2 Inv-loop μ-loop
-loop-again-2 c = trimming-kept (c .before .before .before .before .before .before .before .before .pre .0) (c .before .before .before .before .before .before .before .before .pre .1) (c .before .before .before .loop .inv) (c .before .before .loop-test .taken) (c .if1 .left)
+loop-again-2 c =
+    let at-loop-test : tie.In-loop Inv-loop μ-loop = search in
+    let at-loop : tie.At-loop Inv-loop μ-loop = search in
+    let start : tie.Start Inv-loop μ-loop = search in
+    trimming-kept (start .pre .0) (start .pre .1) (at-loop .loop .inv) (at-loop-test .loop-test .taken) (c .if1 .left)
+
+cast-if1 : tie.Need-cast-if1 Inv-loop μ-loop
+cast-if1 c = omega (arith, c .shared-slice-known4 .given (2 * at-loop .loop .v + 1))
+  where
+    at-loop : tie.At-loop Inv-loop μ-loop
+    at-loop = search
+
+slice-read-start : tie.Need-slice-read-start Inv-loop μ-loop
+slice-read-start c = omega (arith, start .pre .0 .vs-room, at-loop .loop .inv .size)
+  where
+    at-loop : tie.At-loop Inv-loop μ-loop
+    at-loop = search
+
+    start : tie.Start Inv-loop μ-loop
+    start = let c = at-loop in search
+
+slice-read-len : tie.Need-slice-read-len Inv-loop μ-loop
+slice-read-len c = omega (arith, start .pre .0 .vs-room, at-loop .loop .inv .size)
+  where
+    at-loop : tie.At-loop Inv-loop μ-loop
+    at-loop = search
+
+    start : tie.Start Inv-loop μ-loop
+    start = let c = at-loop in search
+
+returns : tie.Need-returns Inv-loop μ-loop
+returns c =
+    let at-loop : tie.At-loop Inv-loop μ-loop = search in
+    let start : tie.Start Inv-loop μ-loop = search in
+    trimming-end (start .pre .0) (at-loop .loop .inv) (c .loop-test .left)
 
 pub additional-sequences-spec : {M : Type 1} → statement M
 additional-sequences-spec =
@@ -34,19 +119,19 @@ additional-sequences-spec =
     Inv-loop
     μ-loop
     (λ c. trimming-start)
-    (λ c. omega (arith, c .before .before .before .before .before .before .pre .1 .heads-room))
-    (λ c. omega (arith, c .before .before .before .before .before .before .pre .1 .heads-room))
-    (λ c. omega (arith, c .before .before .before .before .before .before .pre .1 .heads-room))
-    (λ c. omega (arith, c .before .before .before .before .before .before .pre .1 .heads-room))
-    (λ c. omega (arith, c .before .before .before .before .before .before .before .pre .1 .heads-room))
-    (λ c. omega (arith, c .shared-slice-known4 .given (2 * c .before .before .loop .v + 1)))
-    (λ c. omega (arith, c .before .before .before .before .before .before .before .before .pre .1 .heads-room))
-    (λ c. omega (arith, c .before .before .before .before .before .before .before .before .pre .1 .heads-room))
-    (λ c. omega (arith, c .before .before .before .before .before .before .before .before .before .pre .0 .vs-room, c .before .before .before .before .loop .inv .size))
-    (λ c. omega (arith, c .before .before .before .before .before .before .before .before .before .pre .1 .heads-room))
-    (λ c. omega (arith, c .before .before .before .before .before .before .before .before .before .pre .1 .heads-room))
-    (λ c. omega (arith, c .before .before .before .before .before .before .before .before .before .pre .1 .heads-room))
-    (λ c. omega (arith, c .before .before .before .before .before .before .before .before .before .before .pre .0 .vs-room, c .before .before .before .before .before .loop .inv .size))
+    (λ c. let start : tie.Start Inv-loop μ-loop = search in omega (arith, start .pre .1 .heads-room))
+    (λ c. let start : tie.Start Inv-loop μ-loop = search in omega (arith, start .pre .1 .heads-room))
+    (λ c. let start : tie.Start Inv-loop μ-loop = search in omega (arith, start .pre .1 .heads-room))
+    (λ c. let start : tie.Start Inv-loop μ-loop = search in omega (arith, start .pre .1 .heads-room))
+    (λ c. let start : tie.Start Inv-loop μ-loop = search in omega (arith, start .pre .1 .heads-room))
+    cast-if1
+    (λ c. let start : tie.Start Inv-loop μ-loop = search in omega (arith, start .pre .1 .heads-room))
+    (λ c. let start : tie.Start Inv-loop μ-loop = search in omega (arith, start .pre .1 .heads-room))
+    slice-read-start
+    (λ c. let start : tie.Start Inv-loop μ-loop = search in omega (arith, start .pre .1 .heads-room))
+    (λ c. let start : tie.Start Inv-loop μ-loop = search in omega (arith, start .pre .1 .heads-room))
+    (λ c. let start : tie.Start Inv-loop μ-loop = search in omega (arith, start .pre .1 .heads-room))
+    slice-read-len
     sub-put-vertex
     add-put-vertex
     put-vertex-requires
@@ -54,5 +139,5 @@ additional-sequences-spec =
     loop-again
     (λ c. omega arith)
     loop-again-2
-    (λ c. c .before .loop .inv .size)
-    (λ c. trimming-end (c .before .before .before .before .before .before .pre .0) (c .before .loop .inv) (c .loop-test .left)))
+    (λ c. let at-loop : tie.At-loop Inv-loop μ-loop = search in at-loop .loop .inv .size)
+    returns)

@@ -12,22 +12,107 @@ abbrev μ-loop : tie.MeasureT-loop
 μ-loop es order m out₀ i₀ out i = m - i
 
 edge-to-requires : tie.Need-edge-to-requires Inv-loop μ-loop
-edge-to-requires c κs = omega (arith, c .before .before .before .before .before .before .before .pre .numbers .below _ (c .before .before .loop-test .taken), c .before .before .before .before .before .before .before .pre .es-room)
+edge-to-requires c κs =
+    omega (arith, start .pre .numbers .below _ (at-loop-test .loop-test .taken), start .pre .es-room)
+  where
+    at-loop-test : tie.In-loop Inv-loop μ-loop
+    at-loop-test = search
+
+    start : tie.Start Inv-loop μ-loop
+    start = let c = at-loop-test in search
 
 edge-support-requires : tie.Need-edge-support-requires Inv-loop μ-loop
-edge-support-requires c κs = omega (arith, c .before .before .before .before .before .before .before .before .pre .numbers .below _ (c .before .before .before .loop-test .taken), c .before .before .before .before .before .before .before .before .pre .es-room)
+edge-support-requires c κs =
+    omega (arith, start .pre .numbers .below _ (at-loop-test .loop-test .taken), start .pre .es-room)
+  where
+    at-loop-test : tie.In-loop Inv-loop μ-loop
+    at-loop-test = search
+
+    start : tie.Start Inv-loop μ-loop
+    start = let c = at-loop-test in search
 
 edge-flag-requires : tie.Need-edge-flag-requires Inv-loop μ-loop
-edge-flag-requires c κs = omega (arith, c .before .before .before .before .before .before .before .before .before .pre .numbers .below _ (c .before .before .before .before .loop-test .taken), c .before .before .before .before .before .before .before .before .before .pre .es-room)
+edge-flag-requires c κs =
+    omega (arith, start .pre .numbers .below _ (at-loop-test .loop-test .taken), start .pre .es-room)
+  where
+    at-loop-test : tie.In-loop Inv-loop μ-loop
+    at-loop-test = search
+
+    start : tie.Start Inv-loop μ-loop
+    start = let c = at-loop-test in search
 
 put-edge-requires : tie.Need-put-edge-requires Inv-loop μ-loop
-put-edge-requires c κs = omega (arith, c .before .before .before .before .before .before .before .before .before .before .before .pre .out-room, c .before .before .before .before .before .before .before .loop .inv .len, c .before .before .before .before .before .before .loop-test .taken)
+put-edge-requires c κs = omega (arith, start .pre .out-room, at-loop .loop .inv .len, at-loop-test .loop-test .taken)
+  where
+    at-loop-test : tie.In-loop Inv-loop μ-loop
+    at-loop-test = search
+
+    at-loop : tie.At-loop Inv-loop μ-loop
+    at-loop = let c = at-loop-test in search
+
+    start : tie.Start Inv-loop μ-loop
+    start = let c = at-loop in search
 
 add-i : tie.Need-add-i Inv-loop μ-loop
-add-i c = omega (arith, c .before .before .before .before .before .before .before .before .before .before .before .before .before .before .pre .numbers .room, c .before .before .before .before .before .before .before .before .before .loop-test .taken)
+add-i c = omega (arith, start .pre .numbers .room, at-loop-test .loop-test .taken)
+  where
+    at-loop-test : tie.In-loop Inv-loop μ-loop
+    at-loop-test = search
+
+    start : tie.Start Inv-loop μ-loop
+    start = let c = at-loop-test in search
 
 loop-again : tie.Need-loop-again Inv-loop μ-loop
-loop-again c = copying-more (c .before .before .before .before .before .before .before .before .before .before .loop .inv) (c .before .before .before .before .before .before .before .before .before .before .before .before .before .before .pre .out-room) (c .before .before .before .before .before .before .before .before .before .loop-test .taken) (c .before .before .before .before .before .before .before .edge-from .ensures) (c .before .before .before .before .before .before .edge-to .ensures) (c .before .before .before .before .before .edge-support .ensures) (c .before .before .before .before .edge-flag .ensures) (c .before .before .put-edge .ensures)
+loop-again c =
+    copying-more
+    (at-loop .loop .inv)
+    (start .pre .out-room)
+    (at-loop-test .loop-test .taken)
+    (at-edge-from .edge-from .ensures)
+    (at-edge-to .edge-to .ensures)
+    (at-edge-support .edge-support .ensures)
+    (at-edge-flag .edge-flag .ensures)
+    (at-put-edge .put-edge .ensures)
+  where
+    at-put-edge : tie.After-put-edge Inv-loop μ-loop
+    at-put-edge = search
+
+    at-edge-flag : tie.After-edge-flag Inv-loop μ-loop
+    at-edge-flag = let c = at-put-edge in search
+
+    at-edge-support : tie.After-edge-support Inv-loop μ-loop
+    at-edge-support = let c = at-edge-flag in search
+
+    at-edge-to : tie.After-edge-to Inv-loop μ-loop
+    at-edge-to = let c = at-edge-support in search
+
+    at-edge-from : tie.After-edge-from Inv-loop μ-loop
+    at-edge-from = let c = at-edge-to in search
+
+    at-loop-test : tie.In-loop Inv-loop μ-loop
+    at-loop-test = let c = at-edge-from in search
+
+    at-loop : tie.At-loop Inv-loop μ-loop
+    at-loop = let c = at-loop-test in search
+
+    start : tie.Start Inv-loop μ-loop
+    start = let c = at-loop in search
+
+cast-e : tie.Need-cast-e Inv-loop μ-loop
+cast-e c = omega (arith, c .shared-slice-known3 .given (at-loop .loop .i))
+  where
+    at-loop : tie.At-loop Inv-loop μ-loop
+    at-loop = search
+
+edge-from-requires : tie.Need-edge-from-requires Inv-loop μ-loop
+edge-from-requires c κs =
+    omega (arith, start .pre .numbers .below _ (at-loop-test .loop-test .taken), start .pre .es-room)
+  where
+    at-loop-test : tie.In-loop Inv-loop μ-loop
+    at-loop-test = search
+
+    start : tie.Start Inv-loop μ-loop
+    start = let c = at-loop-test in search
 
 pub copy-edges-spec : {M : Type 1} → statement M
 copy-edges-spec =
@@ -36,16 +121,16 @@ copy-edges-spec =
     Inv-loop
     μ-loop
     (λ c. copying-start)
-    (λ c. omega (arith, c .before .before .before .before .before .pre .numbers .room))
-    (λ c. omega (arith, c .before .before .before .before .before .before .pre .numbers .room))
-    (λ c. omega (arith, c .shared-slice-known3 .given (c .before .before .loop .i)))
-    (λ c κs. omega (arith, c .before .before .before .before .before .before .pre .numbers .below _ (c .before .loop-test .taken), c .before .before .before .before .before .before .pre .es-room))
+    (λ c. let start : tie.Start Inv-loop μ-loop = search in omega (arith, start .pre .numbers .room))
+    (λ c. let start : tie.Start Inv-loop μ-loop = search in omega (arith, start .pre .numbers .room))
+    cast-e
+    edge-from-requires
     edge-to-requires
     edge-support-requires
     edge-flag-requires
     put-edge-requires
     add-i
-    (λ c. omega (arith, c .before .before .before .before .before .before .before .before .before .loop-test .taken))
+    (λ c. let at-loop-test : tie.In-loop Inv-loop μ-loop = search in omega (arith, at-loop-test .loop-test .taken))
     loop-again
-    (λ c. c .before .loop .inv .len)
-    (λ c. copying-end (c .before .loop .inv) (c .loop-test .left)))
+    (λ c. let at-loop : tie.At-loop Inv-loop μ-loop = search in at-loop .loop .inv .len)
+    (λ c. let at-loop : tie.At-loop Inv-loop μ-loop = search in copying-end (at-loop .loop .inv) (c .loop-test .left)))

@@ -13,7 +13,44 @@ abbrev μ-loop : tie.MeasureT-loop
 μ-loop es m n heads nexts degrees₀ v₀ degrees v = n - v
 
 cast-degrees : tie.Need-cast-degrees Inv-loop μ-loop
-cast-degrees c = omega (arith, c .degree .ensures, degree-most (endOf 1 (c .before .before .before .before .before .before .before .args .es .now)) (c .before .before .before .before .before .before .before .args .m) (c .before .before .loop .v), c .before .before .before .before .before .before .before .pre .1 .0)
+cast-degrees c =
+    omega (
+      arith,
+      c .degree .ensures,
+      degree-most (endOf 1 (start .args .es .now)) (start .args .m) (at-loop .loop .v),
+      start .pre .1 .0,
+    )
+  where
+    at-loop : tie.At-loop Inv-loop μ-loop
+    at-loop = search
+
+    start : tie.Start Inv-loop μ-loop
+    start = let c = at-loop in search
+
+mul-degrees : tie.Need-mul-degrees Inv-loop μ-loop
+mul-degrees c = omega (arith, at-loop .loop .inv .len, start .pre .1 .1)
+  where
+    at-loop : tie.At-loop Inv-loop μ-loop
+    at-loop = search
+
+    start : tie.Start Inv-loop μ-loop
+    start = let c = at-loop in search
+
+slice-write-degrees : tie.Need-slice-write-degrees Inv-loop μ-loop
+slice-write-degrees c = omega (arith, at-loop .loop .inv .len, start .pre .1 .1)
+  where
+    at-loop : tie.At-loop Inv-loop μ-loop
+    at-loop = search
+
+    start : tie.Start Inv-loop μ-loop
+    start = let c = at-loop in search
+
+loop-again : tie.Need-loop-again Inv-loop μ-loop
+loop-again c =
+    let at-loop-test : tie.In-loop Inv-loop μ-loop = search in
+    let at-loop : tie.At-loop Inv-loop μ-loop = search in
+    let start : tie.Start Inv-loop μ-loop = search in
+    counting-more (at-loop .loop .inv) (at-loop-test .loop-test .taken) (start .pre .1 .1) (c .degree .ensures)
 
 pub count-entering-spec : {M : Type 1} → statement M
 count-entering-spec =
@@ -22,12 +59,12 @@ count-entering-spec =
     Inv-loop
     μ-loop
     (λ c. counting-start)
-    (λ c κs. (c .loop-test .taken, (omega arith, c .before .before .before .before .before .before .pre .0)))
+    (λ c κs. let start : tie.Start Inv-loop μ-loop = search in (c .loop-test .taken, (omega arith, start .pre .0)))
     cast-degrees
-    (λ c. omega (arith, c .before .before .loop .inv .len, c .before .before .before .before .before .before .before .pre .1 .1))
-    (λ c. omega (arith, c .before .before .loop .inv .len, c .before .before .before .before .before .before .before .pre .1 .1))
+    mul-degrees
+    slice-write-degrees
     (λ c. omega arith)
     (λ c. omega arith)
-    (λ c. counting-more (c .before .before .loop .inv) (c .before .loop-test .taken) (c .before .before .before .before .before .before .before .pre .1 .1) (c .degree .ensures))
-    (λ c. c .before .loop .inv .len)
-    (λ c. counting-end (c .before .loop .inv) (c .loop-test .left)))
+    loop-again
+    (λ c. let at-loop : tie.At-loop Inv-loop μ-loop = search in at-loop .loop .inv .len)
+    (λ c. let at-loop : tie.At-loop Inv-loop μ-loop = search in counting-end (at-loop .loop .inv) (c .loop-test .left)))

@@ -4,7 +4,16 @@ use Prim.Native.Nat.{_+_, _*_, _-_}
 use mathlib.Core.Path.{refl}
 use lib.ListN.{getD}
 use Rattle.cycle.proofs.QueueLaws.{queue-most}
-use Rattle.cycle.proofs.PeelLaws.{Taking, taking-start, taking-pass, taking-push, taking-end, taking-later, taken-some, taken-fits}
+use Rattle.cycle.proofs.PeelLaws.{
+  Taking,
+  taking-start,
+  taking-pass,
+  taking-push,
+  taking-end,
+  taking-later,
+  taken-some,
+  taken-fits,
+}
 use Rattle.cycle.proofs.peel.Statement.{statement}
 use Rattle.cycle.proofs.peel.Tie as tie
 
@@ -15,43 +24,271 @@ abbrev μ-loop : tie.MeasureT-loop
 μ-loop es m n heads nexts degrees₀ queue₀ h queued u tail₀ e₀ degrees queue tail e = m - e
 
 mul-left : tie.Need-mul-left Inv-loop μ-loop
-mul-left c = omega (arith, c .before .before .before .before .before .before .pre .1 .0 .ends .at _ (c .before .before .loop-test .taken) .1, c .before .before .before .before .before .before .pre .1 .1 .0 .degrees-room, c .before .before .before .loop .inv .degrees-len)
+mul-left c =
+    omega (
+      arith,
+      start .pre .1 .0 .ends .at _ (at-loop-test .loop-test .taken) .1,
+      start .pre .1 .1 .0 .degrees-room,
+      at-loop .loop .inv .degrees-len,
+    )
+  where
+    at-loop-test : tie.In-loop Inv-loop μ-loop
+    at-loop-test = search
+
+    at-loop : tie.At-loop Inv-loop μ-loop
+    at-loop = let c = at-loop-test in search
+
+    start : tie.Start Inv-loop μ-loop
+    start = let c = at-loop in search
 
 slice-read-left : tie.Need-slice-read-left Inv-loop μ-loop
-slice-read-left c = omega (arith, c .before .before .before .before .before .before .before .pre .1 .0 .ends .at _ (c .before .before .before .loop-test .taken) .1, c .before .before .before .before .before .before .before .pre .1 .1 .0 .degrees-room, c .before .before .before .before .loop .inv .degrees-len)
+slice-read-left c =
+    omega (
+      arith,
+      start .pre .1 .0 .ends .at _ (at-loop-test .loop-test .taken) .1,
+      start .pre .1 .1 .0 .degrees-room,
+      at-loop .loop .inv .degrees-len,
+    )
+  where
+    at-loop-test : tie.In-loop Inv-loop μ-loop
+    at-loop-test = search
+
+    at-loop : tie.At-loop Inv-loop μ-loop
+    at-loop = let c = at-loop-test in search
+
+    start : tie.Start Inv-loop μ-loop
+    start = let c = at-loop in search
 
 sub-left : tie.Need-sub-left Inv-loop μ-loop
-sub-left c = omega (arith, taken-some (c .before .before .before .before .before .before .before .pre .1 .0) (c .before .before .before .before .loop .inv) (c .before .before .before .loop-test .taken) (c .before .before .before .before .before .before .before .pre .1 .1 .0 .degrees-room))
+sub-left c =
+    omega (
+      arith,
+      taken-some (start .pre .1 .0) (at-loop .loop .inv) (at-loop-test .loop-test .taken)
+          (start .pre .1 .1 .0 .degrees-room),
+    )
+  where
+    at-loop-test : tie.In-loop Inv-loop μ-loop
+    at-loop-test = search
+
+    at-loop : tie.At-loop Inv-loop μ-loop
+    at-loop = let c = at-loop-test in search
+
+    start : tie.Start Inv-loop μ-loop
+    start = let c = at-loop in search
 
 mul-degrees : tie.Need-mul-degrees Inv-loop μ-loop
-mul-degrees c = omega (arith, c .before .before .before .before .before .before .before .pre .1 .0 .ends .at _ (c .before .before .before .loop-test .taken) .1, c .before .before .before .before .before .before .before .pre .1 .1 .0 .degrees-room, c .before .before .before .before .loop .inv .degrees-len)
+mul-degrees c =
+    omega (
+      arith,
+      start .pre .1 .0 .ends .at _ (at-loop-test .loop-test .taken) .1,
+      start .pre .1 .1 .0 .degrees-room,
+      at-loop .loop .inv .degrees-len,
+    )
+  where
+    at-loop-test : tie.In-loop Inv-loop μ-loop
+    at-loop-test = search
+
+    at-loop : tie.At-loop Inv-loop μ-loop
+    at-loop = let c = at-loop-test in search
+
+    start : tie.Start Inv-loop μ-loop
+    start = let c = at-loop in search
 
 slice-write-degrees : tie.Need-slice-write-degrees Inv-loop μ-loop
-slice-write-degrees c = omega (arith, c .before .before .before .before .before .before .before .pre .1 .0 .ends .at _ (c .before .before .before .loop-test .taken) .1, c .before .before .before .before .before .before .before .pre .1 .1 .0 .degrees-room, c .before .before .before .before .loop .inv .degrees-len)
+slice-write-degrees c =
+    omega (
+      arith,
+      start .pre .1 .0 .ends .at _ (at-loop-test .loop-test .taken) .1,
+      start .pre .1 .1 .0 .degrees-room,
+      at-loop .loop .inv .degrees-len,
+    )
+  where
+    at-loop-test : tie.In-loop Inv-loop μ-loop
+    at-loop-test = search
+
+    at-loop : tie.At-loop Inv-loop μ-loop
+    at-loop = let c = at-loop-test in search
+
+    start : tie.Start Inv-loop μ-loop
+    start = let c = at-loop in search
 
 cast-queue : tie.Need-cast-queue Inv-loop μ-loop
-cast-queue c = omega (arith, c .before .before .before .before .before .before .before .before .pre .1 .0 .ends .at _ (c .before .before .before .before .loop-test .taken) .1, c .before .before .before .before .before .before .before .before .pre .1 .1 .0 .small)
+cast-queue c =
+    omega (arith, start .pre .1 .0 .ends .at _ (at-loop-test .loop-test .taken) .1, start .pre .1 .1 .0 .small)
+  where
+    at-loop-test : tie.In-loop Inv-loop μ-loop
+    at-loop-test = search
+
+    start : tie.Start Inv-loop μ-loop
+    start = let c = at-loop-test in search
 
 mul-queue : tie.Need-mul-queue Inv-loop μ-loop
-mul-queue c = omega (arith, taken-fits (c .before .before .before .before .before .before .before .before .pre .1 .0) (c .before .before .before .before .before .loop .inv) (c .before .before .before .before .loop-test .taken) (c .before .before .before .before .before .before .before .before .pre .1 .1 .0 .degrees-room), c .before .before .before .before .before .before .before .before .pre .1 .1 .0 .queue-room, c .before .before .before .before .before .loop .inv .queue-len)
+mul-queue c =
+    omega (
+      arith,
+      taken-fits (start .pre .1 .0) (at-loop .loop .inv) (at-loop-test .loop-test .taken)
+          (start .pre .1 .1 .0 .degrees-room),
+      start .pre .1 .1 .0 .queue-room,
+      at-loop .loop .inv .queue-len,
+    )
+  where
+    at-loop-test : tie.In-loop Inv-loop μ-loop
+    at-loop-test = search
+
+    at-loop : tie.At-loop Inv-loop μ-loop
+    at-loop = let c = at-loop-test in search
+
+    start : tie.Start Inv-loop μ-loop
+    start = let c = at-loop in search
 
 slice-write-queue : tie.Need-slice-write-queue Inv-loop μ-loop
-slice-write-queue c = omega (arith, taken-fits (c .before .before .before .before .before .before .before .before .pre .1 .0) (c .before .before .before .before .before .loop .inv) (c .before .before .before .before .loop-test .taken) (c .before .before .before .before .before .before .before .before .pre .1 .1 .0 .degrees-room), c .before .before .before .before .before .before .before .before .pre .1 .1 .0 .queue-room, c .before .before .before .before .before .loop .inv .queue-len)
+slice-write-queue c =
+    omega (
+      arith,
+      taken-fits (start .pre .1 .0) (at-loop .loop .inv) (at-loop-test .loop-test .taken)
+          (start .pre .1 .1 .0 .degrees-room),
+      start .pre .1 .1 .0 .queue-room,
+      at-loop .loop .inv .queue-len,
+    )
+  where
+    at-loop-test : tie.In-loop Inv-loop μ-loop
+    at-loop-test = search
+
+    at-loop : tie.At-loop Inv-loop μ-loop
+    at-loop = let c = at-loop-test in search
+
+    start : tie.Start Inv-loop μ-loop
+    start = let c = at-loop in search
 
 add-tail : tie.Need-add-tail Inv-loop μ-loop
-add-tail c = omega (arith, taken-fits (c .before .before .before .before .before .before .before .before .pre .1 .0) (c .before .before .before .before .before .loop .inv) (c .before .before .before .before .loop-test .taken) (c .before .before .before .before .before .before .before .before .pre .1 .1 .0 .degrees-room), c .before .before .before .before .before .before .before .before .pre .1 .1 .0 .queue-room)
+add-tail c =
+    omega (
+      arith,
+      taken-fits (start .pre .1 .0) (at-loop .loop .inv) (at-loop-test .loop-test .taken)
+          (start .pre .1 .1 .0 .degrees-room),
+      start .pre .1 .1 .0 .queue-room,
+    )
+  where
+    at-loop-test : tie.In-loop Inv-loop μ-loop
+    at-loop-test = search
+
+    at-loop : tie.At-loop Inv-loop μ-loop
+    at-loop = let c = at-loop-test in search
+
+    start : tie.Start Inv-loop μ-loop
+    start = let c = at-loop in search
 
 loop-less : tie.Need-loop-less Inv-loop μ-loop
-loop-less c = omega (arith, taking-later (c .before .before .before .before .before .before .before .before .pre .1 .0) (c .before .before .before .before .before .loop .inv) (c .before .before .before .before .loop-test .taken))
+loop-less c = omega (arith, taking-later (start .pre .1 .0) (at-loop .loop .inv) (at-loop-test .loop-test .taken))
+  where
+    at-loop-test : tie.In-loop Inv-loop μ-loop
+    at-loop-test = search
+
+    at-loop : tie.At-loop Inv-loop μ-loop
+    at-loop = let c = at-loop-test in search
+
+    start : tie.Start Inv-loop μ-loop
+    start = let c = at-loop in search
 
 loop-again : tie.Need-loop-again Inv-loop μ-loop
-loop-again c = taking-push (c .before .before .before .before .before .before .before .before .pre .1 .0) (c .before .before .before .before .before .loop .inv) (c .before .before .before .before .loop-test .taken) (c .before .before .before .before .before .before .before .before .pre .1 .1 .0 .degrees-room) (c .before .before .before .before .before .before .before .before .pre .1 .1 .0 .queue-room) (c .if1 .taken) refl
+loop-again c =
+    let at-loop-test : tie.In-loop Inv-loop μ-loop = search in
+    let at-loop : tie.At-loop Inv-loop μ-loop = search in
+    let start : tie.Start Inv-loop μ-loop = search in
+    taking-push
+    (start .pre .1 .0)
+    (at-loop .loop .inv)
+    (at-loop-test .loop-test .taken)
+    (start .pre .1 .1 .0 .degrees-room)
+    (start .pre .1 .1 .0 .queue-room)
+    (c .if1 .taken) refl
 
 loop-less-2 : tie.Need-loop-less-2 Inv-loop μ-loop
-loop-less-2 c = omega (arith, taking-later (c .before .before .before .before .before .before .before .before .pre .1 .0) (c .before .before .before .before .before .loop .inv) (c .before .before .before .before .loop-test .taken))
+loop-less-2 c = omega (arith, taking-later (start .pre .1 .0) (at-loop .loop .inv) (at-loop-test .loop-test .taken))
+  where
+    at-loop-test : tie.In-loop Inv-loop μ-loop
+    at-loop-test = search
+
+    at-loop : tie.At-loop Inv-loop μ-loop
+    at-loop = let c = at-loop-test in search
+
+    start : tie.Start Inv-loop μ-loop
+    start = let c = at-loop in search
 
 loop-again-2 : tie.Need-loop-again-2 Inv-loop μ-loop
-loop-again-2 c = taking-pass (c .before .before .before .before .before .before .before .before .pre .1 .0) (c .before .before .before .before .before .loop .inv) (c .before .before .before .before .loop-test .taken) (c .before .before .before .before .before .before .before .before .pre .1 .1 .0 .degrees-room) (c .if1 .left) refl
+loop-again-2 c =
+    let at-loop-test : tie.In-loop Inv-loop μ-loop = search in
+    let at-loop : tie.At-loop Inv-loop μ-loop = search in
+    let start : tie.Start Inv-loop μ-loop = search in
+    taking-pass
+    (start .pre .1 .0)
+    (at-loop .loop .inv)
+    (at-loop-test .loop-test .taken)
+    (start .pre .1 .1 .0 .degrees-room)
+    (c .if1 .left) refl
+
+slice-read-u : tie.Need-slice-read-u Inv-loop μ-loop
+slice-read-u c = omega (arith, queue-most (start .pre .1 .1 .1 .queued), start .pre .1 .1 .0 .queue-room)
+  where
+    start : tie.Start Inv-loop μ-loop
+    start = search
+
+cast-u : tie.Need-cast-u Inv-loop μ-loop
+cast-u c =
+    omega (arith, start .pre .1 .1 .1 .queued .vertex (start .args .h) (start .pre .0), start .pre .1 .1 .0 .small)
+  where
+    start : tie.Start Inv-loop μ-loop
+    start = search
+
+mul-e : tie.Need-mul-e Inv-loop μ-loop
+mul-e c =
+    omega (arith, start .pre .1 .1 .1 .queued .vertex (start .args .h) (start .pre .0), start .pre .1 .0 .heads-room)
+  where
+    start : tie.Start Inv-loop μ-loop
+    start = search
+
+mul-e-2 : tie.Need-mul-e-2 Inv-loop μ-loop
+mul-e-2 c =
+    omega (arith, start .pre .1 .1 .1 .queued .vertex (start .args .h) (start .pre .0), start .pre .1 .0 .heads-room)
+  where
+    start : tie.Start Inv-loop μ-loop
+    start = search
+
+shared-slice-read-e : tie.Need-shared-slice-read-e Inv-loop μ-loop
+shared-slice-read-e c =
+    omega (arith, start .pre .1 .1 .1 .queued .vertex (start .args .h) (start .pre .0), start .pre .1 .0 .heads-room)
+  where
+    start : tie.Start Inv-loop μ-loop
+    start = search
+
+cast-e : tie.Need-cast-e Inv-loop μ-loop
+cast-e c = omega (arith, c .shared-slice-known .given (2 * getD (start .args .queue .now) (start .args .h) 0))
+  where
+    start : tie.Start Inv-loop μ-loop
+    start = search
+
+loop-holds : tie.Need-loop-holds Inv-loop μ-loop
+loop-holds c =
+    let start : tie.Start Inv-loop μ-loop = search in
+    taking-start (start .pre .1 .0) (start .pre .0) (start .pre .1 .1 .1) refl refl
+
+cast-e-2 : tie.Need-cast-e-2 Inv-loop μ-loop
+cast-e-2 c = omega (arith, c .shared-slice-known2 .given (2 * at-loop .loop .e))
+  where
+    at-loop : tie.At-loop Inv-loop μ-loop
+    at-loop = search
+
+cast-to : tie.Need-cast-to Inv-loop μ-loop
+cast-to c = omega (arith, c .shared-slice-known3 .given (4 * at-loop .loop .e + 1))
+  where
+    at-loop : tie.At-loop Inv-loop μ-loop
+    at-loop = search
+
+returns : tie.Need-returns Inv-loop μ-loop
+returns c =
+    let at-loop : tie.At-loop Inv-loop μ-loop = search in
+    let start : tie.Start Inv-loop μ-loop = search in
+    taking-end (start .pre .1 .0) (at-loop .loop .inv) (c .loop-test .left)
 
 pub peel-spec : {M : Type 1} → statement M
 peel-spec =
@@ -60,22 +297,22 @@ peel-spec =
     Inv-loop
     μ-loop
     (λ c. omega (arith, queue-most (c .pre .1 .1 .1 .queued), c .pre .1 .1 .0 .queue-room))
-    (λ c. omega (arith, queue-most (c .before .pre .1 .1 .1 .queued), c .before .pre .1 .1 .0 .queue-room))
-    (λ c. omega (arith, c .before .pre .1 .1 .1 .queued .vertex (c .before .args .h) (c .before .pre .0), c .before .pre .1 .1 .0 .small))
-    (λ c. omega (arith, c .before .pre .1 .1 .1 .queued .vertex (c .before .args .h) (c .before .pre .0), c .before .pre .1 .0 .heads-room))
-    (λ c. omega (arith, c .before .pre .1 .1 .1 .queued .vertex (c .before .args .h) (c .before .pre .0), c .before .pre .1 .0 .heads-room))
-    (λ c. omega (arith, c .before .before .pre .1 .1 .1 .queued .vertex (c .before .before .args .h) (c .before .before .pre .0), c .before .before .pre .1 .0 .heads-room))
-    (λ c. omega (arith, c .shared-slice-known .given (2 * getD (c .before .before .args .queue .now) (c .before .before .args .h) 0)))
-    (λ c. taking-start (c .before .before .pre .1 .0) (c .before .before .pre .0) (c .before .before .pre .1 .1 .1) refl refl)
-    (λ c. omega (arith, c .before .before .before .before .pre .1 .0 .nexts-room))
-    (λ c. omega (arith, c .before .before .before .before .pre .1 .0 .nexts-room))
-    (λ c. omega (arith, c .before .before .before .before .before .pre .1 .0 .nexts-room))
-    (λ c. omega (arith, c .shared-slice-known2 .given (2 * c .before .before .loop .e)))
-    (λ c. omega (arith, c .before .before .before .before .before .pre .1 .0 .room))
-    (λ c. omega (arith, c .before .before .before .before .before .pre .1 .0 .room))
-    (λ c. omega (arith, c .before .before .before .before .before .pre .1 .0 .room))
-    (λ c. omega (arith, c .before .before .before .before .before .before .pre .1 .0 .room))
-    (λ c. omega (arith, c .shared-slice-known3 .given (4 * c .before .before .before .loop .e + 1)))
+    slice-read-u
+    cast-u
+    mul-e
+    mul-e-2
+    shared-slice-read-e
+    cast-e
+    loop-holds
+    (λ c. let start : tie.Start Inv-loop μ-loop = search in omega (arith, start .pre .1 .0 .nexts-room))
+    (λ c. let start : tie.Start Inv-loop μ-loop = search in omega (arith, start .pre .1 .0 .nexts-room))
+    (λ c. let start : tie.Start Inv-loop μ-loop = search in omega (arith, start .pre .1 .0 .nexts-room))
+    cast-e-2
+    (λ c. let start : tie.Start Inv-loop μ-loop = search in omega (arith, start .pre .1 .0 .room))
+    (λ c. let start : tie.Start Inv-loop μ-loop = search in omega (arith, start .pre .1 .0 .room))
+    (λ c. let start : tie.Start Inv-loop μ-loop = search in omega (arith, start .pre .1 .0 .room))
+    (λ c. let start : tie.Start Inv-loop μ-loop = search in omega (arith, start .pre .1 .0 .room))
+    cast-to
     mul-left
     slice-read-left
     sub-left
@@ -89,6 +326,6 @@ peel-spec =
     loop-again
     loop-less-2
     loop-again-2
-    (λ c. c .before .loop .inv .degrees-len)
-    (λ c. c .before .loop .inv .queue-len)
-    (λ c. taking-end (c .before .before .before .before .pre .1 .0) (c .before .loop .inv) (c .loop-test .left)))
+    (λ c. let at-loop : tie.At-loop Inv-loop μ-loop = search in at-loop .loop .inv .degrees-len)
+    (λ c. let at-loop : tie.At-loop Inv-loop μ-loop = search in at-loop .loop .inv .queue-len)
+    returns)

@@ -11,6 +11,46 @@ Inv-loop n degrees queue₀ tail₀ v₀ queue tail v = Sourcing n degrees queue
 abbrev μ-loop : tie.MeasureT-loop
 μ-loop n degrees queue₀ tail₀ v₀ queue tail v = n - v
 
+mul-queue : tie.Need-mul-queue Inv-loop μ-loop
+mul-queue c = omega (arith, start .pre .queue-room, at-loop .loop .inv .low, at-loop .loop .inv .len)
+  where
+    at-loop : tie.At-loop Inv-loop μ-loop
+    at-loop = search
+
+    start : tie.Start Inv-loop μ-loop
+    start = let c = at-loop in search
+
+slice-write-queue : tie.Need-slice-write-queue Inv-loop μ-loop
+slice-write-queue c = omega (arith, start .pre .queue-room, at-loop .loop .inv .low, at-loop .loop .inv .len)
+  where
+    at-loop : tie.At-loop Inv-loop μ-loop
+    at-loop = search
+
+    start : tie.Start Inv-loop μ-loop
+    start = let c = at-loop in search
+
+add-tail : tie.Need-add-tail Inv-loop μ-loop
+add-tail c = omega (arith, start .pre .queue-room, at-loop .loop .inv .low, at-loop .loop .inv .len)
+  where
+    at-loop : tie.At-loop Inv-loop μ-loop
+    at-loop = search
+
+    start : tie.Start Inv-loop μ-loop
+    start = let c = at-loop in search
+
+loop-again : tie.Need-loop-again Inv-loop μ-loop
+loop-again c =
+    let at-loop-test : tie.In-loop Inv-loop μ-loop = search in
+    let at-loop : tie.At-loop Inv-loop μ-loop = search in
+    let start : tie.Start Inv-loop μ-loop = search in
+    sourcing-push (at-loop .loop .inv) (at-loop-test .loop-test .taken) (start .pre .queue-room) (c .if1 .taken)
+
+loop-again-2 : tie.Need-loop-again-2 Inv-loop μ-loop
+loop-again-2 c =
+    let at-loop-test : tie.In-loop Inv-loop μ-loop = search in
+    let at-loop : tie.At-loop Inv-loop μ-loop = search in
+    sourcing-pass (at-loop .loop .inv) (at-loop-test .loop-test .taken) (c .if1 .left)
+
 pub queue-sources-spec : {M : Type 1} → statement M
 queue-sources-spec =
     tie.close
@@ -19,15 +59,15 @@ queue-sources-spec =
     μ-loop
     (λ c. sourcing-start)
     (λ c. omega arith)
-    (λ c. omega (arith, c .before .before .pre .degrees-room))
-    (λ c. omega (arith, c .before .before .before .pre .degrees-room))
-    (λ c. omega (arith, c .before .before .before .before .pre .small))
-    (λ c. omega (arith, c .before .before .before .before .pre .queue-room, c .before .before .before .loop .inv .low, c .before .before .before .loop .inv .len))
-    (λ c. omega (arith, c .before .before .before .before .pre .queue-room, c .before .before .before .loop .inv .low, c .before .before .before .loop .inv .len))
-    (λ c. omega (arith, c .before .before .before .before .pre .queue-room, c .before .before .before .loop .inv .low, c .before .before .before .loop .inv .len))
+    (λ c. let start : tie.Start Inv-loop μ-loop = search in omega (arith, start .pre .degrees-room))
+    (λ c. let start : tie.Start Inv-loop μ-loop = search in omega (arith, start .pre .degrees-room))
+    (λ c. let start : tie.Start Inv-loop μ-loop = search in omega (arith, start .pre .small))
+    mul-queue
+    slice-write-queue
+    add-tail
     (λ c. omega arith)
-    (λ c. sourcing-push (c .before .before .before .loop .inv) (c .before .before .loop-test .taken) (c .before .before .before .before .pre .queue-room) (c .if1 .taken))
+    loop-again
     (λ c. omega arith)
-    (λ c. sourcing-pass (c .before .before .before .loop .inv) (c .before .before .loop-test .taken) (c .if1 .left))
-    (λ c. c .before .loop .inv .len)
-    (λ c. sourcing-end (c .before .loop .inv) (c .loop-test .left)))
+    loop-again-2
+    (λ c. let at-loop : tie.At-loop Inv-loop μ-loop = search in at-loop .loop .inv .len)
+    (λ c. let at-loop : tie.At-loop Inv-loop μ-loop = search in sourcing-end (at-loop .loop .inv) (c .loop-test .left)))

@@ -17,13 +17,70 @@ abbrev μ-loop : tie.MeasureT-loop
 μ-loop es m n heads nexts v b e₀ e = m - e
 
 returns : tie.Need-returns Inv-loop μ-loop
-returns c = testing-fails (c .before .before .before .before .before .before .before .before .pre .1 .index 0 (omega arith)) _ (c .before .before .before .loop .inv) (c .before .before .loop-test .taken) (ne-eqb _ _ (λ q. c .if1 .taken (c .before .edge-to .ensures ∙ sym q)))
+returns c =
+    testing-fails
+    (start .pre .1 .index 0 (omega arith)) _
+    (at-loop .loop .inv)
+    (at-loop-test .loop-test .taken)
+    (ne-eqb _ _ (λ q. c .if1 .taken (at-edge-to .edge-to .ensures ∙ sym q)))
+  where
+    at-edge-to : tie.After-edge-to Inv-loop μ-loop
+    at-edge-to = search
+
+    at-loop-test : tie.In-loop Inv-loop μ-loop
+    at-loop-test = let c = at-edge-to in search
+
+    at-loop : tie.At-loop Inv-loop μ-loop
+    at-loop = let c = at-loop-test in search
+
+    start : tie.Start Inv-loop μ-loop
+    start = let c = at-loop in search
 
 loop-less : tie.Need-loop-less Inv-loop μ-loop
-loop-less c = omega (arith, enter-on (c .before .before .before .before .before .before .before .before .before .pre .1) 0 0 (c .before .before .before .before .loop .e) (c .before .before .before .loop-test .taken))
+loop-less c = omega (arith, enter-on (start .pre .1) 0 0 (at-loop .loop .e) (at-loop-test .loop-test .taken))
+  where
+    at-loop-test : tie.In-loop Inv-loop μ-loop
+    at-loop-test = search
+
+    at-loop : tie.At-loop Inv-loop μ-loop
+    at-loop = let c = at-loop-test in search
+
+    start : tie.Start Inv-loop μ-loop
+    start = let c = at-loop in search
 
 loop-again : tie.Need-loop-again Inv-loop μ-loop
-loop-again c = enter-more (c .before .before .before .before .before .before .before .before .before .pre .1) _ _ _ (c .before .before .before .before .loop .inv) (c .before .before .before .loop-test .taken) (sym (c .before .if1 .left) ∙ c .before .before .edge-to .ensures)
+loop-again c =
+    let at-if1 : tie.Else1 Inv-loop μ-loop = search in
+    let at-edge-to : tie.After-edge-to Inv-loop μ-loop = search in
+    let at-loop-test : tie.In-loop Inv-loop μ-loop = search in
+    let at-loop : tie.At-loop Inv-loop μ-loop = search in
+    let start : tie.Start Inv-loop μ-loop = search in
+    enter-more
+    (start .pre .1) _ _ _
+    (at-loop .loop .inv)
+    (at-loop-test .loop-test .taken)
+    (sym (at-if1 .if1 .left) ∙ at-edge-to .edge-to .ensures)
+
+cast-e : tie.Need-cast-e Inv-loop μ-loop
+cast-e c = omega (arith, c .shared-slice-known4 .given (2 * start .args .v))
+  where
+    start : tie.Start Inv-loop μ-loop
+    start = search
+
+cast-e-2 : tie.Need-cast-e-2 Inv-loop μ-loop
+cast-e-2 c = omega (arith, c .shared-slice-known5 .given (2 * at-loop .loop .e))
+  where
+    at-loop : tie.At-loop Inv-loop μ-loop
+    at-loop = search
+
+returns-2 : tie.Need-returns-2 Inv-loop μ-loop
+returns-2 c = testing-end (start .pre .1 .index 0 (omega arith)) _ (at-loop .loop .inv) (c .loop-test .left)
+  where
+    at-loop : tie.At-loop Inv-loop μ-loop
+    at-loop = search
+
+    start : tie.Start Inv-loop μ-loop
+    start = let c = at-loop in search
 
 pub all-enter-spec : {M : Type 1} → statement M
 all-enter-spec =
@@ -34,14 +91,14 @@ all-enter-spec =
     (λ c. omega arith)
     (λ c. omega arith)
     (λ c. omega arith)
-    (λ c. omega (arith, c .shared-slice-known4 .given (2 * c .before .before .before .before .args .v)))
-    (λ c. enter-start (c .before .before .before .before .pre .1) _ _ (c .before .before .before .before .pre .0))
-    (λ c κs. omega (arith, c .before .before .before .before .before .before .pre .1 .room))
+    cast-e
+    (λ c. let start : tie.Start Inv-loop μ-loop = search in enter-start (start .pre .1) _ _ (start .pre .0))
+    (λ c κs. let start : tie.Start Inv-loop μ-loop = search in omega (arith, start .pre .1 .room))
     returns
     (λ c. omega arith)
     (λ c. omega arith)
     (λ c. omega arith)
-    (λ c. omega (arith, c .shared-slice-known5 .given (2 * c .before .before .before .before .loop .e)))
+    cast-e-2
     loop-less
     loop-again
-    (λ c. testing-end (c .before .before .before .before .before .before .pre .1 .index 0 (omega arith)) _ (c .before .loop .inv) (c .loop-test .left)))
+    returns-2)

@@ -17,6 +17,44 @@ Inv-loop es m n heads nexts nodes c b i₀ i = (i ≤ c) × ((k : ℕ) → k < i
 abbrev μ-loop : tie.MeasureT-loop
 μ-loop es m n heads nexts nodes c b i₀ i = c - i
 
+cast-is-middle : tie.Need-cast-is-middle Inv-loop μ-loop
+cast-is-middle c = omega (arith, c .shared-slice-known5 .given (at-loop .loop .i))
+  where
+    at-loop : tie.At-loop Inv-loop μ-loop
+    at-loop = search
+
+is-middle-requires : tie.Need-is-middle-requires Inv-loop μ-loop
+is-middle-requires c κs =
+    let at-loop-test : tie.In-loop Inv-loop μ-loop = search in
+    let start : tie.Start Inv-loop μ-loop = search in
+    (start .pre .0 .at _ (at-loop-test .loop-test .taken), start .pre .1)
+
+returns : tie.Need-returns Inv-loop μ-loop
+returns c =
+    let at-is-middle : tie.After-is-middle Inv-loop μ-loop = search in
+    let at-loop-test : tie.In-loop Inv-loop μ-loop = search in
+    sym
+    (allOf-no _ _ _ _ (at-loop-test .loop-test .taken)
+    (sym (at-is-middle .is-middle .ensures) ∙ not-true _ (c .if1 .taken)))
+
+loop-again : tie.Need-loop-again Inv-loop μ-loop
+loop-again c = (
+  omega arith,
+  below-more _ _ (at-loop .loop .inv .1) (sym (at-is-middle .is-middle .ensures) ∙ not-false _ (c .if1 .left)),
+)
+  where
+    at-is-middle : tie.After-is-middle Inv-loop μ-loop
+    at-is-middle = search
+
+    at-loop : tie.At-loop Inv-loop μ-loop
+    at-loop = let c = at-is-middle in search
+
+returns-2 : tie.Need-returns-2 Inv-loop μ-loop
+returns-2 c = sym (allOf-yes _ _ _ (λ k h. at-loop .loop .inv .1 k (omega arith)))
+  where
+    at-loop : tie.At-loop Inv-loop μ-loop
+    at-loop = search
+
 pub all-middles-spec : {M : Type 1} → statement M
 all-middles-spec =
     tie.close
@@ -26,10 +64,10 @@ all-middles-spec =
     (λ c. (omega arith, below-none _))
     (λ c. omega arith)
     (λ c. omega arith)
-    (λ c. omega (arith, c .shared-slice-known5 .given (c .before .before .loop .i)))
-    (λ c κs. (c .before .before .before .before .before .before .before .pre .0 .at _ (c .before .loop-test .taken), c .before .before .before .before .before .before .before .pre .1))
-    (λ c. sym (allOf-no _ _ _ _ (c .before .before .before .loop-test .taken) (sym (c .before .is-middle .ensures) ∙ not-true _ (c .if1 .taken))))
+    cast-is-middle
+    is-middle-requires
+    returns
     (λ c. omega arith)
     (λ c. omega arith)
-    (λ c. (omega arith, below-more _ _ (c .before .before .before .before .loop .inv .1) (sym (c .before .is-middle .ensures) ∙ not-false _ (c .if1 .left))))
-    (λ c. sym (allOf-yes _ _ _ (λ k h. c .before .loop .inv .1 k (omega arith)))))
+    loop-again
+    returns-2)

@@ -9,13 +9,28 @@ use Rattle.diamond.proofs.is_diamond.Statement.{statement}
 use Rattle.diamond.proofs.is_diamond.Tie as tie
 
 returns-3 : tie.Need-returns-3
-returns-3 c = diamond-is (c .before .before .before .if1 .left) (sym (c .before .before .all-middles .ensures) ∙ not-false _ (c .before .if2 .left)) (ap (λ (x : ℕ). eqb x (c .before .before .before .before .before .before .before .before .args .c)) (c .degree .ensures))
+returns-3 c =
+    let at-if2 : tie.Else2 = search in
+    let at-all-middles : tie.After-all-middles = search in
+    let at-if1 : tie.Else1 = search in
+    let start : tie.Start = search in
+    diamond-is
+    (at-if1 .if1 .left)
+    (sym (at-all-middles .all-middles .ensures) ∙ not-false _ (at-if2 .if2 .left))
+    (ap (λ (x : ℕ). eqb x (start .args .c)) (c .degree .ensures))
+
+returns-2 : tie.Need-returns-2
+returns-2 c =
+    let at-all-middles : tie.After-all-middles = search in
+    let at-if1 : tie.Else1 = search in
+    diamond-not (at-if1 .if1 .left) (sym (at-all-middles .all-middles .ensures) ∙ not-true _ (c .if2 .taken))
 
 pub is-diamond-spec : {M : Type 1} → statement M
 is-diamond-spec =
-    tie.close (tie.spec
+    tie.close
+    (tie.spec
     (λ c. diamond-few (c .if1 .taken))
     (λ c κs. search needs)
-    (λ c. diamond-not (c .before .before .if1 .left) (sym (c .before .all-middles .ensures) ∙ not-true _ (c .if2 .taken)))
+    returns-2
     (λ c κs. search needs)
     returns-3)

@@ -8,9 +8,23 @@ use borrow.Author.Needs.{needs}
 use Rattle.diamond.proofs.is_tail.Statement.{statement}
 use Rattle.diamond.proofs.is_tail.Tie as tie
 
+returns : tie.Need-returns
+returns c =
+    let at-degree : tie.After-degree = search in
+    and-else _ (ne-eqb _ _ (λ q. c .if1 .taken (at-degree .degree .ensures ∙ q)))
+
+returns-2 : tie.Need-returns-2
+returns-2 c =
+    let at-if1 : tie.Else1 = search in
+    let at-degree : tie.After-degree = search in
+    ap (λ (x : ℕ). eqb x 1) (c .degree2 .ensures)
+    ∙ and-then _ (eq-eqb _ _ (sym (at-degree .degree .ensures) ∙ at-if1 .if1 .left))
+
 pub is-tail-spec : {M : Type 1} → statement M
-is-tail-spec = tie.close (tie.spec
+is-tail-spec =
+    tie.close
+    (tie.spec
     (λ c κs. search needs)
-    (λ c. and-else _ (ne-eqb _ _ (λ q. c .if1 .taken (c .before .degree .ensures ∙ q))))
+    returns
     (λ c κs. search needs)
-    (λ c. ap (λ (x : ℕ). eqb x 1) (c .degree2 .ensures) ∙ and-then _ (eq-eqb _ _ (sym (c .before .before .degree .ensures) ∙ c .before .if1 .left))))
+    returns-2)

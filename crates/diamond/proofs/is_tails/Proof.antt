@@ -5,7 +5,9 @@ use Rattle.diamond.proofs.is_tails.Statement.{statement}
 use Rattle.diamond.proofs.is_tails.Tie as tie
 
 pub is-tails-spec : {M : Type 1} → statement M
-is-tails-spec = tie.close (tie.spec
+is-tails-spec =
+    tie.close
+    (tie.spec
     (λ c. tails-few (c .if1 .taken))
     (λ c κs. search needs)
-    (λ c. tails-is (c .before .if1 .left) (c .all-tails .ensures)))
+    (λ c. let at-if1 : tie.Else1 = search in tails-is (at-if1 .if1 .left) (c .all-tails .ensures)))

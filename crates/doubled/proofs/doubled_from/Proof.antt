@@ -2,7 +2,14 @@
 use native.Mathlib.Omega.{arith}
 use Prim.Native.Nat.{_+_, _*_, _-_}
 use mathlib.Core.Path.{refl}
-use Rattle.doubled.proofs.DoubledLaws.{Marking, marking-start, marking-found, marking-more, marking-end, next-later}
+use Rattle.doubled.proofs.DoubledLaws.{
+  Marking,
+  marking-start,
+  marking-found,
+  marking-more,
+  marking-end,
+  next-later,
+}
 use Rattle.doubled.proofs.doubled_from.Statement.{statement}
 use Rattle.doubled.proofs.doubled_from.Tie as tie
 
@@ -13,25 +20,136 @@ abbrev μ-loop : tie.MeasureT-loop
 μ-loop es m n heads nexts v marks₀ mark e₀ marks e = m - e
 
 mul-if1 : tie.Need-mul-if1 Inv-loop μ-loop
-mul-if1 c = omega (arith, c .before .before .before .before .before .pre .1 .0 .ends .at _ (c .before .before .loop-test .taken) .1, c .before .before .before .before .before .pre .1 .1 .0 .room, c .before .before .before .loop .inv .len)
+mul-if1 c =
+    omega (
+      arith,
+      start .pre .1 .0 .ends .at _ (at-loop-test .loop-test .taken) .1,
+      start .pre .1 .1 .0 .room,
+      at-loop .loop .inv .len,
+    )
+  where
+    at-loop-test : tie.In-loop Inv-loop μ-loop
+    at-loop-test = search
+
+    at-loop : tie.At-loop Inv-loop μ-loop
+    at-loop = let c = at-loop-test in search
+
+    start : tie.Start Inv-loop μ-loop
+    start = let c = at-loop in search
 
 slice-read-if1 : tie.Need-slice-read-if1 Inv-loop μ-loop
-slice-read-if1 c = omega (arith, c .before .before .before .before .before .before .pre .1 .0 .ends .at _ (c .before .before .before .loop-test .taken) .1, c .before .before .before .before .before .before .pre .1 .1 .0 .room, c .before .before .before .before .loop .inv .len)
+slice-read-if1 c =
+    omega (
+      arith,
+      start .pre .1 .0 .ends .at _ (at-loop-test .loop-test .taken) .1,
+      start .pre .1 .1 .0 .room,
+      at-loop .loop .inv .len,
+    )
+  where
+    at-loop-test : tie.In-loop Inv-loop μ-loop
+    at-loop-test = search
+
+    at-loop : tie.At-loop Inv-loop μ-loop
+    at-loop = let c = at-loop-test in search
+
+    start : tie.Start Inv-loop μ-loop
+    start = let c = at-loop in search
 
 returns : tie.Need-returns Inv-loop μ-loop
-returns c = marking-found (c .before .before .before .before .before .before .before .pre .1 .0) (c .before .before .before .before .before .loop .inv) (c .before .before .before .before .loop-test .taken) (c .if1 .taken)
+returns c =
+    let at-loop-test : tie.In-loop Inv-loop μ-loop = search in
+    let at-loop : tie.At-loop Inv-loop μ-loop = search in
+    let start : tie.Start Inv-loop μ-loop = search in
+    marking-found (start .pre .1 .0) (at-loop .loop .inv) (at-loop-test .loop-test .taken) (c .if1 .taken)
 
 mul-marks : tie.Need-mul-marks Inv-loop μ-loop
-mul-marks c = omega (arith, c .before .before .before .before .before .before .before .pre .1 .0 .ends .at _ (c .before .before .before .before .loop-test .taken) .1, c .before .before .before .before .before .before .before .pre .1 .1 .0 .room, c .before .before .before .before .before .loop .inv .len)
+mul-marks c =
+    omega (
+      arith,
+      start .pre .1 .0 .ends .at _ (at-loop-test .loop-test .taken) .1,
+      start .pre .1 .1 .0 .room,
+      at-loop .loop .inv .len,
+    )
+  where
+    at-loop-test : tie.In-loop Inv-loop μ-loop
+    at-loop-test = search
+
+    at-loop : tie.At-loop Inv-loop μ-loop
+    at-loop = let c = at-loop-test in search
+
+    start : tie.Start Inv-loop μ-loop
+    start = let c = at-loop in search
 
 slice-write-marks : tie.Need-slice-write-marks Inv-loop μ-loop
-slice-write-marks c = omega (arith, c .before .before .before .before .before .before .before .pre .1 .0 .ends .at _ (c .before .before .before .before .loop-test .taken) .1, c .before .before .before .before .before .before .before .pre .1 .1 .0 .room, c .before .before .before .before .before .loop .inv .len)
+slice-write-marks c =
+    omega (
+      arith,
+      start .pre .1 .0 .ends .at _ (at-loop-test .loop-test .taken) .1,
+      start .pre .1 .1 .0 .room,
+      at-loop .loop .inv .len,
+    )
+  where
+    at-loop-test : tie.In-loop Inv-loop μ-loop
+    at-loop-test = search
+
+    at-loop : tie.At-loop Inv-loop μ-loop
+    at-loop = let c = at-loop-test in search
+
+    start : tie.Start Inv-loop μ-loop
+    start = let c = at-loop in search
 
 loop-less : tie.Need-loop-less Inv-loop μ-loop
-loop-less c = omega (arith, next-later (c .before .before .before .before .before .before .before .pre .1 .0) (c .before .before .before .before .before .loop .inv) (c .before .before .before .before .loop-test .taken))
+loop-less c = omega (arith, next-later (start .pre .1 .0) (at-loop .loop .inv) (at-loop-test .loop-test .taken))
+  where
+    at-loop-test : tie.In-loop Inv-loop μ-loop
+    at-loop-test = search
+
+    at-loop : tie.At-loop Inv-loop μ-loop
+    at-loop = let c = at-loop-test in search
+
+    start : tie.Start Inv-loop μ-loop
+    start = let c = at-loop in search
 
 loop-again : tie.Need-loop-again Inv-loop μ-loop
-loop-again c = marking-more (c .before .before .before .before .before .before .before .pre .1 .0) (c .before .before .before .before .before .loop .inv) (c .before .before .before .before .loop-test .taken) (c .if1 .left) (c .before .before .before .before .before .before .before .pre .1 .1 .0 .room) refl
+loop-again c =
+    let at-loop-test : tie.In-loop Inv-loop μ-loop = search in
+    let at-loop : tie.At-loop Inv-loop μ-loop = search in
+    let start : tie.Start Inv-loop μ-loop = search in
+    marking-more
+    (start .pre .1 .0)
+    (at-loop .loop .inv)
+    (at-loop-test .loop-test .taken)
+    (c .if1 .left)
+    (start .pre .1 .1 .0 .room) refl
+
+cast-e : tie.Need-cast-e Inv-loop μ-loop
+cast-e c = omega (arith, c .shared-slice-known .given (2 * start .args .v))
+  where
+    start : tie.Start Inv-loop μ-loop
+    start = search
+
+loop-holds : tie.Need-loop-holds Inv-loop μ-loop
+loop-holds c =
+    let start : tie.Start Inv-loop μ-loop = search in
+    marking-start (start .pre .1 .0) refl (start .pre .0) (start .pre .1 .1 .1)
+
+cast-e-2 : tie.Need-cast-e-2 Inv-loop μ-loop
+cast-e-2 c = omega (arith, c .shared-slice-known2 .given (2 * at-loop .loop .e))
+  where
+    at-loop : tie.At-loop Inv-loop μ-loop
+    at-loop = search
+
+cast-to : tie.Need-cast-to Inv-loop μ-loop
+cast-to c = omega (arith, c .shared-slice-known3 .given (4 * at-loop .loop .e + 1))
+  where
+    at-loop : tie.At-loop Inv-loop μ-loop
+    at-loop = search
+
+returns-2 : tie.Need-returns-2 Inv-loop μ-loop
+returns-2 c =
+    let at-loop : tie.At-loop Inv-loop μ-loop = search in
+    let start : tie.Start Inv-loop μ-loop = search in
+    marking-end (start .pre .1 .0) (at-loop .loop .inv) (c .loop-test .left)
 
 pub doubled-from-spec : {M : Type 1} → statement M
 doubled-from-spec =
@@ -43,25 +161,25 @@ doubled-from-spec =
     (λ c. omega (arith, c .pre .1 .1 .0 .small))
     (λ c. omega (arith, c .pre .1 .0 .heads-room))
     (λ c. omega (arith, c .pre .1 .0 .heads-room))
-    (λ c. omega (arith, c .before .pre .1 .0 .heads-room))
-    (λ c. omega (arith, c .shared-slice-known .given (2 * c .before .args .v)))
-    (λ c. marking-start (c .before .pre .1 .0) refl (c .before .pre .0) (c .before .pre .1 .1 .1))
-    (λ c. omega (arith, c .before .before .before .pre .1 .0 .nexts-room))
-    (λ c. omega (arith, c .before .before .before .pre .1 .0 .nexts-room))
-    (λ c. omega (arith, c .before .before .before .before .pre .1 .0 .nexts-room))
-    (λ c. omega (arith, c .shared-slice-known2 .given (2 * c .before .before .loop .e)))
-    (λ c. omega (arith, c .before .before .before .before .pre .1 .0 .room))
-    (λ c. omega (arith, c .before .before .before .before .pre .1 .0 .room))
-    (λ c. omega (arith, c .before .before .before .before .pre .1 .0 .room))
-    (λ c. omega (arith, c .before .before .before .before .before .pre .1 .0 .room))
-    (λ c. omega (arith, c .shared-slice-known3 .given (4 * c .before .before .before .loop .e + 1)))
+    (λ c. let start : tie.Start Inv-loop μ-loop = search in omega (arith, start .pre .1 .0 .heads-room))
+    cast-e
+    loop-holds
+    (λ c. let start : tie.Start Inv-loop μ-loop = search in omega (arith, start .pre .1 .0 .nexts-room))
+    (λ c. let start : tie.Start Inv-loop μ-loop = search in omega (arith, start .pre .1 .0 .nexts-room))
+    (λ c. let start : tie.Start Inv-loop μ-loop = search in omega (arith, start .pre .1 .0 .nexts-room))
+    cast-e-2
+    (λ c. let start : tie.Start Inv-loop μ-loop = search in omega (arith, start .pre .1 .0 .room))
+    (λ c. let start : tie.Start Inv-loop μ-loop = search in omega (arith, start .pre .1 .0 .room))
+    (λ c. let start : tie.Start Inv-loop μ-loop = search in omega (arith, start .pre .1 .0 .room))
+    (λ c. let start : tie.Start Inv-loop μ-loop = search in omega (arith, start .pre .1 .0 .room))
+    cast-to
     mul-if1
     slice-read-if1
-    (λ c. c .before .before .before .before .before .loop .inv .len)
+    (λ c. let at-loop : tie.At-loop Inv-loop μ-loop = search in at-loop .loop .inv .len)
     returns
     mul-marks
     slice-write-marks
     loop-less
     loop-again
-    (λ c. c .before .loop .inv .len)
-    (λ c. marking-end (c .before .before .before .pre .1 .0) (c .before .loop .inv) (c .loop-test .left)))
+    (λ c. let at-loop : tie.At-loop Inv-loop μ-loop = search in at-loop .loop .inv .len)
+    returns-2)

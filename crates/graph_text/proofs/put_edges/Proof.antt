@@ -14,7 +14,38 @@ abbrev μ-loop : tie.MeasureT-loop
 μ-loop text₀ at es m to₀ i₀ text to i = m - i
 
 put-edge-requires : tie.Need-put-edge-requires Inv-loop μ-loop
-put-edge-requires c κs = (omega (arith, c .before .before .before .before .before .pre .room, lines-at (c .before .before .loop .inv), lines-long (c .before .before .loop .inv), c .before .loop-test .taken), omega (arith, c .before .before .before .before .before .pre .es-room, c .before .loop-test .taken))
+put-edge-requires c κs = (
+  omega (
+    arith,
+    start .pre .room,
+    lines-at (at-loop .loop .inv),
+    lines-long (at-loop .loop .inv),
+    at-loop-test .loop-test .taken,
+  ),
+  omega (arith, start .pre .es-room, at-loop-test .loop-test .taken),
+)
+  where
+    at-loop-test : tie.In-loop Inv-loop μ-loop
+    at-loop-test = search
+
+    at-loop : tie.At-loop Inv-loop μ-loop
+    at-loop = let c = at-loop-test in search
+
+    start : tie.Start Inv-loop μ-loop
+    start = let c = at-loop in search
+
+loop-again : tie.Need-loop-again Inv-loop μ-loop
+loop-again c =
+    lines-more (at-loop .loop .inv) (at-loop-test .loop-test .taken) (at-put-edge .put-edge .ensures) (omega arith)
+  where
+    at-put-edge : tie.After-put-edge Inv-loop μ-loop
+    at-put-edge = search
+
+    at-loop-test : tie.In-loop Inv-loop μ-loop
+    at-loop-test = let c = at-put-edge in search
+
+    at-loop : tie.At-loop Inv-loop μ-loop
+    at-loop = let c = at-loop-test in search
 
 pub put-edges-spec : {M : Type 1} → statement M
 put-edges-spec =
@@ -26,6 +57,6 @@ put-edges-spec =
     put-edge-requires
     (λ c. omega arith)
     (λ c. omega arith)
-    (λ c. lines-more (c .before .before .before .before .before .loop .inv) (c .before .before .before .before .loop-test .taken) (c .before .before .put-edge .ensures) (omega arith))
-    (λ c. lines-long (c .before .loop .inv))
-    (λ c. lines-end (c .before .loop .inv) (c .loop-test .left)))
+    loop-again
+    (λ c. let at-loop : tie.At-loop Inv-loop μ-loop = search in lines-long (at-loop .loop .inv))
+    (λ c. let at-loop : tie.At-loop Inv-loop μ-loop = search in lines-end (at-loop .loop .inv) (c .loop-test .left)))

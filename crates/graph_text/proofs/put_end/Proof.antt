@@ -8,15 +8,29 @@ use Rattle.graph_text.proofs.put_end.Tie as tie
 
 returns : tie.Need-returns
 unfolding ascii tabFrom
-returns c = end-quiet (c .before .before .before .before .before .before .before .args .end) (c .before .before .before .before .before .if1 .taken) (c .before .before .put-bytes .ensures)
+returns c =
+    let at-put-bytes : tie.After-put-bytes = search in
+    let at-if1 : tie.Then1 = search in
+    let start : tie.Start = search in
+    end-quiet (start .args .end) (at-if1 .if1 .taken) (at-put-bytes .put-bytes .ensures)
 
 returns-2 : tie.Need-returns-2
 unfolding ascii tabFrom
-returns-2 c = end-repeated (c .before .before .before .before .before .before .before .before .args .end) (c .before .before .before .before .before .before .if1 .left) (c .before .before .before .before .before .if2 .taken) (c .before .before .put-bytes2 .ensures)
+returns-2 c =
+    let at-put-bytes2 : tie.After-put-bytes2 = search in
+    let at-if2 : tie.Then2 = search in
+    let at-if1 : tie.Else1 = search in
+    let start : tie.Start = search in
+    end-repeated (start .args .end) (at-if1 .if1 .left) (at-if2 .if2 .taken) (at-put-bytes2 .put-bytes2 .ensures)
 
 returns-3 : tie.Need-returns-3
 unfolding ascii tabFrom
-returns-3 c = end-full (c .before .before .before .before .before .before .before .before .args .end) (c .before .before .before .before .before .before .if1 .left) (c .before .before .before .before .before .if2 .left) (c .before .before .put-bytes3 .ensures)
+returns-3 c =
+    let at-put-bytes3 : tie.After-put-bytes3 = search in
+    let at-if2 : tie.Else2 = search in
+    let at-if1 : tie.Else1 = search in
+    let start : tie.Start = search in
+    end-full (start .args .end) (at-if1 .if1 .left) (at-if2 .if2 .left) (at-put-bytes3 .put-bytes3 .ensures)
 
 pub put-end-spec : {M : Type 1} → statement M
 put-end-spec =

@@ -8,11 +8,19 @@ use Rattle.graph_text.proofs.put_flag.Tie as tie
 
 returns : tie.Need-returns
 unfolding ascii tabFrom
-returns c = flag-off (c .before .before .before .before .before .before .before .args .flag) (c .before .before .before .before .before .if1 .taken) (c .before .before .put-bytes .ensures)
+returns c =
+    let at-put-bytes : tie.After-put-bytes = search in
+    let at-if1 : tie.Then1 = search in
+    let start : tie.Start = search in
+    flag-off (start .args .flag) (at-if1 .if1 .taken) (at-put-bytes .put-bytes .ensures)
 
 returns-2 : tie.Need-returns-2
 unfolding ascii tabFrom
-returns-2 c = flag-on (c .before .before .before .before .before .before .before .args .flag) (c .before .before .before .before .before .if1 .left) (c .before .before .put-bytes2 .ensures)
+returns-2 c =
+    let at-put-bytes2 : tie.After-put-bytes2 = search in
+    let at-if1 : tie.Else1 = search in
+    let start : tie.Start = search in
+    flag-on (start .args .flag) (at-if1 .if1 .left) (at-put-bytes2 .put-bytes2 .ensures)
 
 pub put-flag-spec : {M : Type 1} → statement M
 put-flag-spec =

@@ -8,7 +8,11 @@ use Rattle.graph_text.proofs.put_refusal.Tie as tie
 
 returns : tie.Need-returns
 unfolding ascii tabFrom field
-returns c = refusal-line (c .before .before .before .before .before .before .before .before .before .before .before .args .number) (c .before .before .before .before .before .before .before .put-field .ensures) (c .before .before .put-bytes .ensures)
+returns c =
+    let at-put-bytes : tie.After-put-bytes = search in
+    let at-put-field : tie.After-put-field = search in
+    let start : tie.Start = search in
+    refusal-line (start .args .number) (at-put-field .put-field .ensures) (at-put-bytes .put-bytes .ensures)
 
 pub put-refusal-spec : {M : Type 1} → statement M
 put-refusal-spec =

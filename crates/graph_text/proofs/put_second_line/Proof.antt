@@ -9,7 +9,34 @@ use Rattle.graph_text.proofs.put_second_line.Tie as tie
 
 returns : tie.Need-returns
 unfolding ascii tabFrom field
-returns c = second-line (c .before .before .before .before .before .before .before .before .before .before .before .before .before .before .before .before .before .before .before .before .before .before .before .before .before .args .rewrites) (c .before .before .before .before .before .before .before .before .before .before .before .before .before .before .before .before .before .before .before .before .before .before .before .before .before .args .rounds) (endOf (c .before .before .before .before .before .before .before .before .before .before .before .before .before .before .before .before .before .before .before .before .before .before .before .before .before .args .end)) (c .before .before .before .before .before .before .before .before .before .before .before .before .before .before .before .before .before .before .before .before .before .put-field .ensures) (c .before .before .before .before .before .before .before .before .before .before .before .before .before .before .before .before .put-field2 .ensures) (c .before .before .before .before .before .before .before .before .before .before .before .put-bytes .ensures) (c .before .before .before .before .before .before .before .put-end .ensures) (c .before .before .put-bytes2 .ensures)
+returns c =
+    second-line
+    (start .args .rewrites)
+    (start .args .rounds)
+    (endOf (start .args .end))
+    (at-put-field .put-field .ensures)
+    (at-put-field2 .put-field2 .ensures)
+    (at-put-bytes .put-bytes .ensures)
+    (at-put-end .put-end .ensures)
+    (at-put-bytes2 .put-bytes2 .ensures)
+  where
+    at-put-bytes2 : tie.After-put-bytes2
+    at-put-bytes2 = search
+
+    at-put-end : tie.After-put-end
+    at-put-end = let c = at-put-bytes2 in search
+
+    at-put-bytes : tie.After-put-bytes
+    at-put-bytes = let c = at-put-end in search
+
+    at-put-field2 : tie.After-put-field2
+    at-put-field2 = let c = at-put-bytes in search
+
+    at-put-field : tie.After-put-field
+    at-put-field = let c = at-put-field2 in search
+
+    start : tie.Start
+    start = let c = at-put-field in search
 
 pub put-second-line-spec : {M : Type 1} → statement M
 put-second-line-spec =

@@ -17,7 +17,40 @@ abbrev μ-loop : tie.MeasureT-loop
 μ-loop text₀ at vs p n to₀ v₀ text to v = n - v
 
 loop-again : tie.Need-loop-again Inv-loop μ-loop
-loop-again c = lines-more (c .before .before .before .before .before .loop .inv) (c .before .before .before .before .loop-test .taken) (c .before .before .put-vertex .ensures) (omega (arith, bytes-more (c .before .before .before .before .before .loop .v) (c .before .before .before .before .before .before .before .before .before .args .vs .now)))
+loop-again c =
+    lines-more
+    (at-loop .loop .inv)
+    (at-loop-test .loop-test .taken)
+    (at-put-vertex .put-vertex .ensures)
+    (omega (arith, bytes-more (at-loop .loop .v) (start .args .vs .now)))
+  where
+    at-put-vertex : tie.After-put-vertex Inv-loop μ-loop
+    at-put-vertex = search
+
+    at-loop-test : tie.In-loop Inv-loop μ-loop
+    at-loop-test = let c = at-put-vertex in search
+
+    at-loop : tie.At-loop Inv-loop μ-loop
+    at-loop = let c = at-loop-test in search
+
+    start : tie.Start Inv-loop μ-loop
+    start = let c = at-loop in search
+
+cast-put-vertex : tie.Need-cast-put-vertex Inv-loop μ-loop
+cast-put-vertex c = omega (arith, start .pre .small, at-loop-test .loop-test .taken)
+  where
+    at-loop-test : tie.In-loop Inv-loop μ-loop
+    at-loop-test = search
+
+    start : tie.Start Inv-loop μ-loop
+    start = let c = at-loop-test in search
+
+put-vertex-requires : tie.Need-put-vertex-requires Inv-loop μ-loop
+put-vertex-requires c κs =
+    let at-loop-test : tie.In-loop Inv-loop μ-loop = search in
+    let at-loop : tie.At-loop Inv-loop μ-loop = search in
+    let start : tie.Start Inv-loop μ-loop = search in
+    vertices-fit (start .pre) (at-loop .loop .inv) (at-loop-test .loop-test .taken)
 
 pub put-vertices-spec : {M : Type 1} → statement M
 put-vertices-spec =
@@ -26,10 +59,10 @@ put-vertices-spec =
     Inv-loop
     μ-loop
     (λ c. lines-start)
-    (λ c. omega (arith, c .before .before .before .before .before .before .pre .small, c .before .loop-test .taken))
-    (λ c κs. vertices-fit (c .before .before .before .before .before .before .pre) (c .before .before .loop .inv) (c .before .loop-test .taken))
+    cast-put-vertex
+    put-vertex-requires
     (λ c. omega arith)
     (λ c. omega arith)
     loop-again
-    (λ c. lines-long (c .before .loop .inv))
-    (λ c. lines-end (c .before .loop .inv) (c .loop-test .left)))
+    (λ c. let at-loop : tie.At-loop Inv-loop μ-loop = search in lines-long (at-loop .loop .inv))
+    (λ c. let at-loop : tie.At-loop Inv-loop μ-loop = search in lines-end (at-loop .loop .inv) (c .loop-test .left)))

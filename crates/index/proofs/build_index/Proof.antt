@@ -14,64 +14,361 @@ abbrev μ-loop : tie.MeasureT-loop
 μ-loop es m n heads₀ nexts₀ e₀ heads nexts e = e
 
 mul-u-3 : tie.Need-mul-u-3 Inv-loop μ-loop
-mul-u-3 c = omega (arith, c .before .before .before .before .before .before .before .before .before .before .pre .ends .at (c .before .before .loop .e - 1) (omega (arith, c .before .before .loop .inv .out .low)) .0, c .before .before .before .before .before .before .before .before .before .before .pre .heads-room)
+mul-u-3 c =
+    omega (
+      arith,
+      start .pre .ends .at (at-loop .loop .e - 1) (omega (arith, at-loop .loop .inv .out .low)) .0,
+      start .pre .heads-room,
+    )
+  where
+    at-loop : tie.At-loop Inv-loop μ-loop
+    at-loop = search
+
+    start : tie.Start Inv-loop μ-loop
+    start = let c = at-loop in search
 
 mul-nexts : tie.Need-mul-nexts Inv-loop μ-loop
-mul-nexts c = omega (arith, c .before .before .before .before .before .before .before .before .before .before .pre .ends .at (c .before .before .loop .e - 1) (omega (arith, c .before .before .loop .inv .out .low)) .0, c .before .before .before .before .before .before .before .before .before .before .pre .heads-room)
+mul-nexts c =
+    omega (
+      arith,
+      start .pre .ends .at (at-loop .loop .e - 1) (omega (arith, at-loop .loop .inv .out .low)) .0,
+      start .pre .heads-room,
+    )
+  where
+    at-loop : tie.At-loop Inv-loop μ-loop
+    at-loop = search
+
+    start : tie.Start Inv-loop μ-loop
+    start = let c = at-loop in search
 
 slice-read-nexts : tie.Need-slice-read-nexts Inv-loop μ-loop
-slice-read-nexts c = omega (arith, c .before .before .before .before .before .before .before .before .before .before .before .pre .ends .at (c .before .before .before .loop .e - 1) (omega (arith, c .before .before .before .loop .inv .out .low)) .0, c .before .before .before .before .before .before .before .before .before .before .before .pre .heads-room, c .before .before .before .loop .inv .heads-len, c .before .before .before .before .before .before .fill .kept)
+slice-read-nexts c =
+    omega (
+      arith,
+      start .pre .ends .at (at-loop .loop .e - 1) (omega (arith, at-loop .loop .inv .out .low)) .0,
+      start .pre .heads-room,
+      at-loop .loop .inv .heads-len,
+      at-fill .fill .kept,
+    )
+  where
+    at-loop : tie.At-loop Inv-loop μ-loop
+    at-loop = search
+
+    at-fill : tie.After-fill Inv-loop μ-loop
+    at-fill = let c = at-loop in search
+
+    start : tie.Start Inv-loop μ-loop
+    start = let c = at-fill in search
 
 slice-write-nexts : tie.Need-slice-write-nexts Inv-loop μ-loop
-slice-write-nexts c = omega (arith, c .before .before .before .loop .inv .out .low, c .before .before .before .before .before .before .before .before .before .before .before .pre .nexts-room, c .before .before .before .loop .inv .nexts-len)
+slice-write-nexts c = omega (arith, at-loop .loop .inv .out .low, start .pre .nexts-room, at-loop .loop .inv .nexts-len)
+  where
+    at-loop : tie.At-loop Inv-loop μ-loop
+    at-loop = search
+
+    start : tie.Start Inv-loop μ-loop
+    start = let c = at-loop in search
 
 mul-heads : tie.Need-mul-heads Inv-loop μ-loop
-mul-heads c = omega (arith, c .before .before .before .before .before .before .before .before .before .before .before .pre .ends .at (c .before .before .before .loop .e - 1) (omega (arith, c .before .before .before .loop .inv .out .low)) .0, c .before .before .before .before .before .before .before .before .before .before .before .pre .heads-room)
+mul-heads c =
+    omega (
+      arith,
+      start .pre .ends .at (at-loop .loop .e - 1) (omega (arith, at-loop .loop .inv .out .low)) .0,
+      start .pre .heads-room,
+    )
+  where
+    at-loop : tie.At-loop Inv-loop μ-loop
+    at-loop = search
+
+    start : tie.Start Inv-loop μ-loop
+    start = let c = at-loop in search
 
 slice-write-heads : tie.Need-slice-write-heads Inv-loop μ-loop
-slice-write-heads c = omega (arith, c .before .before .before .before .before .before .before .before .before .before .before .pre .ends .at (c .before .before .before .loop .e - 1) (omega (arith, c .before .before .before .loop .inv .out .low)) .0, c .before .before .before .before .before .before .before .before .before .before .before .pre .heads-room, c .before .before .before .loop .inv .heads-len, c .before .before .before .before .before .before .fill .kept)
+slice-write-heads c =
+    omega (
+      arith,
+      start .pre .ends .at (at-loop .loop .e - 1) (omega (arith, at-loop .loop .inv .out .low)) .0,
+      start .pre .heads-room,
+      at-loop .loop .inv .heads-len,
+      at-fill .fill .kept,
+    )
+  where
+    at-loop : tie.At-loop Inv-loop μ-loop
+    at-loop = search
+
+    at-fill : tie.After-fill Inv-loop μ-loop
+    at-fill = let c = at-loop in search
+
+    start : tie.Start Inv-loop μ-loop
+    start = let c = at-fill in search
 
 shared-slice-read-v : tie.Need-shared-slice-read-v Inv-loop μ-loop
-shared-slice-read-v c = omega (arith, c .before .before .before .before .loop .inv .out .low, c .before .before .before .before .before .before .before .before .before .before .before .before .pre .room)
+shared-slice-read-v c = omega (arith, at-loop .loop .inv .out .low, start .pre .room)
+  where
+    at-loop : tie.At-loop Inv-loop μ-loop
+    at-loop = search
+
+    start : tie.Start Inv-loop μ-loop
+    start = let c = at-loop in search
 
 mul-v-3 : tie.Need-mul-v-3 Inv-loop μ-loop
-mul-v-3 c = omega (arith, c .before .before .before .before .before .before .before .before .before .before .before .before .pre .ends .at (c .before .before .before .before .loop .e - 1) (omega (arith, c .before .before .before .before .loop .inv .out .low)) .1, c .before .before .before .before .before .before .before .before .before .before .before .before .pre .heads-room)
+mul-v-3 c =
+    omega (
+      arith,
+      start .pre .ends .at (at-loop .loop .e - 1) (omega (arith, at-loop .loop .inv .out .low)) .1,
+      start .pre .heads-room,
+    )
+  where
+    at-loop : tie.At-loop Inv-loop μ-loop
+    at-loop = search
+
+    start : tie.Start Inv-loop μ-loop
+    start = let c = at-loop in search
 
 add-v-2 : tie.Need-add-v-2 Inv-loop μ-loop
-add-v-2 c = omega (arith, c .before .before .before .before .before .before .before .before .before .before .before .before .pre .ends .at (c .before .before .before .before .loop .e - 1) (omega (arith, c .before .before .before .before .loop .inv .out .low)) .1, c .before .before .before .before .before .before .before .before .before .before .before .before .pre .heads-room)
+add-v-2 c =
+    omega (
+      arith,
+      start .pre .ends .at (at-loop .loop .e - 1) (omega (arith, at-loop .loop .inv .out .low)) .1,
+      start .pre .heads-room,
+    )
+  where
+    at-loop : tie.At-loop Inv-loop μ-loop
+    at-loop = search
+
+    start : tie.Start Inv-loop μ-loop
+    start = let c = at-loop in search
 
 mul-nexts-4 : tie.Need-mul-nexts-4 Inv-loop μ-loop
-mul-nexts-4 c = omega (arith, c .before .before .before .before .before .before .before .before .before .before .before .before .pre .ends .at (c .before .before .before .before .loop .e - 1) (omega (arith, c .before .before .before .before .loop .inv .out .low)) .1, c .before .before .before .before .before .before .before .before .before .before .before .before .pre .heads-room)
+mul-nexts-4 c =
+    omega (
+      arith,
+      start .pre .ends .at (at-loop .loop .e - 1) (omega (arith, at-loop .loop .inv .out .low)) .1,
+      start .pre .heads-room,
+    )
+  where
+    at-loop : tie.At-loop Inv-loop μ-loop
+    at-loop = search
+
+    start : tie.Start Inv-loop μ-loop
+    start = let c = at-loop in search
 
 slice-read-nexts-2 : tie.Need-slice-read-nexts-2 Inv-loop μ-loop
-slice-read-nexts-2 c = simp length-set (omega (arith, c .before .before .before .before .before .before .before .before .before .before .before .before .before .pre .ends .at (c .before .before .before .before .before .loop .e - 1) (omega (arith, c .before .before .before .before .before .loop .inv .out .low)) .1, c .before .before .before .before .before .before .before .before .before .before .before .before .before .pre .heads-room, c .before .before .before .before .before .loop .inv .heads-len, c .before .before .before .before .before .before .before .before .fill .kept))
+slice-read-nexts-2 c =
+    simp length-set
+    (omega (
+      arith,
+      start .pre .ends .at (at-loop .loop .e - 1) (omega (arith, at-loop .loop .inv .out .low)) .1,
+      start .pre .heads-room,
+      at-loop .loop .inv .heads-len,
+      at-fill .fill .kept,
+    ))
+  where
+    at-loop : tie.At-loop Inv-loop μ-loop
+    at-loop = search
+
+    at-fill : tie.After-fill Inv-loop μ-loop
+    at-fill = let c = at-loop in search
+
+    start : tie.Start Inv-loop μ-loop
+    start = let c = at-fill in search
 
 mul-nexts-5 : tie.Need-mul-nexts-5 Inv-loop μ-loop
-mul-nexts-5 c = omega (arith, c .before .before .before .before .before .loop .inv .out .low, c .before .before .before .before .before .before .before .before .before .before .before .before .before .pre .nexts-room)
+mul-nexts-5 c = omega (arith, at-loop .loop .inv .out .low, start .pre .nexts-room)
+  where
+    at-loop : tie.At-loop Inv-loop μ-loop
+    at-loop = search
+
+    start : tie.Start Inv-loop μ-loop
+    start = let c = at-loop in search
 
 add-nexts : tie.Need-add-nexts Inv-loop μ-loop
-add-nexts c = omega (arith, c .before .before .before .before .before .loop .inv .out .low, c .before .before .before .before .before .before .before .before .before .before .before .before .before .pre .nexts-room)
+add-nexts c = omega (arith, at-loop .loop .inv .out .low, start .pre .nexts-room)
+  where
+    at-loop : tie.At-loop Inv-loop μ-loop
+    at-loop = search
+
+    start : tie.Start Inv-loop μ-loop
+    start = let c = at-loop in search
 
 mul-nexts-6 : tie.Need-mul-nexts-6 Inv-loop μ-loop
-mul-nexts-6 c = omega (arith, c .before .before .before .before .before .loop .inv .out .low, c .before .before .before .before .before .before .before .before .before .before .before .before .before .pre .nexts-room)
+mul-nexts-6 c = omega (arith, at-loop .loop .inv .out .low, start .pre .nexts-room)
+  where
+    at-loop : tie.At-loop Inv-loop μ-loop
+    at-loop = search
+
+    start : tie.Start Inv-loop μ-loop
+    start = let c = at-loop in search
 
 slice-write-nexts-2 : tie.Need-slice-write-nexts-2 Inv-loop μ-loop
-slice-write-nexts-2 c = simp length-set (omega (arith, c .before .before .before .before .before .loop .inv .out .low, c .before .before .before .before .before .before .before .before .before .before .before .before .before .pre .nexts-room, c .before .before .before .before .before .loop .inv .nexts-len))
+slice-write-nexts-2 c =
+    simp length-set (omega (arith, at-loop .loop .inv .out .low, start .pre .nexts-room, at-loop .loop .inv .nexts-len))
+  where
+    at-loop : tie.At-loop Inv-loop μ-loop
+    at-loop = search
+
+    start : tie.Start Inv-loop μ-loop
+    start = let c = at-loop in search
 
 cast-heads-2 : tie.Need-cast-heads-2 Inv-loop μ-loop
-cast-heads-2 c = omega (arith, c .before .before .before .before .before .loop .inv .out .low, c .before .before .before .before .before .before .before .before .before .before .before .before .before .pre .small)
+cast-heads-2 c = omega (arith, at-loop .loop .inv .out .low, start .pre .small)
+  where
+    at-loop : tie.At-loop Inv-loop μ-loop
+    at-loop = search
+
+    start : tie.Start Inv-loop μ-loop
+    start = let c = at-loop in search
 
 mul-heads-2 : tie.Need-mul-heads-2 Inv-loop μ-loop
-mul-heads-2 c = omega (arith, c .before .before .before .before .before .before .before .before .before .before .before .before .before .pre .ends .at (c .before .before .before .before .before .loop .e - 1) (omega (arith, c .before .before .before .before .before .loop .inv .out .low)) .1, c .before .before .before .before .before .before .before .before .before .before .before .before .before .pre .heads-room)
+mul-heads-2 c =
+    omega (
+      arith,
+      start .pre .ends .at (at-loop .loop .e - 1) (omega (arith, at-loop .loop .inv .out .low)) .1,
+      start .pre .heads-room,
+    )
+  where
+    at-loop : tie.At-loop Inv-loop μ-loop
+    at-loop = search
+
+    start : tie.Start Inv-loop μ-loop
+    start = let c = at-loop in search
 
 slice-write-heads-2 : tie.Need-slice-write-heads-2 Inv-loop μ-loop
-slice-write-heads-2 c = simp length-set (omega (arith, c .before .before .before .before .before .before .before .before .before .before .before .before .before .pre .ends .at (c .before .before .before .before .before .loop .e - 1) (omega (arith, c .before .before .before .before .before .loop .inv .out .low)) .1, c .before .before .before .before .before .before .before .before .before .before .before .before .before .pre .heads-room, c .before .before .before .before .before .loop .inv .heads-len, c .before .before .before .before .before .before .before .before .fill .kept))
+slice-write-heads-2 c =
+    simp length-set
+    (omega (
+      arith,
+      start .pre .ends .at (at-loop .loop .e - 1) (omega (arith, at-loop .loop .inv .out .low)) .1,
+      start .pre .heads-room,
+      at-loop .loop .inv .heads-len,
+      at-fill .fill .kept,
+    ))
+  where
+    at-loop : tie.At-loop Inv-loop μ-loop
+    at-loop = search
+
+    at-fill : tie.After-fill Inv-loop μ-loop
+    at-fill = let c = at-loop in search
+
+    start : tie.Start Inv-loop μ-loop
+    start = let c = at-fill in search
 
 loop-again : tie.Need-loop-again Inv-loop μ-loop
-loop-again c = building-more (indexable-kept (c .before .before .before .before .before .before .before .before .before .before .before .before .before .pre) (c .before .before .before .before .before .before .before .before .fill .kept .0)) (c .before .before .before .before .before .loop .e - 1) _ _ (c .before .before .before .before .before .loop .inv) (omega arith) refl refl
+loop-again c =
+    building-more
+    (indexable-kept (start .pre) (at-fill .fill .kept .0))
+    (at-loop .loop .e - 1) _ _
+    (at-loop .loop .inv)
+    (omega arith) refl refl
+  where
+    at-loop : tie.At-loop Inv-loop μ-loop
+    at-loop = search
+
+    at-fill : tie.After-fill Inv-loop μ-loop
+    at-fill = let c = at-loop in search
+
+    start : tie.Start Inv-loop μ-loop
+    start = let c = at-fill in search
 
 returns : tie.Need-returns Inv-loop μ-loop
-returns c = building-end (indexable-kept (c .before .before .before .before .before .before .before .before .before .pre) (c .before .before .before .before .fill .kept .0)) (c .before .loop .inv) (c .loop-test .left)
+returns c =
+    let at-loop : tie.At-loop Inv-loop μ-loop = search in
+    let at-fill : tie.After-fill Inv-loop μ-loop = search in
+    let start : tie.Start Inv-loop μ-loop = search in
+    building-end (indexable-kept (start .pre) (at-fill .fill .kept .0)) (at-loop .loop .inv) (c .loop-test .left)
+
+mul-u : tie.Need-mul-u Inv-loop μ-loop
+mul-u c = omega (arith, at-loop .loop .inv .out .low, start .pre .room)
+  where
+    at-loop : tie.At-loop Inv-loop μ-loop
+    at-loop = search
+
+    start : tie.Start Inv-loop μ-loop
+    start = let c = at-loop in search
+
+mul-u-2 : tie.Need-mul-u-2 Inv-loop μ-loop
+mul-u-2 c = omega (arith, at-loop .loop .inv .out .low, start .pre .room)
+  where
+    at-loop : tie.At-loop Inv-loop μ-loop
+    at-loop = search
+
+    start : tie.Start Inv-loop μ-loop
+    start = let c = at-loop in search
+
+shared-slice-read-u : tie.Need-shared-slice-read-u Inv-loop μ-loop
+shared-slice-read-u c = omega (arith, at-loop .loop .inv .out .low, start .pre .room)
+  where
+    at-loop : tie.At-loop Inv-loop μ-loop
+    at-loop = search
+
+    start : tie.Start Inv-loop μ-loop
+    start = let c = at-loop in search
+
+cast-u : tie.Need-cast-u Inv-loop μ-loop
+cast-u c = omega (arith, c .shared-slice-known2 .given (4 * (at-loop .loop .e - 1)))
+  where
+    at-loop : tie.At-loop Inv-loop μ-loop
+    at-loop = search
+
+mul-nexts-2 : tie.Need-mul-nexts-2 Inv-loop μ-loop
+mul-nexts-2 c = omega (arith, at-loop .loop .inv .out .low, start .pre .nexts-room)
+  where
+    at-loop : tie.At-loop Inv-loop μ-loop
+    at-loop = search
+
+    start : tie.Start Inv-loop μ-loop
+    start = let c = at-loop in search
+
+mul-nexts-3 : tie.Need-mul-nexts-3 Inv-loop μ-loop
+mul-nexts-3 c = omega (arith, at-loop .loop .inv .out .low, start .pre .nexts-room)
+  where
+    at-loop : tie.At-loop Inv-loop μ-loop
+    at-loop = search
+
+    start : tie.Start Inv-loop μ-loop
+    start = let c = at-loop in search
+
+cast-heads : tie.Need-cast-heads Inv-loop μ-loop
+cast-heads c = omega (arith, at-loop .loop .inv .out .low, start .pre .small)
+  where
+    at-loop : tie.At-loop Inv-loop μ-loop
+    at-loop = search
+
+    start : tie.Start Inv-loop μ-loop
+    start = let c = at-loop in search
+
+mul-v : tie.Need-mul-v Inv-loop μ-loop
+mul-v c = omega (arith, at-loop .loop .inv .out .low, start .pre .room)
+  where
+    at-loop : tie.At-loop Inv-loop μ-loop
+    at-loop = search
+
+    start : tie.Start Inv-loop μ-loop
+    start = let c = at-loop in search
+
+add-v : tie.Need-add-v Inv-loop μ-loop
+add-v c = omega (arith, at-loop .loop .inv .out .low, start .pre .room)
+  where
+    at-loop : tie.At-loop Inv-loop μ-loop
+    at-loop = search
+
+    start : tie.Start Inv-loop μ-loop
+    start = let c = at-loop in search
+
+mul-v-2 : tie.Need-mul-v-2 Inv-loop μ-loop
+mul-v-2 c = omega (arith, at-loop .loop .inv .out .low, start .pre .room)
+  where
+    at-loop : tie.At-loop Inv-loop μ-loop
+    at-loop = search
+
+    start : tie.Start Inv-loop μ-loop
+    start = let c = at-loop in search
+
+cast-v : tie.Need-cast-v Inv-loop μ-loop
+cast-v c = omega (arith, c .shared-slice-known3 .given (4 * (at-loop .loop .e - 1) + 1))
+  where
+    at-loop : tie.At-loop Inv-loop μ-loop
+    at-loop = search
 
 pub build-index-spec : {M : Type 1} → statement M
 build-index-spec =
@@ -79,29 +376,29 @@ build-index-spec =
     (tie.spec
     Inv-loop
     μ-loop
-    (λ c. omega (arith, c .before .before .before .before .pre .heads-room))
-    (λ c. omega (arith, c .before .before .before .before .pre .small))
-    (λ c κs. c .before .before .before .before .pre .heads-room)
-    (λ c. building-start _ refl (c .before .before .fill .ensures))
+    (λ c. let start : tie.Start Inv-loop μ-loop = search in omega (arith, start .pre .heads-room))
+    (λ c. let start : tie.Start Inv-loop μ-loop = search in omega (arith, start .pre .small))
+    (λ c κs. let start : tie.Start Inv-loop μ-loop = search in start .pre .heads-room)
+    (λ c. let at-fill : tie.After-fill Inv-loop μ-loop = search in building-start _ refl (at-fill .fill .ensures))
     (λ c. omega arith)
-    (λ c. omega (arith, c .before .loop .inv .out .low, c .before .before .before .before .before .before .before .before .before .pre .room))
-    (λ c. omega (arith, c .before .loop .inv .out .low, c .before .before .before .before .before .before .before .before .before .pre .room))
-    (λ c. omega (arith, c .before .before .loop .inv .out .low, c .before .before .before .before .before .before .before .before .before .before .pre .room))
-    (λ c. omega (arith, c .shared-slice-known2 .given (4 * (c .before .before .loop .e - 1))))
+    mul-u
+    mul-u-2
+    shared-slice-read-u
+    cast-u
     mul-u-3
     mul-nexts
     slice-read-nexts
-    (λ c. omega (arith, c .before .before .before .loop .inv .out .low, c .before .before .before .before .before .before .before .before .before .before .before .pre .nexts-room))
-    (λ c. omega (arith, c .before .before .before .loop .inv .out .low, c .before .before .before .before .before .before .before .before .before .before .before .pre .nexts-room))
+    mul-nexts-2
+    mul-nexts-3
     slice-write-nexts
-    (λ c. omega (arith, c .before .before .before .loop .inv .out .low, c .before .before .before .before .before .before .before .before .before .before .before .pre .small))
+    cast-heads
     mul-heads
     slice-write-heads
-    (λ c. omega (arith, c .before .before .before .loop .inv .out .low, c .before .before .before .before .before .before .before .before .before .before .before .pre .room))
-    (λ c. omega (arith, c .before .before .before .loop .inv .out .low, c .before .before .before .before .before .before .before .before .before .before .before .pre .room))
-    (λ c. omega (arith, c .before .before .before .loop .inv .out .low, c .before .before .before .before .before .before .before .before .before .before .before .pre .room))
+    mul-v
+    add-v
+    mul-v-2
     shared-slice-read-v
-    (λ c. omega (arith, c .shared-slice-known3 .given (4 * (c .before .before .before .before .loop .e - 1) + 1)))
+    cast-v
     mul-v-3
     add-v-2
     mul-nexts-4

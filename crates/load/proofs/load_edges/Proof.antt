@@ -12,7 +12,44 @@ abbrev μ-loop : tie.MeasureT-loop
 μ-loop rec es₀ m i₀ es i = m - i
 
 loop-again : tie.Need-loop-again Inv-loop μ-loop
-loop-again c = edges-more (c .before .before .before .before .before .before .before .before .before .before .before .before .pre .0) (c .before .before .before .before .before .before .before .before .before .loop .inv) (omega arith) (omega arith) (c .before .before .before .before .before .before .before .edge-from-at .ensures) (c .before .before .before .before .before .before .edge-to-at .ensures) (c .before .before .before .before .before .edge-support-at .ensures) (c .before .before .before .edge-flag-at .ensures) (c .before .before .put-edge .ensures)
+loop-again c =
+    edges-more
+    (start .pre .0)
+    (at-loop .loop .inv)
+    (omega arith)
+    (omega arith)
+    (at-edge-from-at .edge-from-at .ensures)
+    (at-edge-to-at .edge-to-at .ensures)
+    (at-edge-support-at .edge-support-at .ensures)
+    (at-edge-flag-at .edge-flag-at .ensures)
+    (at-put-edge .put-edge .ensures)
+  where
+    at-put-edge : tie.After-put-edge Inv-loop μ-loop
+    at-put-edge = search
+
+    at-edge-flag-at : tie.After-edge-flag-at Inv-loop μ-loop
+    at-edge-flag-at = let c = at-put-edge in search
+
+    at-edge-support-at : tie.After-edge-support-at Inv-loop μ-loop
+    at-edge-support-at = let c = at-edge-flag-at in search
+
+    at-edge-to-at : tie.After-edge-to-at Inv-loop μ-loop
+    at-edge-to-at = let c = at-edge-support-at in search
+
+    at-edge-from-at : tie.After-edge-from-at Inv-loop μ-loop
+    at-edge-from-at = let c = at-edge-to-at in search
+
+    at-loop : tie.At-loop Inv-loop μ-loop
+    at-loop = let c = at-edge-from-at in search
+
+    start : tie.Start Inv-loop μ-loop
+    start = let c = at-loop in search
+
+returns : tie.Need-returns Inv-loop μ-loop
+returns c =
+    let at-loop : tie.At-loop Inv-loop μ-loop = search in
+    let start : tie.Start Inv-loop μ-loop = search in
+    edges-end (at-loop .loop .inv) (start .pre .1 .0) (c .loop-test .left)
 
 pub load-edges-spec : {M : Type 1} → statement M
 load-edges-spec =
@@ -21,13 +58,13 @@ load-edges-spec =
     Inv-loop
     μ-loop
     (λ c. edges-start)
-    (λ c κs. edge-inside (c .before .before .before .before .pre .0) _ (omega arith))
-    (λ c κs. edge-inside (c .before .before .before .before .before .pre .0) _ (omega arith))
-    (λ c κs. edge-inside (c .before .before .before .before .before .before .pre .0) _ (omega arith))
-    (λ c κs. edge-inside (c .before .before .before .before .before .before .before .before .pre .0) _ (omega arith))
-    (λ c κs. omega (arith, c .before .before .before .before .before .before .loop .inv .len))
+    (λ c κs. let start : tie.Start Inv-loop μ-loop = search in edge-inside (start .pre .0) _ (omega arith))
+    (λ c κs. let start : tie.Start Inv-loop μ-loop = search in edge-inside (start .pre .0) _ (omega arith))
+    (λ c κs. let start : tie.Start Inv-loop μ-loop = search in edge-inside (start .pre .0) _ (omega arith))
+    (λ c κs. let start : tie.Start Inv-loop μ-loop = search in edge-inside (start .pre .0) _ (omega arith))
+    (λ c κs. let at-loop : tie.At-loop Inv-loop μ-loop = search in omega (arith, at-loop .loop .inv .len))
     (λ c. omega arith)
     (λ c. omega arith)
     loop-again
-    (λ c. c .before .loop .inv .len)
-    (λ c. edges-end (c .before .loop .inv) (c .before .before .before .before .pre .1 .0) (c .loop-test .left)))
+    (λ c. let at-loop : tie.At-loop Inv-loop μ-loop = search in at-loop .loop .inv .len)
+    returns)

@@ -8,18 +8,70 @@ use Rattle.load.proofs.load_graph.Statement.{statement}
 use Rattle.load.proofs.load_graph.Tie as tie
 
 load-bytes-requires : tie.Need-load-bytes-requires
-load-bytes-requires c κs = (omega (arith, length-is _ (c .before .before .before .before .before .before .before .before .before .before .before .before .before .before .before .before .pre .good), c .before .before .before .before .before .before .before .before .before .before .before .vertex-count .ensures .0, c .before .before .before .before .before .before .before .before .before .before .edge-count .ensures .0, c .before .before .before .before .before .before .before .before .before .byte-count .ensures .0), omega (arith, c .before .before .before .before .before .before .before .before .before .before .before .before .before .before .before .before .pre .p-room, c .before .before .before .before .before .before .before .before .before .byte-count .ensures .0))
+load-bytes-requires c κs = (
+  omega (
+    arith,
+    length-is _ (start .pre .good),
+    at-vertex-count .vertex-count .ensures .0,
+    at-edge-count .edge-count .ensures .0,
+    at-byte-count .byte-count .ensures .0,
+  ),
+  omega (arith, start .pre .p-room, at-byte-count .byte-count .ensures .0),
+)
+  where
+    at-byte-count : tie.After-byte-count
+    at-byte-count = search
+
+    at-edge-count : tie.After-edge-count
+    at-edge-count = let c = at-byte-count in search
+
+    at-vertex-count : tie.After-vertex-count
+    at-vertex-count = let c = at-edge-count in search
+
+    start : tie.Start
+    start = let c = at-vertex-count in search
 
 returns : tie.Need-returns
-returns c = loaded (c .before .before .before .before .before .before .before .before .before .before .before .before .before .before .before .before .before .before .before .before .pre .good) (c .kmer-size .ensures) (c .before .before .before .before .before .before .before .before .before .before .before .before .before .before .before .vertex-count .ensures .0) (c .before .before .before .before .before .before .before .before .before .before .before .before .before .before .edge-count .ensures .0) (c .before .before .before .before .before .before .before .before .before .before .before .before .before .byte-count .ensures .0) refl (omega (arith, c .before .before .before .before .before .before .before .before .before .before .before .before .before .before .before .before .before .before .before .before .pre .p-room, c .before .before .before .load-bytes .kept)) (c .before .before .before .before .before .before .before .before .before .before .before .load-edges .ensures) (c .before .before .before .before .before .before .before .load-vertices .ensures) (c .before .before .before .load-bytes .ensures)
+returns c =
+    loaded
+    (start .pre .good)
+    (c .kmer-size .ensures)
+    (at-vertex-count .vertex-count .ensures .0)
+    (at-edge-count .edge-count .ensures .0)
+    (at-byte-count .byte-count .ensures .0) refl
+    (omega (arith, start .pre .p-room, at-load-bytes .load-bytes .kept))
+    (at-load-edges .load-edges .ensures)
+    (at-load-vertices .load-vertices .ensures)
+    (at-load-bytes .load-bytes .ensures)
+  where
+    at-load-bytes : tie.After-load-bytes
+    at-load-bytes = search
+
+    at-load-vertices : tie.After-load-vertices
+    at-load-vertices = let c = at-load-bytes in search
+
+    at-load-edges : tie.After-load-edges
+    at-load-edges = let c = at-load-vertices in search
+
+    at-byte-count : tie.After-byte-count
+    at-byte-count = let c = at-load-edges in search
+
+    at-edge-count : tie.After-edge-count
+    at-edge-count = let c = at-byte-count in search
+
+    at-vertex-count : tie.After-vertex-count
+    at-vertex-count = let c = at-edge-count in search
+
+    start : tie.Start
+    start = let c = at-vertex-count in search
 
 pub load-graph-spec : {M : Type 1} → statement M
 load-graph-spec =
     tie.close
     (tie.spec
-    (λ c κs. omega (arith, length-is _ (c .before .before .before .before .pre .good)))
-    (λ c κs. omega (arith, length-is _ (c .before .before .before .before .before .pre .good)))
-    (λ c κs. omega (arith, length-is _ (c .before .before .before .before .before .before .pre .good)))
+    (λ c κs. let start : tie.Start = search in omega (arith, length-is _ (start .pre .good)))
+    (λ c κs. let start : tie.Start = search in omega (arith, length-is _ (start .pre .good)))
+    (λ c κs. let start : tie.Start = search in omega (arith, length-is _ (start .pre .good)))
     (λ c κs. search needs)
     (λ c κs. search needs)
     (λ c. search needs)

@@ -12,10 +12,56 @@ abbrev μ-loop : tie.MeasureT-loop
 μ-loop rec vs₀ n i₀ start₀ vs i start = n - i
 
 add-start : tie.Need-add-start Inv-loop μ-loop
-add-start c = omega (arith, c .before .before .before .before .before .before .loop .inv .small, c .before .before .before .before .before .before .before .before .before .pre .0 .vertices, c .before .before .before .before .length-at .ensures)
+add-start c = omega (arith, at-loop .loop .inv .small, start .pre .0 .vertices, at-length-at .length-at .ensures)
+  where
+    at-length-at : tie.After-length-at Inv-loop μ-loop
+    at-length-at = search
+
+    at-loop : tie.At-loop Inv-loop μ-loop
+    at-loop = let c = at-length-at in search
+
+    start : tie.Start Inv-loop μ-loop
+    start = let c = at-loop in search
 
 loop-again : tie.Need-loop-again Inv-loop μ-loop
-loop-again c = vertices-more (c .before .before .before .before .before .before .loop .inv) (omega arith) (omega arith) (c .before .before .before .before .length-at .ensures .0) (c .before .before .before .before .length-at .ensures .1) (c .before .before .put-vertex .ensures)
+loop-again c =
+    vertices-more
+    (at-loop .loop .inv)
+    (omega arith)
+    (omega arith)
+    (at-length-at .length-at .ensures .0)
+    (at-length-at .length-at .ensures .1)
+    (at-put-vertex .put-vertex .ensures)
+  where
+    at-put-vertex : tie.After-put-vertex Inv-loop μ-loop
+    at-put-vertex = search
+
+    at-length-at : tie.After-length-at Inv-loop μ-loop
+    at-length-at = let c = at-put-vertex in search
+
+    at-loop : tie.At-loop Inv-loop μ-loop
+    at-loop = let c = at-length-at in search
+
+cast-put-vertex : tie.Need-cast-put-vertex Inv-loop μ-loop
+cast-put-vertex c = omega (arith, at-loop .loop .inv .small, start .pre .0 .vertices)
+  where
+    at-loop : tie.At-loop Inv-loop μ-loop
+    at-loop = search
+
+    start : tie.Start Inv-loop μ-loop
+    start = let c = at-loop in search
+
+cast-put-vertex-2 : tie.Need-cast-put-vertex-2 Inv-loop μ-loop
+cast-put-vertex-2 c = omega (arith, at-length-at .length-at .ensures)
+  where
+    at-length-at : tie.After-length-at Inv-loop μ-loop
+    at-length-at = search
+
+returns : tie.Need-returns Inv-loop μ-loop
+returns c =
+    let at-loop : tie.At-loop Inv-loop μ-loop = search in
+    let start : tie.Start Inv-loop μ-loop = search in
+    vertices-end (at-loop .loop .inv) (start .pre .1 .0) (c .loop-test .left)
 
 pub load-vertices-spec : {M : Type 1} → statement M
 load-vertices-spec =
@@ -24,13 +70,13 @@ load-vertices-spec =
     Inv-loop
     μ-loop
     (λ c. vertices-start)
-    (λ c κs. length-inside (c .before .before .before .before .pre .0) _ (omega arith))
-    (λ c. omega (arith, c .before .before .before .loop .inv .small, c .before .before .before .before .before .before .pre .0 .vertices))
-    (λ c. omega (arith, c .before .length-at .ensures))
-    (λ c κs. omega (arith, c .before .before .before .loop .inv .len))
+    (λ c κs. let start : tie.Start Inv-loop μ-loop = search in length-inside (start .pre .0) _ (omega arith))
+    cast-put-vertex
+    cast-put-vertex-2
+    (λ c κs. let at-loop : tie.At-loop Inv-loop μ-loop = search in omega (arith, at-loop .loop .inv .len))
     add-start
     (λ c. omega arith)
     (λ c. omega arith)
     loop-again
-    (λ c. c .before .loop .inv .len)
-    (λ c. vertices-end (c .before .loop .inv) (c .before .before .before .before .pre .1 .0) (c .loop-test .left)))
+    (λ c. let at-loop : tie.At-loop Inv-loop μ-loop = search in at-loop .loop .inv .len)
+    returns)

@@ -7,6 +7,12 @@ use borrow.Author.Needs.{needs}
 use Rattle.merge_diamond.proofs.first_follower.Statement.{statement}
 use Rattle.merge_diamond.proofs.first_follower.Tie as tie
 
+returns : tie.Need-returns
+returns c =
+    let at-if1 : tie.Then1 = search in
+    let start : tie.Start = search in
+    c .edge-to .ensures ∙ follower-there (start .pre .1) (start .pre .0) refl (at-if1 .if1 .taken)
+
 pub first-follower-spec : {M : Type 1} → statement M
 first-follower-spec =
     tie.close
@@ -14,7 +20,7 @@ first-follower-spec =
     (λ c. search needs)
     (λ c. search needs)
     (λ c. search needs)
-    (λ c. omega (arith, c .shared-slice-known4 .given (2 * c .before .before .before .before .args .v)))
+    (λ c. let start : tie.Start = search in omega (arith, c .shared-slice-known4 .given (2 * start .args .v)))
     (λ c κs. search needs)
-    (λ c. c .edge-to .ensures ∙ follower-there (c .before .before .before .before .before .before .pre .1) (c .before .before .before .before .before .before .pre .0) refl (c .before .if1 .taken))
-    (λ c. follower-none (c .before .before .before .before .before .pre .1) (c .before .before .before .before .before .pre .0) refl (c .if1 .left)))
+    returns
+    (λ c. let start : tie.Start = search in follower-none (start .pre .1) (start .pre .0) refl (c .if1 .left)))

@@ -12,10 +12,37 @@ abbrev μ-loop : tie.MeasureT-loop
 μ-loop es₀ m n heads nexts nodes c map₀ y k₀ i₀ es map k i = c - i
 
 redirect-edges-requires : tie.Need-redirect-edges-requires Inv-loop μ-loop
-redirect-edges-requires c κs = taking-ready (c .before .before .before .before .before .before .before .before .before .before .pre) (c .before .before .before .before .loop .inv) (c .before .before .before .loop-test .taken)
+redirect-edges-requires c κs =
+    let at-loop-test : tie.In-loop Inv-loop μ-loop = search in
+    let at-loop : tie.At-loop Inv-loop μ-loop = search in
+    let start : tie.Start Inv-loop μ-loop = search in
+    taking-ready (start .pre) (at-loop .loop .inv) (at-loop-test .loop-test .taken)
 
 loop-again : tie.Need-loop-again Inv-loop μ-loop
-loop-again c = taking-more (c .before .before .before .before .before .before .before .before .before .before .before .before .before .before .before .pre) (c .before .before .before .before .before .before .before .before .before .loop .inv) (c .before .before .before .before .before .before .before .before .loop-test .taken) (c .before .before .before .before .redirect-edges .ensures) (c .before .before .before .before .redirect-edges .kept .0) (c .before .before .before .before .redirect-edges .kept .1 .1 .1 .1 .1 .1 .1 .1 .1 .1 .0)
+loop-again c =
+    let at-redirect-edges : tie.After-redirect-edges Inv-loop μ-loop = search in
+    let at-loop-test : tie.In-loop Inv-loop μ-loop = search in
+    let at-loop : tie.At-loop Inv-loop μ-loop = search in
+    let start : tie.Start Inv-loop μ-loop = search in
+    taking-more
+    (start .pre)
+    (at-loop .loop .inv)
+    (at-loop-test .loop-test .taken)
+    (at-redirect-edges .redirect-edges .ensures)
+    (at-redirect-edges .redirect-edges .kept .0)
+    (at-redirect-edges .redirect-edges .kept .1 .1 .1 .1 .1 .1 .1 .1 .1 .1 .0)
+
+cast-v : tie.Need-cast-v Inv-loop μ-loop
+cast-v c = omega (arith, c .shared-slice-known4 .given (at-loop .loop .i))
+  where
+    at-loop : tie.At-loop Inv-loop μ-loop
+    at-loop = search
+
+returns : tie.Need-returns Inv-loop μ-loop
+returns c =
+    let at-loop : tie.At-loop Inv-loop μ-loop = search in
+    let start : tie.Start Inv-loop μ-loop = search in
+    taking-end (start .pre) (at-loop .loop .inv) (c .loop-test .left)
 
 pub redirect-into-spec : {M : Type 1} → statement M
 redirect-into-spec =
@@ -23,15 +50,15 @@ redirect-into-spec =
     (tie.spec
     Inv-loop
     μ-loop
-    (λ c. omega (arith, c .before .before .before .before .before .pre .roomy .n-small))
-    (λ c. taking-start (c .before .before .before .before .before .pre))
-    (λ c. omega (arith, c .before .before .before .before .before .before .before .pre .prevs .room))
-    (λ c. omega (arith, c .before .before .before .before .before .before .before .before .pre .prevs .room))
-    (λ c. omega (arith, c .shared-slice-known4 .given (c .before .before .loop .i)))
+    (λ c. let start : tie.Start Inv-loop μ-loop = search in omega (arith, start .pre .roomy .n-small))
+    (λ c. let start : tie.Start Inv-loop μ-loop = search in taking-start (start .pre))
+    (λ c. let start : tie.Start Inv-loop μ-loop = search in omega (arith, start .pre .prevs .room))
+    (λ c. let start : tie.Start Inv-loop μ-loop = search in omega (arith, start .pre .prevs .room))
+    cast-v
     redirect-edges-requires
     (λ c. omega arith)
     (λ c. omega arith)
     loop-again
-    (λ c. c .before .loop .inv .len)
-    (λ c. c .before .loop .inv .mp-len)
-    (λ c. taking-end (c .before .before .before .before .before .before .before .pre) (c .before .loop .inv) (c .loop-test .left)))
+    (λ c. let at-loop : tie.At-loop Inv-loop μ-loop = search in at-loop .loop .inv .len)
+    (λ c. let at-loop : tie.At-loop Inv-loop μ-loop = search in at-loop .loop .inv .mp-len)
+    returns)

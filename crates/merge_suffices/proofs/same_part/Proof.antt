@@ -12,6 +12,24 @@ Inv-loop p a b n i₀ i = Comparing p a b n i
 abbrev μ-loop : tie.MeasureT-loop
 μ-loop p a b n i₀ i = n - i
 
+returns : tie.Need-returns Inv-loop μ-loop
+returns c =
+    let at-loop-test : tie.In-loop Inv-loop μ-loop = search in
+    let at-loop : tie.At-loop Inv-loop μ-loop = search in
+    comparing-no (at-loop .loop .inv) (at-loop-test .loop-test .taken) (c .if1 .taken)
+
+loop-again : tie.Need-loop-again Inv-loop μ-loop
+loop-again c = record { high = omega arith; same = below-more _ _ (at-loop .loop .inv .same) (c .if1 .left) }
+  where
+    at-loop : tie.At-loop Inv-loop μ-loop
+    at-loop = search
+
+returns-2 : tie.Need-returns-2 Inv-loop μ-loop
+returns-2 c =
+    let at-loop : tie.At-loop Inv-loop μ-loop = search in
+    let start : tie.Start Inv-loop μ-loop = search in
+    comparing-end (at-loop .loop .inv) (start .pre .0) (start .pre .1) (c .loop-test .left)
+
 pub same-part-spec : {M : Type 1} → statement M
 same-part-spec =
     tie.close
@@ -23,8 +41,8 @@ same-part-spec =
     (λ c. omega arith)
     (λ c. omega arith)
     (λ c. omega arith)
-    (λ c. comparing-no (c .before .before .before .before .loop .inv) (c .before .before .before .loop-test .taken) (c .if1 .taken))
+    returns
     (λ c. omega arith)
     (λ c. omega arith)
-    (λ c. record { high = omega arith; same = below-more _ _ (c .before .before .before .before .loop .inv .same) (c .if1 .left) })
-    (λ c. comparing-end (c .before .loop .inv) (c .before .before .pre .0) (c .before .before .pre .1) (c .loop-test .left)))
+    loop-again
+    returns-2)

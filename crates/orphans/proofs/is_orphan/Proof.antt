@@ -6,16 +6,62 @@ use Rattle.orphans.proofs.is_orphan.Statement.{statement}
 use Rattle.orphans.proofs.is_orphan.Tie as tie
 
 returns : tie.Need-returns
-returns c = orphan-entered (c .before .before .before .before .before .args .m) (c .before .before .before .before .before .args .n) (c .before .before .before .before .before .args .es .now) (c .before .before .before .before .before .args .v) (c .before .degree .ensures) (c .if1 .taken)
+returns c =
+    let at-degree : tie.After-degree = search in
+    let start : tie.Start = search in
+    orphan-entered
+    (start .args .m)
+    (start .args .n)
+    (start .args .es .now)
+    (start .args .v)
+    (at-degree .degree .ensures)
+    (c .if1 .taken)
 
 returns-2 : tie.Need-returns-2
-returns-2 c = orphan-left (c .before .before .before .before .before .before .before .args .m) (c .before .before .before .before .before .before .before .args .n) (c .before .before .before .before .before .before .before .args .es .now) (c .before .before .before .before .before .before .before .args .v) (c .before .degree2 .ensures) (c .if2 .taken)
+returns-2 c =
+    let at-degree2 : tie.After-degree2 = search in
+    let start : tie.Start = search in
+    orphan-left
+    (start .args .m)
+    (start .args .n)
+    (start .args .es .now)
+    (start .args .v)
+    (at-degree2 .degree2 .ensures)
+    (c .if2 .taken)
 
 returns-3 : tie.Need-returns-3
-returns-3 c = orphan-source (c .before .before .before .before .before .before .before .before .before .args .m) (c .before .before .before .before .before .before .before .before .before .args .n) (c .before .before .before .before .before .before .before .before .before .args .es .now) (c .before .before .before .before .before .before .before .before .before .args .v) (source-as (c .if3 .taken) (c .before .is-ref-source .ensures))
+returns-3 c =
+    orphan-source
+    (start .args .m)
+    (start .args .n)
+    (start .args .es .now)
+    (start .args .v)
+    (source-as (c .if3 .taken) (at-is-ref-source .is-ref-source .ensures))
+  where
+    at-is-ref-source : tie.After-is-ref-source
+    at-is-ref-source = search
+
+    start : tie.Start
+    start = let c = at-is-ref-source in search
 
 returns-4 : tie.Need-returns-4
-returns-4 c = orphan-yes (c .before .before .before .before .before .before .before .before .before .args .m) (c .before .before .before .before .before .before .before .before .before .args .n) (c .before .before .before .before .before .before .before .before .before .args .es .now) (c .before .before .before .before .before .before .before .before .before .args .v) (c .before .before .before .before .before .degree .ensures) (c .before .before .before .before .if1 .left) (c .before .before .before .degree2 .ensures) (c .before .before .if2 .left) (source-as (c .if3 .left) (c .before .is-ref-source .ensures))
+returns-4 c =
+    let at-is-ref-source : tie.After-is-ref-source = search in
+    let at-if2 : tie.Else2 = search in
+    let at-degree2 : tie.After-degree2 = search in
+    let at-if1 : tie.Else1 = search in
+    let at-degree : tie.After-degree = search in
+    let start : tie.Start = search in
+    orphan-yes
+    (start .args .m)
+    (start .args .n)
+    (start .args .es .now)
+    (start .args .v)
+    (at-degree .degree .ensures)
+    (at-if1 .if1 .left)
+    (at-degree2 .degree2 .ensures)
+    (at-if2 .if2 .left)
+    (source-as (c .if3 .left) (at-is-ref-source .is-ref-source .ensures))
 
 pub is-orphan-spec : {M : Type 1} → statement M
 is-orphan-spec =

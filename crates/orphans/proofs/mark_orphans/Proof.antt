@@ -12,10 +12,78 @@ abbrev μ-loop : tie.MeasureT-loop
 μ-loop es m n heads nexts map₀ v₀ map v = n - v
 
 loop-again : tie.Need-loop-again Inv-loop μ-loop
-loop-again c = marking-yes (c .before .before .before .loop .inv) (c .before .before .loop-test .taken) (c .before .before .before .before .before .before .before .before .pre .0) (c .before .is-orphan .ensures) (c .if1 .taken)
+loop-again c =
+    let at-is-orphan : tie.After-is-orphan Inv-loop μ-loop = search in
+    let at-loop-test : tie.In-loop Inv-loop μ-loop = search in
+    let at-loop : tie.At-loop Inv-loop μ-loop = search in
+    let start : tie.Start Inv-loop μ-loop = search in
+    marking-yes
+    (at-loop .loop .inv)
+    (at-loop-test .loop-test .taken)
+    (start .pre .0)
+    (at-is-orphan .is-orphan .ensures)
+    (c .if1 .taken)
 
 loop-again-2 : tie.Need-loop-again-2 Inv-loop μ-loop
-loop-again-2 c = marking-no (c .before .before .before .loop .inv) (c .before .before .loop-test .taken) (c .before .before .before .before .before .before .before .before .pre .0) (c .before .is-orphan .ensures) (c .if1 .left)
+loop-again-2 c =
+    let at-is-orphan : tie.After-is-orphan Inv-loop μ-loop = search in
+    let at-loop-test : tie.In-loop Inv-loop μ-loop = search in
+    let at-loop : tie.At-loop Inv-loop μ-loop = search in
+    let start : tie.Start Inv-loop μ-loop = search in
+    marking-no
+    (at-loop .loop .inv)
+    (at-loop-test .loop-test .taken)
+    (start .pre .0)
+    (at-is-orphan .is-orphan .ensures)
+    (c .if1 .left)
+
+mul-map : tie.Need-mul-map Inv-loop μ-loop
+mul-map c = omega (arith, at-loop .loop .inv .len, start .pre .0, at-loop-test .loop-test .taken)
+  where
+    at-loop-test : tie.In-loop Inv-loop μ-loop
+    at-loop-test = search
+
+    at-loop : tie.At-loop Inv-loop μ-loop
+    at-loop = let c = at-loop-test in search
+
+    start : tie.Start Inv-loop μ-loop
+    start = let c = at-loop in search
+
+slice-write-map : tie.Need-slice-write-map Inv-loop μ-loop
+slice-write-map c = omega (arith, at-loop .loop .inv .len, start .pre .0, at-loop-test .loop-test .taken)
+  where
+    at-loop-test : tie.In-loop Inv-loop μ-loop
+    at-loop-test = search
+
+    at-loop : tie.At-loop Inv-loop μ-loop
+    at-loop = let c = at-loop-test in search
+
+    start : tie.Start Inv-loop μ-loop
+    start = let c = at-loop in search
+
+mul-map-2 : tie.Need-mul-map-2 Inv-loop μ-loop
+mul-map-2 c = omega (arith, at-loop .loop .inv .len, start .pre .0, at-loop-test .loop-test .taken)
+  where
+    at-loop-test : tie.In-loop Inv-loop μ-loop
+    at-loop-test = search
+
+    at-loop : tie.At-loop Inv-loop μ-loop
+    at-loop = let c = at-loop-test in search
+
+    start : tie.Start Inv-loop μ-loop
+    start = let c = at-loop in search
+
+slice-write-map-2 : tie.Need-slice-write-map-2 Inv-loop μ-loop
+slice-write-map-2 c = omega (arith, at-loop .loop .inv .len, start .pre .0, at-loop-test .loop-test .taken)
+  where
+    at-loop-test : tie.In-loop Inv-loop μ-loop
+    at-loop-test = search
+
+    at-loop : tie.At-loop Inv-loop μ-loop
+    at-loop = let c = at-loop-test in search
+
+    start : tie.Start Inv-loop μ-loop
+    start = let c = at-loop in search
 
 pub mark-orphans-spec : {M : Type 1} → statement M
 mark-orphans-spec =
@@ -25,14 +93,14 @@ mark-orphans-spec =
     μ-loop
     (λ c. marking-start)
     (λ c. omega arith)
-    (λ c κs. (c .loop-test .taken, c .before .before .before .before .before .before .pre .1))
-    (λ c. omega (arith, c .before .before .before .loop .inv .len, c .before .before .before .before .before .before .before .before .pre .0, c .before .before .loop-test .taken))
-    (λ c. omega (arith, c .before .before .before .loop .inv .len, c .before .before .before .before .before .before .before .before .pre .0, c .before .before .loop-test .taken))
+    (λ c κs. let start : tie.Start Inv-loop μ-loop = search in (c .loop-test .taken, start .pre .1))
+    mul-map
+    slice-write-map
     (λ c. omega arith)
     loop-again
-    (λ c. omega (arith, c .before .before .before .loop .inv .len, c .before .before .before .before .before .before .before .before .pre .0, c .before .before .loop-test .taken))
-    (λ c. omega (arith, c .before .before .before .loop .inv .len, c .before .before .before .before .before .before .before .before .pre .0, c .before .before .loop-test .taken))
+    mul-map-2
+    slice-write-map-2
     (λ c. omega arith)
     loop-again-2
-    (λ c. c .before .loop .inv .len)
-    (λ c. marking-end (c .before .loop .inv) (c .loop-test .left)))
+    (λ c. let at-loop : tie.At-loop Inv-loop μ-loop = search in at-loop .loop .inv .len)
+    (λ c. let at-loop : tie.At-loop Inv-loop μ-loop = search in marking-end (at-loop .loop .inv) (c .loop-test .left)))

@@ -5,7 +5,20 @@ use Rattle.orphans.proofs.remove_singleton_orphan_vertices.Statement.{s
 use Rattle.orphans.proofs.remove_singleton_orphan_vertices.Tie as tie
 
 returns : tie.Need-returns
-returns c = reduced-as (marked-orphans (c .before .before .before .before .before .before .before .before .before .before .before .before .before .before .before .before .before .before .before .before .args .held) (c .before .before .before .before .before .before .before .before .before .before .before .before .before .before .before .before .before .before .before .before .args .vs .now) (c .before .before .before .before .before .before .before .before .before .before .before .before .before .before .before .before .before .before .before .before .pre .0 .ends) (c .before .before .before .before .before .before .before .before .before .before .before .before .mark-orphans .ensures)) (c .before .before .before .before .before .before .remove-marked .ensures)
+returns c =
+    reduced-as
+    (marked-orphans (start .args .held) (start .args .vs .now) (start .pre .0 .ends)
+    (at-mark-orphans .mark-orphans .ensures))
+    (at-remove-marked .remove-marked .ensures)
+  where
+    at-remove-marked : tie.After-remove-marked
+    at-remove-marked = search
+
+    at-mark-orphans : tie.After-mark-orphans
+    at-mark-orphans = let c = at-remove-marked in search
+
+    start : tie.Start
+    start = let c = at-mark-orphans in search
 
 pub remove-singleton-orphan-vertices-spec : {M : Type 1} → statement M
 remove-singleton-orphan-vertices-spec =

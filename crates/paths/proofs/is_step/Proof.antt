@@ -8,7 +8,9 @@ use Rattle.paths.proofs.is_step.Statement.{statement}
 use Rattle.paths.proofs.is_step.Tie as tie
 
 pub is-step-spec : {M : Type 1} → statement M
-is-step-spec = tie.close (tie.spec
+is-step-spec =
+    tie.close
+    (tie.spec
     (λ c. and-else _ (ne-eqb _ _ (c .if1 .taken)))
     (λ c κs. search needs)
-    (λ c. c .has-edge .ensures ∙ and-then _ (eq-eqb _ _ (c .before .if1 .left))))
+    (λ c. let at-if1 : tie.Else1 = search in c .has-edge .ensures ∙ and-then _ (eq-eqb _ _ (at-if1 .if1 .left))))

@@ -13,10 +13,58 @@ abbrev μ-loop : tie.MeasureT-loop
 μ-loop start list nodes₀ c₀ i₀ nodes c i = length list - i
 
 slice-write-nodes-2 : tie.Need-slice-write-nodes-2 Inv-loop μ-loop
-slice-write-nodes-2 c = noting-room (c .before .before .loop .inv) (omega (arith, c .before .before .before .pre, length-set (c .before .before .before .args .nodes .now) 0 (c .before .before .before .args .start))) (c .before .loop-test .taken)
+slice-write-nodes-2 c =
+    noting-room
+    (at-loop .loop .inv)
+    (omega (arith, start .pre, length-set (start .args .nodes .now) 0 (start .args .start)))
+    (at-loop-test .loop-test .taken)
+  where
+    at-loop-test : tie.In-loop Inv-loop μ-loop
+    at-loop-test = search
+
+    at-loop : tie.At-loop Inv-loop μ-loop
+    at-loop = let c = at-loop-test in search
+
+    start : tie.Start Inv-loop μ-loop
+    start = let c = at-loop in search
 
 loop-again : tie.Need-loop-again Inv-loop μ-loop
-loop-again c = noting-more (c .before .before .loop .inv) (omega (arith, c .before .before .before .pre, length-set (c .before .before .before .args .nodes .now) 0 (c .before .before .before .args .start))) (c .before .loop-test .taken)
+loop-again c =
+    noting-more
+    (at-loop .loop .inv)
+    (omega (arith, start .pre, length-set (start .args .nodes .now) 0 (start .args .start)))
+    (at-loop-test .loop-test .taken)
+  where
+    at-loop-test : tie.In-loop Inv-loop μ-loop
+    at-loop-test = search
+
+    at-loop : tie.At-loop Inv-loop μ-loop
+    at-loop = let c = at-loop-test in search
+
+    start : tie.Start Inv-loop μ-loop
+    start = let c = at-loop in search
+
+same-length : tie.Need-same-length Inv-loop μ-loop
+same-length c = omega (arith, at-loop .loop .inv .len, length-set (start .args .nodes .now) 0 (start .args .start))
+  where
+    at-loop : tie.At-loop Inv-loop μ-loop
+    at-loop = search
+
+    start : tie.Start Inv-loop μ-loop
+    start = let c = at-loop in search
+
+returns : tie.Need-returns Inv-loop μ-loop
+returns c =
+    noting-end
+    (at-loop .loop .inv)
+    (omega (arith, start .pre, length-set (start .args .nodes .now) 0 (start .args .start)))
+    (c .loop-test .left)
+  where
+    at-loop : tie.At-loop Inv-loop μ-loop
+    at-loop = search
+
+    start : tie.Start Inv-loop μ-loop
+    start = let c = at-loop in search
 
 pub path-nodes-spec : {M : Type 1} → statement M
 path-nodes-spec =
@@ -30,11 +78,11 @@ path-nodes-spec =
     (λ c. omega arith)
     (λ c. omega arith)
     (λ c. omega arith)
-    (λ c. omega (arith, c .before .before .loop .inv .low))
+    (λ c. let at-loop : tie.At-loop Inv-loop μ-loop = search in omega (arith, at-loop .loop .inv .low))
     slice-write-nodes-2
-    (λ c. omega (arith, c .before .before .loop .inv .low))
+    (λ c. let at-loop : tie.At-loop Inv-loop μ-loop = search in omega (arith, at-loop .loop .inv .low))
     (λ c. omega arith)
     (λ c. omega arith)
     loop-again
-    (λ c. omega (arith, c .before .loop .inv .len, length-set (c .before .before .args .nodes .now) 0 (c .before .before .args .start)))
-    (λ c. noting-end (c .before .loop .inv) (omega (arith, c .before .before .pre, length-set (c .before .before .args .nodes .now) 0 (c .before .before .args .start))) (c .loop-test .left)))
+    same-length
+    returns)

@@ -11,6 +11,13 @@ Inv-loop p₀ to from n i₀ p i = Copying p₀ to from n p i
 abbrev μ-loop : tie.MeasureT-loop
 μ-loop p₀ to from n i₀ p i = n - i
 
+loop-again : tie.Need-loop-again Inv-loop μ-loop
+loop-again c =
+    let at-loop-test : tie.In-loop Inv-loop μ-loop = search in
+    let at-loop : tie.At-loop Inv-loop μ-loop = search in
+    let start : tie.Start Inv-loop μ-loop = search in
+    copying-more (start .pre) (at-loop .loop .inv) (at-loop-test .loop-test .taken)
+
 pub copy-within-spec : {M : Type 1} → statement M
 copy-within-spec =
     tie.close
@@ -24,6 +31,6 @@ copy-within-spec =
     (λ c. omega arith)
     (λ c. omega arith)
     (λ c. omega arith)
-    (λ c. copying-more (c .before .before .before .pre) (c .before .before .loop .inv) (c .before .loop-test .taken))
+    loop-again
     (λ c. omega arith)
-    (λ c. copying-end (c .before .loop .inv) (c .loop-test .left)))
+    (λ c. let at-loop : tie.At-loop Inv-loop μ-loop = search in copying-end (at-loop .loop .inv) (c .loop-test .left)))

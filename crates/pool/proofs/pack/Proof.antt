@@ -7,10 +7,25 @@ use Rattle.pool.proofs.pack.Statement.{statement}
 use Rattle.pool.proofs.pack.Tie as tie
 
 copy-within-requires : tie.Need-copy-within-requires
-copy-within-requires c κs = record { to-room = omega (arith, c .before .before .before .before .before .gather .ensures .used-is, c .before .before .before .before .before .before .before .before .before .before .pre .room, c .before .before .before .before .before .gather .kept); from-room = omega (arith, c .before .before .before .before .before .gather .ensures .used-is, c .before .before .before .before .before .before .before .before .before .before .pre .room, c .before .before .before .before .before .gather .kept); apart = inr (omega (arith, c .before .before .before .before .before .gather .ensures .used-is, c .before .before .before .before .before .before .before .before .before .before .pre .front)) }
+copy-within-requires c κs =
+    record {
+      to-room = omega (arith, at-gather .gather .ensures .used-is, start .pre .room, at-gather .gather .kept);
+      from-room = omega (arith, at-gather .gather .ensures .used-is, start .pre .room, at-gather .gather .kept);
+      apart = inr (omega (arith, at-gather .gather .ensures .used-is, start .pre .front));
+    }
+  where
+    at-gather : tie.After-gather
+    at-gather = search
+
+    start : tie.Start
+    start = let c = at-gather in search
 
 returns : tie.Need-returns
-returns c = packed-front (c .before .before .before .before .before .before .before .before .before .before .before .before .before .pre) (c .before .before .before .before .before .before .before .before .gather .ensures) (c .before .before .copy-within .ensures)
+returns c =
+    let at-copy-within : tie.After-copy-within = search in
+    let at-gather : tie.After-gather = search in
+    let start : tie.Start = search in
+    packed-front (start .pre) (at-gather .gather .ensures) (at-copy-within .copy-within .ensures)
 
 pub pack-spec : {M : Type 1} → statement M
 pack-spec =

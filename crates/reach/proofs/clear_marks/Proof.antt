@@ -11,6 +11,30 @@ Inv-loop marks₀ n i₀ marks i = Clearing n marks₀ marks i
 abbrev μ-loop : tie.MeasureT-loop
 μ-loop marks₀ n i₀ marks i = n - i
 
+mul-marks : tie.Need-mul-marks Inv-loop μ-loop
+mul-marks c = omega (arith, at-loop .loop .inv .len, start .pre)
+  where
+    at-loop : tie.At-loop Inv-loop μ-loop
+    at-loop = search
+
+    start : tie.Start Inv-loop μ-loop
+    start = let c = at-loop in search
+
+slice-write-marks : tie.Need-slice-write-marks Inv-loop μ-loop
+slice-write-marks c = omega (arith, at-loop .loop .inv .len, start .pre)
+  where
+    at-loop : tie.At-loop Inv-loop μ-loop
+    at-loop = search
+
+    start : tie.Start Inv-loop μ-loop
+    start = let c = at-loop in search
+
+loop-again : tie.Need-loop-again Inv-loop μ-loop
+loop-again c =
+    let at-loop : tie.At-loop Inv-loop μ-loop = search in
+    let start : tie.Start Inv-loop μ-loop = search in
+    clearing-more (at-loop .loop .inv) (c .loop-test .taken) (start .pre)
+
 pub clear-marks-spec : {M : Type 1} → statement M
 clear-marks-spec =
     tie.close
@@ -18,10 +42,10 @@ clear-marks-spec =
     Inv-loop
     μ-loop
     (λ c. clearing-start)
-    (λ c. omega (arith, c .before .loop .inv .len, c .before .before .pre))
-    (λ c. omega (arith, c .before .loop .inv .len, c .before .before .pre))
+    mul-marks
+    slice-write-marks
     (λ c. omega arith)
     (λ c. omega arith)
-    (λ c. clearing-more (c .before .loop .inv) (c .loop-test .taken) (c .before .before .pre))
-    (λ c. c .before .loop .inv .len)
-    (λ c. clearing-end (c .before .loop .inv) (c .loop-test .left)))
+    loop-again
+    (λ c. let at-loop : tie.At-loop Inv-loop μ-loop = search in at-loop .loop .inv .len)
+    (λ c. let at-loop : tie.At-loop Inv-loop μ-loop = search in clearing-end (at-loop .loop .inv) (c .loop-test .left)))

@@ -14,40 +14,142 @@ abbrev μ-loop : tie.MeasureT-loop
 μ-loop es m n heads nexts plain kind s marks₀ queue₀ tail₀ h₀ marks queue tail h = n - h
 
 mul-marks : tie.Need-mul-marks Inv-loop μ-loop
-mul-marks c = omega (arith, c .before .before .before .before .before .before .before .before .before .pre .0, c .before .before .before .before .before .before .before .before .before .pre .1 .1 .marks-room, c .before .before .clear-marks .kept .0)
+mul-marks c = omega (arith, start .pre .0, start .pre .1 .1 .marks-room, at-clear-marks .clear-marks .kept .0)
+  where
+    at-clear-marks : tie.After-clear-marks Inv-loop μ-loop
+    at-clear-marks = search
+
+    start : tie.Start Inv-loop μ-loop
+    start = let c = at-clear-marks in search
 
 slice-write-marks : tie.Need-slice-write-marks Inv-loop μ-loop
-slice-write-marks c = omega (arith, c .before .before .before .before .before .before .before .before .before .pre .0, c .before .before .before .before .before .before .before .before .before .pre .1 .1 .marks-room, c .before .before .clear-marks .kept .0)
+slice-write-marks c = omega (arith, start .pre .0, start .pre .1 .1 .marks-room, at-clear-marks .clear-marks .kept .0)
+  where
+    at-clear-marks : tie.After-clear-marks Inv-loop μ-loop
+    at-clear-marks = search
+
+    start : tie.Start Inv-loop μ-loop
+    start = let c = at-clear-marks in search
 
 cast-queue : tie.Need-cast-queue Inv-loop μ-loop
-cast-queue c = omega (arith, c .before .before .before .before .before .before .before .before .before .pre .0, c .before .before .before .before .before .before .before .before .before .pre .1 .1 .small)
+cast-queue c = omega (arith, start .pre .0, start .pre .1 .1 .small)
+  where
+    start : tie.Start Inv-loop μ-loop
+    start = search
 
 slice-write-queue : tie.Need-slice-write-queue Inv-loop μ-loop
-slice-write-queue c = omega (arith, c .before .before .before .before .before .before .before .before .before .pre .0, c .before .before .before .before .before .before .before .before .before .pre .1 .1 .queue-room)
+slice-write-queue c = omega (arith, start .pre .0, start .pre .1 .1 .queue-room)
+  where
+    start : tie.Start Inv-loop μ-loop
+    start = search
 
 loop-holds : tie.Need-loop-holds Inv-loop μ-loop
-loop-holds c = walking-start (c .before .before .clear-marks .last .0) (c .before .before .before .before .before .before .before .before .before .args .queue .now) (c .before .before .clear-marks .ensures) (c .before .before .before .before .before .before .before .before .before .pre .0) (omega (arith, c .before .before .before .before .before .before .before .before .before .pre .1 .1 .marks-room, c .before .before .clear-marks .kept .0)) (c .before .before .before .before .before .before .before .before .before .pre .1 .1 .queue-room)
+loop-holds c =
+    walking-start
+    (at-clear-marks .clear-marks .last .0)
+    (start .args .queue .now)
+    (at-clear-marks .clear-marks .ensures)
+    (start .pre .0)
+    (omega (arith, start .pre .1 .1 .marks-room, at-clear-marks .clear-marks .kept .0))
+    (start .pre .1 .1 .queue-room)
+  where
+    at-clear-marks : tie.After-clear-marks Inv-loop μ-loop
+    at-clear-marks = search
+
+    start : tie.Start Inv-loop μ-loop
+    start = let c = at-clear-marks in search
 
 leave-vertex-requires : tie.Need-leave-vertex-requires Inv-loop μ-loop
-leave-vertex-requires c κs = (c .before .before .loop-test .taken, (c .before .before .before .before .before .before .before .before .before .before .before .before .before .pre .1 .0, (walkable-kept (c .before .before .before .before .before .before .before .before .before .before .before .before .before .pre .1 .1) (c .before .before .before .loop .inv .marks-len ∙ length-set (c .before .before .before .before .before .before .clear-marks .last .0) (c .before .before .before .before .before .before .before .before .before .before .before .before .before .args .s) 1 ∙ c .before .before .before .before .before .before .clear-marks .kept .0) (c .before .before .before .loop .inv .queue-len ∙ length-set (c .before .before .before .before .before .before .before .before .before .before .before .before .before .args .queue .now) 0 (c .before .before .before .before .before .before .before .before .before .before .before .before .before .args .s)), c .before .before .before .loop .inv .found)))
+leave-vertex-requires c κs = (
+  at-loop-test .loop-test .taken,
+  (
+    start .pre .1 .0,
+    (
+      walkable-kept (start .pre .1 .1)
+          (at-loop .loop .inv .marks-len ∙ length-set (at-clear-marks .clear-marks .last .0) (start .args .s) 1
+          ∙ at-clear-marks .clear-marks .kept .0)
+          (at-loop .loop .inv .queue-len ∙ length-set (start .args .queue .now) 0 (start .args .s)),
+      at-loop .loop .inv .found,
+    ),
+  ),
+)
+  where
+    at-loop-test : tie.In-loop Inv-loop μ-loop
+    at-loop-test = search
+
+    at-loop : tie.At-loop Inv-loop μ-loop
+    at-loop = let c = at-loop-test in search
+
+    at-clear-marks : tie.After-clear-marks Inv-loop μ-loop
+    at-clear-marks = let c = at-loop in search
+
+    start : tie.Start Inv-loop μ-loop
+    start = let c = at-clear-marks in search
 
 add-h : tie.Need-add-h Inv-loop μ-loop
-add-h c = omega (arith, found-most (c .before .before .before .before .before .before .before .before .loop .inv .found), c .before .before .before .before .before .before .before .loop-test .taken, c .before .before .before .before .before .before .before .before .before .before .before .before .before .before .before .before .before .before .pre .1 .1 .small)
+add-h c = omega (arith, found-most (at-loop .loop .inv .found), at-loop-test .loop-test .taken, start .pre .1 .1 .small)
+  where
+    at-loop-test : tie.In-loop Inv-loop μ-loop
+    at-loop-test = search
+
+    at-loop : tie.At-loop Inv-loop μ-loop
+    at-loop = let c = at-loop-test in search
+
+    start : tie.Start Inv-loop μ-loop
+    start = let c = at-loop in search
 
 loop-less : tie.Need-loop-less Inv-loop μ-loop
-loop-less c = omega (arith, found-most (c .before .before .before .before .before .before .before .before .loop .inv .found), c .before .before .before .before .before .before .before .loop-test .taken)
+loop-less c = omega (arith, found-most (at-loop .loop .inv .found), at-loop-test .loop-test .taken)
+  where
+    at-loop-test : tie.In-loop Inv-loop μ-loop
+    at-loop-test = search
+
+    at-loop : tie.At-loop Inv-loop μ-loop
+    at-loop = let c = at-loop-test in search
 
 loop-again : tie.Need-loop-again Inv-loop μ-loop
-loop-again c = walking-more (c .before .before .before .before .before .before .before .before .loop .inv) (c .before .before .before .before .before .before .before .loop-test .taken) (c .before .before .before .before .leave-vertex .ensures) (c .before .before .before .before .leave-vertex .kept .1 .1 .1 .1 .1 .1 .1 .1 .1 .0) (c .before .before .before .before .leave-vertex .kept .1 .1 .1 .1 .1 .1 .1 .1 .1 .1 .0)
+loop-again c =
+    let at-leave-vertex : tie.After-leave-vertex Inv-loop μ-loop = search in
+    let at-loop-test : tie.In-loop Inv-loop μ-loop = search in
+    let at-loop : tie.At-loop Inv-loop μ-loop = search in
+    walking-more
+    (at-loop .loop .inv)
+    (at-loop-test .loop-test .taken)
+    (at-leave-vertex .leave-vertex .ensures)
+    (at-leave-vertex .leave-vertex .kept .1 .1 .1 .1 .1 .1 .1 .1 .1 .0)
+    (at-leave-vertex .leave-vertex .kept .1 .1 .1 .1 .1 .1 .1 .1 .1 .1 .0)
 
 same-length : tie.Need-same-length Inv-loop μ-loop
-same-length c = c .before .loop .inv .marks-len ∙ length-set (c .before .before .before .before .clear-marks .last .0) (c .before .before .before .before .before .before .before .before .before .before .before .args .s) 1 ∙ c .before .before .before .before .clear-marks .kept .0
+same-length c =
+    at-loop .loop .inv .marks-len ∙ length-set (at-clear-marks .clear-marks .last .0) (start .args .s) 1
+    ∙ at-clear-marks .clear-marks .kept .0
+  where
+    at-loop : tie.At-loop Inv-loop μ-loop
+    at-loop = search
+
+    at-clear-marks : tie.After-clear-marks Inv-loop μ-loop
+    at-clear-marks = let c = at-loop in search
+
+    start : tie.Start Inv-loop μ-loop
+    start = let c = at-clear-marks in search
 
 same-length-2 : tie.Need-same-length-2 Inv-loop μ-loop
-same-length-2 c = c .before .loop .inv .queue-len ∙ length-set (c .before .before .before .before .before .before .before .before .before .before .before .args .queue .now) 0 (c .before .before .before .before .before .before .before .before .before .before .before .args .s)
+same-length-2 c = at-loop .loop .inv .queue-len ∙ length-set (start .args .queue .now) 0 (start .args .s)
+  where
+    at-loop : tie.At-loop Inv-loop μ-loop
+    at-loop = search
+
+    start : tie.Start Inv-loop μ-loop
+    start = let c = at-loop in search
 
 returns : tie.Need-returns Inv-loop μ-loop
-returns c = walking-end (c .before .before .before .before .before .before .before .before .before .before .before .pre .1 .0 .ends) (c .before .before .before .before .before .before .before .before .before .before .before .pre .0) (c .before .loop .inv) (c .loop-test .left)
+returns c = walking-end (start .pre .1 .0 .ends) (start .pre .0) (at-loop .loop .inv) (c .loop-test .left)
+  where
+    at-loop : tie.At-loop Inv-loop μ-loop
+    at-loop = search
+
+    start : tie.Start Inv-loop μ-loop
+    start = let c = at-loop in search
 
 pub mark-reached-spec : {M : Type 1} → statement M
 mark-reached-spec =
@@ -55,7 +157,7 @@ mark-reached-spec =
     (tie.spec
     Inv-loop
     μ-loop
-    (λ c κs. c .before .before .before .before .before .before .pre .1 .1 .marks-room)
+    (λ c κs. let start : tie.Start Inv-loop μ-loop = search in start .pre .1 .1 .marks-room)
     mul-marks
     slice-write-marks
     cast-queue

@@ -18,16 +18,79 @@ abbrev μ-loop : tie.MeasureT-loop
 μ-loop rec e i₀ i = e - i
 
 bad-edge-requires : tie.Need-bad-edge-requires Inv-loop μ-loop
-bad-edge-requires c κs = omega (arith, edgeStart-is (c .before .before .before .before .args .rec .now) (c .before .loop .i), bytesAt-is (verticesOf (c .before .before .before .before .args .rec .now)) (edgesOf (c .before .before .before .before .args .rec .now)))
+bad-edge-requires c κs =
+    omega (
+      arith,
+      edgeStart-is (start .args .rec .now) (at-loop .loop .i),
+      bytesAt-is (verticesOf (start .args .rec .now)) (edgesOf (start .args .rec .now)),
+    )
+  where
+    at-loop : tie.At-loop Inv-loop μ-loop
+    at-loop = search
+
+    start : tie.Start Inv-loop μ-loop
+    start = let c = at-loop in search
 
 returns : tie.Need-returns Inv-loop μ-loop
-returns c = sym (any-found (badEdge (c .before .before .before .before .before .before .args .rec .now)) (c .before .before .before .loop .i) (c .before .before .before .before .edge-count .result) (c .before .before .loop-test .taken) (sym (c .before .bad-edge .ensures) ∙ c .if1 .taken)) ∙ c .before .before .before .loop .inv .1 ∙ ap (λ n. anyOf (badEdge (c .before .before .before .before .before .before .args .rec .now)) (upFrom 0 n)) (c .before .before .before .before .edge-count .ensures .0) ∙ sym (any-bad-is (c .before .before .before .before .before .before .args .rec .now))
+returns c =
+    let at-bad-edge : tie.After-bad-edge Inv-loop μ-loop = search in
+    let at-loop-test : tie.In-loop Inv-loop μ-loop = search in
+    let at-loop : tie.At-loop Inv-loop μ-loop = search in
+    let at-edge-count : tie.After-edge-count Inv-loop μ-loop = search in
+    let start : tie.Start Inv-loop μ-loop = search in
+    sym
+    (any-found (badEdge (start .args .rec .now)) (at-loop .loop .i) (at-edge-count .edge-count .result)
+    (at-loop-test .loop-test .taken) (sym (at-bad-edge .bad-edge .ensures) ∙ c .if1 .taken))
+    ∙ at-loop .loop .inv .1 ∙ ap (λ n. anyOf (badEdge (start .args .rec .now)) (upFrom 0 n))
+    (at-edge-count .edge-count .ensures .0)
+    ∙ sym (any-bad-is (start .args .rec .now))
 
 loop-again : tie.Need-loop-again Inv-loop μ-loop
-loop-again c = (omega arith, sym (any-turn (badEdge (c .before .before .before .before .before .before .args .rec .now)) (c .before .before .before .loop .i) (c .before .before .before .before .edge-count .result) (c .before .before .loop-test .taken) (sym (c .before .bad-edge .ensures) ∙ c .if1 .left)) ∙ c .before .before .before .loop .inv .1)
+loop-again c = (
+  omega arith,
+  sym (any-turn (badEdge (start .args .rec .now)) (at-loop .loop .i) (at-edge-count .edge-count .result)
+      (at-loop-test .loop-test .taken) (sym (at-bad-edge .bad-edge .ensures) ∙ c .if1 .left))
+      ∙ at-loop .loop .inv .1,
+)
+  where
+    at-bad-edge : tie.After-bad-edge Inv-loop μ-loop
+    at-bad-edge = search
+
+    at-loop-test : tie.In-loop Inv-loop μ-loop
+    at-loop-test = let c = at-bad-edge in search
+
+    at-loop : tie.At-loop Inv-loop μ-loop
+    at-loop = let c = at-loop-test in search
+
+    at-edge-count : tie.After-edge-count Inv-loop μ-loop
+    at-edge-count = let c = at-loop in search
+
+    start : tie.Start Inv-loop μ-loop
+    start = let c = at-edge-count in search
 
 returns-2 : tie.Need-returns-2 Inv-loop μ-loop
-returns-2 c = sym (any-none (badEdge (c .before .before .before .before .args .rec .now)) (c .before .loop .i) (c .before .before .edge-count .result) (c .loop-test .left)) ∙ c .before .loop .inv .1 ∙ ap (λ n. anyOf (badEdge (c .before .before .before .before .args .rec .now)) (upFrom 0 n)) (c .before .before .edge-count .ensures .0) ∙ sym (any-bad-is (c .before .before .before .before .args .rec .now))
+returns-2 c =
+    let at-loop : tie.At-loop Inv-loop μ-loop = search in
+    let at-edge-count : tie.After-edge-count Inv-loop μ-loop = search in
+    let start : tie.Start Inv-loop μ-loop = search in
+    sym
+    (any-none (badEdge (start .args .rec .now)) (at-loop .loop .i) (at-edge-count .edge-count .result)
+    (c .loop-test .left)) ∙ at-loop .loop .inv .1
+    ∙ ap (λ n. anyOf (badEdge (start .args .rec .now)) (upFrom 0 n)) (at-edge-count .edge-count .ensures .0)
+    ∙ sym (any-bad-is (start .args .rec .now))
+
+edge-count-requires : tie.Need-edge-count-requires Inv-loop μ-loop
+edge-count-requires c κs =
+    omega (arith, bytesAt-is (verticesOf (start .args .rec .now)) (edgesOf (start .args .rec .now)))
+  where
+    start : tie.Start Inv-loop μ-loop
+    start = search
+
+loop-holds : tie.Need-loop-holds Inv-loop μ-loop
+loop-holds c = (omega arith, any-start (badEdge (start .args .rec .now)) (c .edge-count .result))
+  where
+    start : tie.Start Inv-loop μ-loop
+    start = search
 
 pub any-bad-edge-spec : {M : Type 1} → statement M
 any-bad-edge-spec =
@@ -35,8 +98,8 @@ any-bad-edge-spec =
     (tie.spec
     Inv-loop
     μ-loop
-    (λ c κs. omega (arith, bytesAt-is (verticesOf (c .before .args .rec .now)) (edgesOf (c .before .args .rec .now))))
-    (λ c. (omega arith, any-start (badEdge (c .before .before .args .rec .now)) (c .edge-count .result)))
+    edge-count-requires
+    loop-holds
     (λ c. omega arith)
     bad-edge-requires
     returns

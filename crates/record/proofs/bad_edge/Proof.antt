@@ -9,17 +9,28 @@ use Rattle.record.proofs.bad_edge.Statement.{statement}
 use Rattle.record.proofs.bad_edge.Tie as tie
 
 returns-3 : tie.Need-returns-3
-returns-3 c = ap (λ n. ltb 1 n) (c .edge-flag-at .ensures) ∙ ends-below (c .before .before .before .before .before .before .before .args .rec .now) (c .before .before .before .before .before .before .before .args .i) (omega arith) (omega arith)
+returns-3 c =
+    ap (λ n. ltb 1 n) (c .edge-flag-at .ensures)
+    ∙ ends-below (start .args .rec .now) (start .args .i) (omega arith) (omega arith)
+  where
+    start : tie.Start
+    start = search
+
+returns-2 : tie.Need-returns-2
+returns-2 c = to-past (start .args .rec .now) (start .args .i) (omega arith) (omega arith)
+  where
+    start : tie.Start
+    start = search
 
 pub bad-edge-spec : {M : Type 1} → statement M
 bad-edge-spec =
     tie.close
     (tie.spec
-    (λ c κs. omega (arith, edgeStart-is (c .before .args .rec .now) (c .before .args .i)))
+    (λ c κs. let start : tie.Start = search in omega (arith, edgeStart-is (start .args .rec .now) (start .args .i)))
     (λ c. search needs)
     (λ c κs. search needs)
-    (λ c. from-past (c .before .before .before .before .args .rec .now) (c .before .before .before .before .args .i) (omega arith))
+    (λ c. let start : tie.Start = search in from-past (start .args .rec .now) (start .args .i) (omega arith))
     (λ c κs. search needs)
-    (λ c. to-past (c .before .before .before .before .before .before .args .rec .now) (c .before .before .before .before .before .before .args .i) (omega arith) (omega arith))
+    returns-2
     (λ c κs. search needs)
     returns-3)

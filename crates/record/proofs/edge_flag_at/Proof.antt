@@ -8,7 +8,11 @@ use Rattle.record.proofs.edge_flag_at.Statement.{statement}
 use Rattle.record.proofs.edge_flag_at.Tie as tie
 
 returns : tie.Need-returns
-returns c = c .wide .ensures .0 ∙ ap (λ n. getD (c .before .before .before .before .args .rec .now) (n + 8) 0) (c .before .before .edge-start .ensures) ∙ sym (flagAt-is (c .before .before .before .before .args .rec .now) (c .before .before .before .before .args .i))
+returns c =
+    let at-edge-start : tie.After-edge-start = search in
+    let start : tie.Start = search in
+    c .wide .ensures .0 ∙ ap (λ n. getD (start .args .rec .now) (n + 8) 0) (at-edge-start .edge-start .ensures)
+    ∙ sym (flagAt-is (start .args .rec .now) (start .args .i))
 
 pub edge-flag-at-spec : {M : Type 1} → statement M
 edge-flag-at-spec =

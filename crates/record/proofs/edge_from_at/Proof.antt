@@ -7,7 +7,11 @@ use Rattle.record.proofs.edge_from_at.Statement.{statement}
 use Rattle.record.proofs.edge_from_at.Tie as tie
 
 returns : tie.Need-returns
-returns c = c .u16-at .ensures ∙ ap (λ n. u16At (c .before .before .before .args .rec .now) n) (c .before .edge-start .ensures) ∙ sym (from-is (c .before .before .before .args .rec .now) (c .before .before .before .args .i))
+returns c =
+    let at-edge-start : tie.After-edge-start = search in
+    let start : tie.Start = search in
+    c .u16-at .ensures ∙ ap (λ n. u16At (start .args .rec .now) n) (at-edge-start .edge-start .ensures)
+    ∙ sym (from-is (start .args .rec .now) (start .args .i))
 
 pub edge-from-at-spec : {M : Type 1} → statement M
 edge-from-at-spec = tie.close (tie.spec

@@ -9,9 +9,9 @@ pub edge-start-spec : {M : Type 1} → statement M
 edge-start-spec =
     tie.close
     (tie.spec
-    (λ c κs. omega (arith, edgeStart-is (c .before .args .rec .now) (c .before .args .i)))
+    (λ c κs. let start : tie.Start = search in omega (arith, edgeStart-is (start .args .rec .now) (start .args .i)))
     (λ c. search needs)
     (λ c. search needs)
-    (λ c. omega (arith, edgeStart-is (c .before .before .args .rec .now) (c .before .before .args .i)))
-    (λ c. omega (arith, edgeStart-is (c .before .before .args .rec .now) (c .before .before .args .i)))
-    (λ c. omega (arith, edgeStart-is (c .before .before .args .rec .now) (c .before .before .args .i))))
+    (λ c. let start : tie.Start = search in omega (arith, edgeStart-is (start .args .rec .now) (start .args .i)))
+    (λ c. let start : tie.Start = search in omega (arith, edgeStart-is (start .args .rec .now) (start .args .i)))
+    (λ c. let start : tie.Start = search in omega (arith, edgeStart-is (start .args .rec .now) (start .args .i))))

@@ -8,7 +8,11 @@ use Rattle.record.proofs.edge_support_at.Statement.{statement}
 use Rattle.record.proofs.edge_support_at.Tie as tie
 
 returns : tie.Need-returns
-returns c = c .u32-at .ensures ∙ ap (λ n. u32At (c .before .before .before .args .rec .now) (n + 4)) (c .before .edge-start .ensures) ∙ sym (support-is (c .before .before .before .args .rec .now) (c .before .before .before .args .i))
+returns c =
+    let at-edge-start : tie.After-edge-start = search in
+    let start : tie.Start = search in
+    c .u32-at .ensures ∙ ap (λ n. u32At (start .args .rec .now) (n + 4)) (at-edge-start .edge-start .ensures)
+    ∙ sym (support-is (start .args .rec .now) (start .args .i))
 
 pub edge-support-at-spec : {M : Type 1} → statement M
 edge-support-at-spec = tie.close (tie.spec

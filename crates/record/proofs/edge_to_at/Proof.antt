@@ -8,7 +8,11 @@ use Rattle.record.proofs.edge_to_at.Statement.{statement}
 use Rattle.record.proofs.edge_to_at.Tie as tie
 
 returns : tie.Need-returns
-returns c = c .u16-at .ensures ∙ ap (λ n. u16At (c .before .before .before .args .rec .now) (n + 2)) (c .before .edge-start .ensures) ∙ sym (to-is (c .before .before .before .args .rec .now) (c .before .before .before .args .i))
+returns c =
+    let at-edge-start : tie.After-edge-start = search in
+    let start : tie.Start = search in
+    c .u16-at .ensures ∙ ap (λ n. u16At (start .args .rec .now) (n + 2)) (at-edge-start .edge-start .ensures)
+    ∙ sym (to-is (start .args .rec .now) (start .args .i))
 
 pub edge-to-at-spec : {M : Type 1} → statement M
 edge-to-at-spec =

@@ -5,13 +5,25 @@ use Rattle.record.proofs.has_mark.Statement.{statement}
 use Rattle.record.proofs.has_mark.Tie as tie
 
 returns-2 : tie.Need-returns-2
-returns-2 c = letter-1 (c .before .before .before .before .before .before .before .args .rec .now) (c .before .before .before .before .before .before .before .pre) (c .before .before .before .if1 .left) (c .if2 .taken)
+returns-2 c =
+    let at-if1 : tie.Else1 = search in
+    let start : tie.Start = search in
+    letter-1 (start .args .rec .now) (start .pre) (at-if1 .if1 .left) (c .if2 .taken)
 
 returns-3 : tie.Need-returns-3
-returns-3 c = letter-2 (c .before .before .before .before .before .before .before .before .before .before .args .rec .now) (c .before .before .before .before .before .before .before .before .before .before .pre) (c .before .before .before .before .before .before .if1 .left) (c .before .before .before .if2 .left) (c .if3 .taken)
+returns-3 c =
+    let at-if2 : tie.Else2 = search in
+    let at-if1 : tie.Else1 = search in
+    let start : tie.Start = search in
+    letter-2 (start .args .rec .now) (start .pre) (at-if1 .if1 .left) (at-if2 .if2 .left) (c .if3 .taken)
 
 returns-4 : tie.Need-returns-4
-returns-4 c = letter-3 (c .before .before .before .before .before .before .before .before .before .before .before .before .args .rec .now) (c .before .before .before .before .before .before .before .before .before .before .before .before .pre) (c .before .before .before .before .before .before .before .before .if1 .left) (c .before .before .before .before .before .if2 .left) (c .before .before .if3 .left)
+returns-4 c =
+    let at-if3 : tie.Else3 = search in
+    let at-if2 : tie.Else2 = search in
+    let at-if1 : tie.Else1 = search in
+    let start : tie.Start = search in
+    letter-3 (start .args .rec .now) (start .pre) (at-if1 .if1 .left) (at-if2 .if2 .left) (at-if3 .if3 .left)
 
 pub has-mark-spec : {M : Type 1} → statement M
 has-mark-spec =
@@ -19,7 +31,7 @@ has-mark-spec =
     (tie.spec
     (λ c. search needs)
     (λ c. search needs)
-    (λ c. letter-0 (c .before .before .before .before .args .rec .now) (c .before .before .before .before .pre) (c .if1 .taken))
+    (λ c. let start : tie.Start = search in letter-0 (start .args .rec .now) (start .pre) (c .if1 .taken))
     (λ c. search needs)
     (λ c. search needs)
     returns-2

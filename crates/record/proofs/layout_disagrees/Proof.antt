@@ -6,26 +6,92 @@ use Rattle.record.proofs.layout_disagrees.Statement.{statement}
 use Rattle.record.proofs.layout_disagrees.Tie as tie
 
 total-length-requires : tie.Need-total-length-requires
-total-length-requires c κs = (c .vertex-count .ensures .1, lengths-inside (c .before .before .before .before .args .rec .now) (sym (c .before .before .offsets-disagree .ensures) ∙ c .before .if1 .left) (c .vertex-count .ensures .0))
+total-length-requires c κs =
+    let at-if1 : tie.Else1 = search in
+    let at-offsets-disagree : tie.After-offsets-disagree = search in
+    let start : tie.Start = search in (
+      c .vertex-count .ensures .1,
+      lengths-inside (start .args .rec .now) (sym (at-offsets-disagree .offsets-disagree .ensures) ∙ at-if1 .if1 .left)
+          (c .vertex-count .ensures .0),
+    )
 
 returns-2 : tie.Need-returns-2
-returns-2 c = other-sum (c .before .before .before .before .before .before .before .args .rec .now) (sym (c .before .before .before .before .before .offsets-disagree .ensures) ∙ c .before .before .before .before .if1 .left) (c .before .before .total-length .ensures) (c .before .before .before .vertex-count .ensures .0) (c .before .byte-count .ensures .0) (c .if2 .taken)
+returns-2 c =
+    let at-byte-count : tie.After-byte-count = search in
+    let at-total-length : tie.After-total-length = search in
+    let at-vertex-count : tie.After-vertex-count = search in
+    let at-if1 : tie.Else1 = search in
+    let at-offsets-disagree : tie.After-offsets-disagree = search in
+    let start : tie.Start = search in
+    other-sum
+    (start .args .rec .now)
+    (sym (at-offsets-disagree .offsets-disagree .ensures) ∙ at-if1 .if1 .left)
+    (at-total-length .total-length .ensures)
+    (at-vertex-count .vertex-count .ensures .0)
+    (at-byte-count .byte-count .ensures .0)
+    (c .if2 .taken)
 
 other-kmer-length-requires : tie.Need-other-kmer-length-requires
-other-kmer-length-requires c κs = lengths-inside (c .before .before .before .before .before .before .before .before .before .args .rec .now) (sym (c .before .before .before .before .before .before .before .offsets-disagree .ensures) ∙ c .before .before .before .before .before .before .if1 .left) (c .before .before .before .before .before .vertex-count .ensures .0)
+other-kmer-length-requires c κs =
+    let at-vertex-count : tie.After-vertex-count = search in
+    let at-if1 : tie.Else1 = search in
+    let at-offsets-disagree : tie.After-offsets-disagree = search in
+    let start : tie.Start = search in
+    lengths-inside
+    (start .args .rec .now)
+    (sym (at-offsets-disagree .offsets-disagree .ensures) ∙ at-if1 .if1 .left)
+    (at-vertex-count .vertex-count .ensures .0)
 
 returns-3 : tie.Need-returns-3
-returns-3 c = kmer-lengths (c .before .before .before .before .before .before .before .before .before .before .args .rec .now) (sym (c .before .before .before .before .before .before .before .before .offsets-disagree .ensures) ∙ c .before .before .before .before .before .before .before .if1 .left) (c .before .before .before .before .before .total-length .ensures) (c .before .before .before .before .before .before .vertex-count .ensures .0) (c .before .before .before .before .byte-count .ensures .0) (c .before .before .before .if2 .left) (c .before .if3 .taken) (c .other-kmer-length .ensures)
+returns-3 c =
+    let at-if3 : tie.Then3 = search in
+    let at-if2 : tie.Else2 = search in
+    let at-byte-count : tie.After-byte-count = search in
+    let at-total-length : tie.After-total-length = search in
+    let at-vertex-count : tie.After-vertex-count = search in
+    let at-if1 : tie.Else1 = search in
+    let at-offsets-disagree : tie.After-offsets-disagree = search in
+    let start : tie.Start = search in
+    kmer-lengths
+    (start .args .rec .now)
+    (sym (at-offsets-disagree .offsets-disagree .ensures) ∙ at-if1 .if1 .left)
+    (at-total-length .total-length .ensures)
+    (at-vertex-count .vertex-count .ensures .0)
+    (at-byte-count .byte-count .ensures .0)
+    (at-if2 .if2 .left)
+    (at-if3 .if3 .taken)
+    (c .other-kmer-length .ensures)
 
 returns-4 : tie.Need-returns-4
-returns-4 c = free-lengths (c .before .before .before .before .before .before .before .before .before .args .rec .now) (sym (c .before .before .before .before .before .before .before .offsets-disagree .ensures) ∙ c .before .before .before .before .before .before .if1 .left) (c .before .before .before .before .total-length .ensures) (c .before .before .before .before .before .vertex-count .ensures .0) (c .before .before .before .byte-count .ensures .0) (c .before .before .if2 .left) (c .if3 .left)
+returns-4 c =
+    let at-if2 : tie.Else2 = search in
+    let at-byte-count : tie.After-byte-count = search in
+    let at-total-length : tie.After-total-length = search in
+    let at-vertex-count : tie.After-vertex-count = search in
+    let at-if1 : tie.Else1 = search in
+    let at-offsets-disagree : tie.After-offsets-disagree = search in
+    let start : tie.Start = search in
+    free-lengths
+    (start .args .rec .now)
+    (sym (at-offsets-disagree .offsets-disagree .ensures) ∙ at-if1 .if1 .left)
+    (at-total-length .total-length .ensures)
+    (at-vertex-count .vertex-count .ensures .0)
+    (at-byte-count .byte-count .ensures .0)
+    (at-if2 .if2 .left)
+    (c .if3 .left)
+
+returns : tie.Need-returns
+returns c =
+    let at-offsets-disagree : tie.After-offsets-disagree = search in
+    let start : tie.Start = search in
+    offsets-wrong (start .args .rec .now) (sym (at-offsets-disagree .offsets-disagree .ensures) ∙ c .if1 .taken)
 
 pub layout-disagrees-spec : {M : Type 1} → statement M
 layout-disagrees-spec =
     tie.close
     (tie.spec
     (λ c κs. search needs)
-    (λ c. offsets-wrong (c .before .before .before .args .rec .now) (sym (c .before .offsets-disagree .ensures) ∙ c .if1 .taken))
+    returns
     (λ c κs. search needs)
     total-length-requires
     (λ c κs. search needs)

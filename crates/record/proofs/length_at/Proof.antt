@@ -6,9 +6,11 @@ use Rattle.record.proofs.length_at.Statement.{statement}
 use Rattle.record.proofs.length_at.Tie as tie
 
 pub length-at-spec : {M : Type 1} → statement M
-length-at-spec = tie.close (tie.spec
+length-at-spec =
+    tie.close
+    (tie.spec
     (λ c. search needs)
     (λ c. search needs)
     (λ c κs. search needs)
     (λ c. search needs)
-    (λ c. omega (arith, lengthAt-is (c .before .before .args .rec .now) (c .before .before .args .i))))
+    (λ c. let start : tie.Start = search in omega (arith, lengthAt-is (start .args .rec .now) (start .args .i))))

@@ -16,13 +16,56 @@ abbrev μ-loop : tie.MeasureT-loop
 μ-loop rec v k i₀ i = v - i
 
 returns : tie.Need-returns Inv-loop μ-loop
-returns c = sym (any-found (otherKmerLength (c .before .before .before .before .before .before .args .rec .now)) (c .before .before .before .loop .i) (c .before .before .before .before .before .before .args .v) (c .before .before .loop-test .taken) (length-other (c .before .before .before .before .before .before .args .rec .now) (c .before .before .before .loop .i) (c .before .length-at .result) (c .before .before .before .before .u16-at .result) (c .before .length-at .ensures .0) (c .before .before .before .before .u16-at .ensures) (c .if1 .taken))) ∙ c .before .before .before .loop .inv .1
+returns c =
+    let at-length-at : tie.After-length-at Inv-loop μ-loop = search in
+    let at-loop-test : tie.In-loop Inv-loop μ-loop = search in
+    let at-loop : tie.At-loop Inv-loop μ-loop = search in
+    let at-u16-at : tie.After-u16-at Inv-loop μ-loop = search in
+    let start : tie.Start Inv-loop μ-loop = search in
+    sym
+    (any-found (otherKmerLength (start .args .rec .now)) (at-loop .loop .i) (start .args .v)
+    (at-loop-test .loop-test .taken)
+    (length-other (start .args .rec .now) (at-loop .loop .i) (at-length-at .length-at .result)
+    (at-u16-at .u16-at .result) (at-length-at .length-at .ensures .0) (at-u16-at .u16-at .ensures) (c .if1 .taken)))
+    ∙ at-loop .loop .inv .1
 
 loop-again : tie.Need-loop-again Inv-loop μ-loop
-loop-again c = (omega arith, sym (any-turn (otherKmerLength (c .before .before .before .before .before .before .args .rec .now)) (c .before .before .before .loop .i) (c .before .before .before .before .before .before .args .v) (c .before .before .loop-test .taken) (length-k (c .before .before .before .before .before .before .args .rec .now) (c .before .before .before .loop .i) (c .before .length-at .result) (c .before .before .before .before .u16-at .result) (c .before .length-at .ensures .0) (c .before .before .before .before .u16-at .ensures) (c .if1 .left))) ∙ c .before .before .before .loop .inv .1)
+loop-again c = (
+  omega arith,
+  sym (any-turn (otherKmerLength (start .args .rec .now)) (at-loop .loop .i) (start .args .v)
+      (at-loop-test .loop-test .taken)
+      (length-k (start .args .rec .now) (at-loop .loop .i) (at-length-at .length-at .result) (at-u16-at .u16-at .result)
+      (at-length-at .length-at .ensures .0) (at-u16-at .u16-at .ensures) (c .if1 .left)))
+      ∙ at-loop .loop .inv .1,
+)
+  where
+    at-length-at : tie.After-length-at Inv-loop μ-loop
+    at-length-at = search
+
+    at-loop-test : tie.In-loop Inv-loop μ-loop
+    at-loop-test = let c = at-length-at in search
+
+    at-loop : tie.At-loop Inv-loop μ-loop
+    at-loop = let c = at-loop-test in search
+
+    at-u16-at : tie.After-u16-at Inv-loop μ-loop
+    at-u16-at = let c = at-loop in search
+
+    start : tie.Start Inv-loop μ-loop
+    start = let c = at-u16-at in search
 
 returns-2 : tie.Need-returns-2 Inv-loop μ-loop
-returns-2 c = sym (any-none (otherKmerLength (c .before .before .before .before .args .rec .now)) (c .before .loop .i) (c .before .before .before .before .args .v) (c .loop-test .left)) ∙ c .before .loop .inv .1
+returns-2 c =
+    let at-loop : tie.At-loop Inv-loop μ-loop = search in
+    let start : tie.Start Inv-loop μ-loop = search in
+    sym (any-none (otherKmerLength (start .args .rec .now)) (at-loop .loop .i) (start .args .v) (c .loop-test .left))
+    ∙ at-loop .loop .inv .1
+
+loop-holds : tie.Need-loop-holds Inv-loop μ-loop
+loop-holds c = (omega arith, any-start (otherKmerLength (start .args .rec .now)) (start .args .v))
+  where
+    start : tie.Start Inv-loop μ-loop
+    start = search
 
 pub other-kmer-length-spec : {M : Type 1} → statement M
 other-kmer-length-spec =
@@ -32,7 +75,7 @@ other-kmer-length-spec =
     μ-loop
     (λ c κs. omega arith)
     (λ c. omega arith)
-    (λ c. (omega arith, any-start (otherKmerLength (c .before .before .args .rec .now)) (c .before .before .args .v)))
+    loop-holds
     (λ c. omega arith)
     (λ c κs. omega arith)
     returns

@@ -10,19 +10,86 @@ use Rattle.record.proofs.past_limit.Statement.{statement}
 use Rattle.record.proofs.past_limit.Tie as tie
 
 returns : tie.Need-returns
-returns c = k-past (c .before .before .before .before .args .rec .now) (refused-past (kOf (c .before .before .before .before .args .rec .now)) (sym (c .before .before .kmer-size-of .ensures) ∙ c .enum-told .given .1))
+returns c =
+    let at-kmer-size-of : tie.After-kmer-size-of = search in
+    let start : tie.Start = search in
+    k-past
+    (start .args .rec .now)
+    (refused-past (kOf (start .args .rec .now)) (sym (at-kmer-size-of .kmer-size-of .ensures) ∙ c .enum-told .given .1))
 
 returns-2 : tie.Need-returns-2
-returns-2 c = vertices-past (c .before .before .before .before .before .before .args .rec .now) (made-within (kOf (c .before .before .before .before .before .before .args .rec .now)) (sym (c .before .before .before .before .kmer-size-of .ensures) ∙ c .before .before .enum-told2 .given .1)) (omega arith)
+returns-2 c =
+    vertices-past
+    (start .args .rec .now)
+    (made-within (kOf (start .args .rec .now))
+    (sym (at-kmer-size-of .kmer-size-of .ensures) ∙ at-enum-told2 .enum-told2 .given .1))
+    (omega arith)
+  where
+    at-enum-told2 : tie.After-enum-told2
+    at-enum-told2 = search
+
+    at-kmer-size-of : tie.After-kmer-size-of
+    at-kmer-size-of = let c = at-enum-told2 in search
+
+    start : tie.Start
+    start = let c = at-kmer-size-of in search
 
 returns-3 : tie.Need-returns-3
-returns-3 c = edges-past (c .before .before .before .before .before .before .before .before .args .rec .now) (made-within (kOf (c .before .before .before .before .before .before .before .before .args .rec .now)) (sym (c .before .before .before .before .before .before .kmer-size-of .ensures) ∙ c .before .before .before .before .enum-told2 .given .1)) (omega arith) (omega arith)
+returns-3 c =
+    edges-past
+    (start .args .rec .now)
+    (made-within (kOf (start .args .rec .now))
+    (sym (at-kmer-size-of .kmer-size-of .ensures) ∙ at-enum-told2 .enum-told2 .given .1))
+    (omega arith)
+    (omega arith)
+  where
+    at-enum-told2 : tie.After-enum-told2
+    at-enum-told2 = search
+
+    at-kmer-size-of : tie.After-kmer-size-of
+    at-kmer-size-of = let c = at-enum-told2 in search
+
+    start : tie.Start
+    start = let c = at-kmer-size-of in search
 
 returns-4 : tie.Need-returns-4
-returns-4 c = ap (λ n. ltb 8192 n) (c .byte-count .ensures .0) ∙ bytes-past (c .before .before .before .before .before .before .before .before .before .before .before .args .rec .now) (made-within (kOf (c .before .before .before .before .before .before .before .before .before .before .before .args .rec .now)) (sym (c .before .before .before .before .before .before .before .before .before .kmer-size-of .ensures) ∙ c .before .before .before .before .before .before .before .enum-told2 .given .1)) (omega arith) (omega arith) (c .before .if3 .taken)
+returns-4 c =
+    ap (λ n. ltb 8192 n) (c .byte-count .ensures .0)
+    ∙ bytes-past (start .args .rec .now)
+    (made-within (kOf (start .args .rec .now))
+    (sym (at-kmer-size-of .kmer-size-of .ensures) ∙ at-enum-told2 .enum-told2 .given .1)) (omega arith) (omega arith)
+    (at-if3 .if3 .taken)
+  where
+    at-if3 : tie.Then3
+    at-if3 = search
+
+    at-enum-told2 : tie.After-enum-told2
+    at-enum-told2 = let c = at-if3 in search
+
+    at-kmer-size-of : tie.After-kmer-size-of
+    at-kmer-size-of = let c = at-enum-told2 in search
+
+    start : tie.Start
+    start = let c = at-kmer-size-of in search
 
 returns-5 : tie.Need-returns-5
-returns-5 c = kmers-within (c .before .before .before .before .before .before .before .before .before .before .args .rec .now) (made-within (kOf (c .before .before .before .before .before .before .before .before .before .before .args .rec .now)) (sym (c .before .before .before .before .before .before .before .before .kmer-size-of .ensures) ∙ c .before .before .before .before .before .before .enum-told2 .given .1)) (omega arith) (omega arith) (c .if3 .left)
+returns-5 c =
+    kmers-within
+    (start .args .rec .now)
+    (made-within (kOf (start .args .rec .now))
+    (sym (at-kmer-size-of .kmer-size-of .ensures) ∙ at-enum-told2 .enum-told2 .given .1))
+    (omega arith)
+    (omega arith)
+    (c .if3 .left)
+  where
+    at-enum-told2 : tie.After-enum-told2
+    at-enum-told2 = search
+
+    at-kmer-size-of : tie.After-kmer-size-of
+    at-kmer-size-of = let c = at-enum-told2 in search
+
+    start : tie.Start
+    start = let c = at-kmer-size-of in search
 
 pub past-limit-spec : {M : Type 1} → statement M
 past-limit-spec =

@@ -15,7 +15,39 @@ abbrev μ-loop : tie.MeasureT-loop
 μ-loop rec v i₀ total₀ i total = v - i
 
 loop-again : tie.Need-loop-again Inv-loop μ-loop
-loop-again c = (omega arith, omega (arith, sum-turn (lengthAt (c .before .before .before .before .args .rec .now)) (c .before .before .loop .i) (c .before .before .before .before .args .v) (c .before .loop-test .taken)), omega arith)
+loop-again c = (
+  omega arith,
+  omega (
+    arith,
+    sum-turn (lengthAt (start .args .rec .now)) (at-loop .loop .i) (start .args .v) (at-loop-test .loop-test .taken),
+  ),
+  omega arith,
+)
+  where
+    at-loop-test : tie.In-loop Inv-loop μ-loop
+    at-loop-test = search
+
+    at-loop : tie.At-loop Inv-loop μ-loop
+    at-loop = let c = at-loop-test in search
+
+    start : tie.Start Inv-loop μ-loop
+    start = let c = at-loop in search
+
+loop-holds : tie.Need-loop-holds Inv-loop μ-loop
+loop-holds c = (omega arith, sum-start (lengthAt (start .args .rec .now)) (start .args .v), omega arith)
+  where
+    start : tie.Start Inv-loop μ-loop
+    start = search
+
+returns : tie.Need-returns Inv-loop μ-loop
+returns c =
+    omega (arith, sum-none (lengthAt (start .args .rec .now)) (at-loop .loop .i) (start .args .v) (c .loop-test .left))
+  where
+    at-loop : tie.At-loop Inv-loop μ-loop
+    at-loop = search
+
+    start : tie.Start Inv-loop μ-loop
+    start = let c = at-loop in search
 
 pub total-length-spec : {M : Type 1} → statement M
 total-length-spec =
@@ -23,10 +55,10 @@ total-length-spec =
     (tie.spec
     Inv-loop
     μ-loop
-    (λ c. (omega arith, sum-start (lengthAt (c .before .args .rec .now)) (c .before .args .v), omega arith))
+    loop-holds
     (λ c κs. omega arith)
     (λ c. omega arith)
     (λ c. omega arith)
     (λ c. omega arith)
     loop-again
-    (λ c. omega (arith, sum-none (lengthAt (c .before .before .before .args .rec .now)) (c .before .loop .i) (c .before .before .before .args .v) (c .loop-test .left))))
+    returns)

@@ -6,16 +6,67 @@ use Rattle.redirect.proofs.redirect_edge.Statement.{statement}
 use Rattle.redirect.proofs.redirect_edge.Tie as tie
 
 add-or-update-edge-requires : tie.Need-add-or-update-edge-requires
-add-or-update-edge-requires c κs = joinable (c .before .before .before .before .before .before .before .before .before .before .before .before .pre .marks) _ (c .before .before .before .before .before .before .before .before .before .before .before .before .pre .other) (c .before .before .before .before .before .before .before .place-of .ensures) (c .before .new-from .ensures) (c .new-to .ensures) (c .before .before .before .before .before .before .before .before .before .before .before .before .pre .room)
+add-or-update-edge-requires c κs =
+    let at-new-from : tie.After-new-from = search in
+    let at-place-of : tie.After-place-of = search in
+    let start : tie.Start = search in
+    joinable
+    (start .pre .marks) _
+    (start .pre .other)
+    (at-place-of .place-of .ensures)
+    (at-new-from .new-from .ensures)
+    (c .new-to .ensures)
+    (start .pre .room)
 
 add-map : tie.Need-add-map
-add-map c = omega (arith, edge-small (c .before .before .before .before .before .before .before .before .before .before .before .before .before .before .before .pre) (c .before .before .before .before .before .before .before .before .before .before .place-of .ensures))
+add-map c = omega (arith, edge-small (start .pre) (at-place-of .place-of .ensures))
+  where
+    at-place-of : tie.After-place-of
+    at-place-of = search
+
+    start : tie.Start
+    start = let c = at-place-of in search
 
 cast-map : tie.Need-cast-map
-cast-map c = omega (arith, edge-small (c .before .before .before .before .before .before .before .before .before .before .before .before .before .before .before .pre) (c .before .before .before .before .before .before .before .before .before .before .place-of .ensures))
+cast-map c = omega (arith, edge-small (start .pre) (at-place-of .place-of .ensures))
+  where
+    at-place-of : tie.After-place-of
+    at-place-of = search
+
+    start : tie.Start
+    start = let c = at-place-of in search
 
 returns : tie.Need-returns
-returns c = one-done (c .before .before .before .before .before .before .before .before .before .before .before .before .before .before .before .pre) (c .before .before .before .before .before .before .before .before .before .before .place-of .ensures) (c .before .before .before .before .new-from .ensures) (c .before .before .before .new-to .ensures) (c .before .before .before .before .before .before .before .before .edge-support .ensures) (c .before .before .before .before .before .before .edge-flag .ensures) (c .before .before .add-or-update-edge .ensures .1)
+returns c =
+    one-done
+    (start .pre)
+    (at-place-of .place-of .ensures)
+    (at-new-from .new-from .ensures)
+    (at-new-to .new-to .ensures)
+    (at-edge-support .edge-support .ensures)
+    (at-edge-flag .edge-flag .ensures)
+    (at-aoue .add-or-update-edge .ensures .1)
+  where
+    at-aoue : tie.After-add-or-update-edge
+    at-aoue = search
+
+    at-new-to : tie.After-new-to
+    at-new-to = let c = at-aoue in search
+
+    at-new-from : tie.After-new-from
+    at-new-from = let c = at-new-to in search
+
+    at-edge-flag : tie.After-edge-flag
+    at-edge-flag = let c = at-new-from in search
+
+    at-edge-support : tie.After-edge-support
+    at-edge-support = let c = at-edge-flag in search
+
+    at-place-of : tie.After-place-of
+    at-place-of = let c = at-edge-support in search
+
+    start : tie.Start
+    start = let c = at-place-of in search
 
 pub redirect-edge-spec : {M : Type 1} → statement M
 redirect-edge-spec =

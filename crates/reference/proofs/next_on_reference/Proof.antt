@@ -4,7 +4,14 @@ use mathlib.Core.Path.{refl}
 use Prim.Native.Nat.{_*_, _-_}
 use Rattle.refs.proofs.RefLaws.{set-yes, set-no}
 use Rattle.paths.proofs.StepLaws.{out-index}
-use Rattle.reference.proofs.NextLaws.{Looking, looking-start, looking-more, looking-found, looking-end, looking-none}
+use Rattle.reference.proofs.NextLaws.{
+  Looking,
+  looking-start,
+  looking-more,
+  looking-found,
+  looking-end,
+  looking-none,
+}
 use Rattle.reference.proofs.next_on_reference.Statement.{statement}
 use Rattle.reference.proofs.next_on_reference.Tie as tie
 
@@ -15,13 +22,91 @@ abbrev μ-loop : tie.MeasureT-loop
 μ-loop es m n heads nexts v first e₀ e = m - e
 
 returns-2 : tie.Need-returns-2 Inv-loop μ-loop
-returns-2 c = looking-found (c .before .before .before .before .before .before .before .before .before .before .pre .1) (c .before .before .before .before .loop .inv) (c .before .before .before .loop-test .taken) (set-yes _ (c .before .before .edge-flag .ensures) (c .before .if2 .taken)) (c .edge-to .ensures)
+returns-2 c =
+    looking-found
+    (start .pre .1)
+    (at-loop .loop .inv)
+    (at-loop-test .loop-test .taken)
+    (set-yes _ (at-edge-flag .edge-flag .ensures) (at-if2 .if2 .taken))
+    (c .edge-to .ensures)
+  where
+    at-if2 : tie.Then2 Inv-loop μ-loop
+    at-if2 = search
+
+    at-edge-flag : tie.After-edge-flag Inv-loop μ-loop
+    at-edge-flag = let c = at-if2 in search
+
+    at-loop-test : tie.In-loop Inv-loop μ-loop
+    at-loop-test = let c = at-edge-flag in search
+
+    at-loop : tie.At-loop Inv-loop μ-loop
+    at-loop = let c = at-loop-test in search
+
+    start : tie.Start Inv-loop μ-loop
+    start = let c = at-loop in search
 
 loop-again : tie.Need-loop-again Inv-loop μ-loop
-loop-again c = looking-more (c .before .before .before .before .before .before .before .before .before .before .pre .1) (c .before .before .before .before .loop .inv) (c .before .before .before .loop-test .taken) (set-no _ (c .before .before .edge-flag .ensures) (c .before .if2 .left))
+loop-again c =
+    looking-more
+    (start .pre .1)
+    (at-loop .loop .inv)
+    (at-loop-test .loop-test .taken)
+    (set-no _ (at-edge-flag .edge-flag .ensures) (at-if2 .if2 .left))
+  where
+    at-if2 : tie.Else2 Inv-loop μ-loop
+    at-if2 = search
+
+    at-edge-flag : tie.After-edge-flag Inv-loop μ-loop
+    at-edge-flag = let c = at-if2 in search
+
+    at-loop-test : tie.In-loop Inv-loop μ-loop
+    at-loop-test = let c = at-edge-flag in search
+
+    at-loop : tie.At-loop Inv-loop μ-loop
+    at-loop = let c = at-loop-test in search
+
+    start : tie.Start Inv-loop μ-loop
+    start = let c = at-loop in search
 
 returns-3 : tie.Need-returns-3 Inv-loop μ-loop
-returns-3 c = looking-end (c .before .before .before .before .before .before .before .before .pre .1) _ (c .before .before .before .before .before .before .before .before .pre .0) (c .before .before .loop .inv) (c .before .loop-test .left) refl (c .before .before .before .if1 .left) (c .edge-to2 .ensures)
+returns-3 c =
+    let at-loop-test : tie.After-loop Inv-loop μ-loop = search in
+    let at-loop : tie.At-loop Inv-loop μ-loop = search in
+    let at-if1 : tie.Else1 Inv-loop μ-loop = search in
+    let start : tie.Start Inv-loop μ-loop = search in
+    looking-end
+    (start .pre .1) _
+    (start .pre .0)
+    (at-loop .loop .inv)
+    (at-loop-test .loop-test .left) refl
+    (at-if1 .if1 .left)
+    (c .edge-to2 .ensures)
+
+cast-first : tie.Need-cast-first Inv-loop μ-loop
+cast-first c = omega (arith, c .shared-slice-known4 .given (2 * start .args .v))
+  where
+    start : tie.Start Inv-loop μ-loop
+    start = search
+
+returns : tie.Need-returns Inv-loop μ-loop
+returns c =
+    let start : tie.Start Inv-loop μ-loop = search in
+    looking-none (start .pre .1) _ (start .pre .0) refl (c .if1 .taken)
+
+cast-e : tie.Need-cast-e Inv-loop μ-loop
+cast-e c = omega (arith, c .shared-slice-known5 .given (2 * at-loop .loop .e))
+  where
+    at-loop : tie.At-loop Inv-loop μ-loop
+    at-loop = search
+
+loop-less : tie.Need-loop-less Inv-loop μ-loop
+loop-less c = omega (arith, out-index (start .pre .1) .nexts _ (at-loop-test .loop-test .taken) .low)
+  where
+    at-loop-test : tie.In-loop Inv-loop μ-loop
+    at-loop-test = search
+
+    start : tie.Start Inv-loop μ-loop
+    start = let c = at-loop-test in search
 
 pub next-on-reference-spec : {M : Type 1} → statement M
 next-on-reference-spec =
@@ -29,22 +114,22 @@ next-on-reference-spec =
     (tie.spec
     Inv-loop
     μ-loop
-    (λ c. omega (arith, c .before .before .before .pre .1 .heads-room))
-    (λ c. omega (arith, c .before .before .before .pre .1 .heads-room))
-    (λ c. omega (arith, c .before .before .before .before .pre .1 .heads-room))
-    (λ c. omega (arith, c .shared-slice-known4 .given (2 * c .before .before .before .before .args .v)))
-    (λ c. looking-none (c .before .before .before .before .before .pre .1) _ (c .before .before .before .before .before .pre .0) refl (c .if1 .taken))
-    (λ c. looking-start (c .before .before .before .before .before .pre .1) (c .before .before .before .before .before .pre .0))
-    (λ c κs. omega (arith, c .before .before .before .before .before .before .before .pre .1 .room))
-    (λ c κs. omega (arith, c .before .before .before .before .before .before .before .before .before .pre .1 .room))
+    (λ c. let start : tie.Start Inv-loop μ-loop = search in omega (arith, start .pre .1 .heads-room))
+    (λ c. let start : tie.Start Inv-loop μ-loop = search in omega (arith, start .pre .1 .heads-room))
+    (λ c. let start : tie.Start Inv-loop μ-loop = search in omega (arith, start .pre .1 .heads-room))
+    cast-first
+    returns
+    (λ c. let start : tie.Start Inv-loop μ-loop = search in looking-start (start .pre .1) (start .pre .0))
+    (λ c κs. let start : tie.Start Inv-loop μ-loop = search in omega (arith, start .pre .1 .room))
+    (λ c κs. let start : tie.Start Inv-loop μ-loop = search in omega (arith, start .pre .1 .room))
     (λ c. omega arith)
     returns-2
-    (λ c. omega (arith, c .before .before .before .before .before .before .before .before .before .pre .1 .nexts-room))
-    (λ c. omega (arith, c .before .before .before .before .before .before .before .before .before .pre .1 .nexts-room))
-    (λ c. omega (arith, c .before .before .before .before .before .before .before .before .before .before .pre .1 .nexts-room))
-    (λ c. omega (arith, c .shared-slice-known5 .given (2 * c .before .before .before .before .loop .e)))
-    (λ c. omega (arith, out-index (c .before .before .before .before .before .before .before .before .before .before .pre .1) .nexts _ (c .before .before .before .loop-test .taken) .low))
+    (λ c. let start : tie.Start Inv-loop μ-loop = search in omega (arith, start .pre .1 .nexts-room))
+    (λ c. let start : tie.Start Inv-loop μ-loop = search in omega (arith, start .pre .1 .nexts-room))
+    (λ c. let start : tie.Start Inv-loop μ-loop = search in omega (arith, start .pre .1 .nexts-room))
+    cast-e
+    loop-less
     loop-again
-    (λ c κs. omega (arith, c .before .before .before .before .before .before .before .pre .1 .room))
+    (λ c κs. let start : tie.Start Inv-loop μ-loop = search in omega (arith, start .pre .1 .room))
     (λ c. omega arith)
     returns-3)

@@ -16,19 +16,71 @@ abbrev μ-loop : tie.MeasureT-loop
 μ-loop es m n heads nexts off v e₀ e = m - e
 
 loop-holds : tie.Need-loop-holds Inv-loop μ-loop
-loop-holds c = seeking-start (c .before .before .before .before .pre .1 .1 .index _ (c .before .before .before .before .pre .1 .0)) (refAt (c .before .before .before .before .args .es .now)) (c .before .before .before .before .pre .0)
+loop-holds c =
+    let start : tie.Start Inv-loop μ-loop = search in
+    seeking-start (start .pre .1 .1 .index _ (start .pre .1 .0)) (refAt (start .args .es .now)) (start .pre .0)
 
 returns : tie.Need-returns Inv-loop μ-loop
-returns c = seeking-found (c .before .before .before .before .before .before .before .before .pre .1 .1 .index _ (c .before .before .before .before .before .before .before .before .pre .1 .0)) (refAt (c .before .before .before .before .before .before .before .before .args .es .now)) (c .before .before .before .loop .inv) (c .before .before .loop-test .taken) (set-yes _ (c .before .edge-flag .ensures) (c .if1 .taken))
+returns c =
+    let at-edge-flag : tie.After-edge-flag Inv-loop μ-loop = search in
+    let at-loop-test : tie.In-loop Inv-loop μ-loop = search in
+    let at-loop : tie.At-loop Inv-loop μ-loop = search in
+    let start : tie.Start Inv-loop μ-loop = search in
+    seeking-found
+    (start .pre .1 .1 .index _ (start .pre .1 .0))
+    (refAt (start .args .es .now))
+    (at-loop .loop .inv)
+    (at-loop-test .loop-test .taken)
+    (set-yes _ (at-edge-flag .edge-flag .ensures) (c .if1 .taken))
 
 loop-less : tie.Need-loop-less Inv-loop μ-loop
-loop-less c = omega (arith, (c .before .before .before .before .before .before .before .before .before .pre .1 .1 .index _ (c .before .before .before .before .before .before .before .before .before .pre .1 .0)) .nexts _ (c .before .before .before .loop-test .taken) .low)
+loop-less c =
+    omega (arith, (start .pre .1 .1 .index _ (start .pre .1 .0)) .nexts _ (at-loop-test .loop-test .taken) .low)
+  where
+    at-loop-test : tie.In-loop Inv-loop μ-loop
+    at-loop-test = search
+
+    start : tie.Start Inv-loop μ-loop
+    start = let c = at-loop-test in search
 
 loop-again : tie.Need-loop-again Inv-loop μ-loop
-loop-again c = seeking-more (c .before .before .before .before .before .before .before .before .before .pre .1 .1 .index _ (c .before .before .before .before .before .before .before .before .before .pre .1 .0)) (refAt (c .before .before .before .before .before .before .before .before .before .args .es .now)) (c .before .before .before .before .loop .inv) (c .before .before .before .loop-test .taken) (set-no _ (c .before .before .edge-flag .ensures) (c .before .if1 .left))
+loop-again c =
+    let at-if1 : tie.Else1 Inv-loop μ-loop = search in
+    let at-edge-flag : tie.After-edge-flag Inv-loop μ-loop = search in
+    let at-loop-test : tie.In-loop Inv-loop μ-loop = search in
+    let at-loop : tie.At-loop Inv-loop μ-loop = search in
+    let start : tie.Start Inv-loop μ-loop = search in
+    seeking-more
+    (start .pre .1 .1 .index _ (start .pre .1 .0))
+    (refAt (start .args .es .now))
+    (at-loop .loop .inv)
+    (at-loop-test .loop-test .taken)
+    (set-no _ (at-edge-flag .edge-flag .ensures) (at-if1 .if1 .left))
 
 returns-2 : tie.Need-returns-2 Inv-loop μ-loop
-returns-2 c = seeking-end (c .before .before .before .before .before .before .pre .1 .1 .index _ (c .before .before .before .before .before .before .pre .1 .0)) (refAt (c .before .before .before .before .before .before .args .es .now)) (c .before .loop .inv) (c .loop-test .left)
+returns-2 c =
+    let at-loop : tie.At-loop Inv-loop μ-loop = search in
+    let start : tie.Start Inv-loop μ-loop = search in
+    seeking-end
+    (start .pre .1 .1 .index _ (start .pre .1 .0))
+    (refAt (start .args .es .now))
+    (at-loop .loop .inv)
+    (c .loop-test .left)
+
+cast-e : tie.Need-cast-e Inv-loop μ-loop
+cast-e c = omega (arith, c .shared-slice-known4 .given (2 * start .args .v + start .args .off))
+  where
+    start : tie.Start Inv-loop μ-loop
+    start = search
+
+cast-e-2 : tie.Need-cast-e-2 Inv-loop μ-loop
+cast-e-2 c = omega (arith, c .shared-slice-known5 .given (2 * at-loop .loop .e + start .args .off))
+  where
+    at-loop : tie.At-loop Inv-loop μ-loop
+    at-loop = search
+
+    start : tie.Start Inv-loop μ-loop
+    start = let c = at-loop in search
 
 pub any-ref-spec : {M : Type 1} → statement M
 any-ref-spec =
@@ -40,7 +92,7 @@ any-ref-spec =
     (λ c. omega arith)
     (λ c. omega arith)
     (λ c. omega arith)
-    (λ c. omega (arith, c .shared-slice-known4 .given (2 * c .before .before .before .before .args .v + c .before .before .before .before .args .off)))
+    cast-e
     loop-holds
     (λ c κs. omega arith)
     returns
@@ -48,7 +100,7 @@ any-ref-spec =
     (λ c. omega arith)
     (λ c. omega arith)
     (λ c. omega arith)
-    (λ c. omega (arith, c .shared-slice-known5 .given (2 * c .before .before .before .before .loop .e + c .before .before .before .before .before .before .before .before .before .args .off)))
+    cast-e-2
     loop-less
     loop-again
     returns-2)

@@ -6,9 +6,22 @@ use borrow.Author.Needs.{needs}
 use Rattle.refs.proofs.is_reference_node.Statement.{statement}
 use Rattle.refs.proofs.is_reference_node.Tie as tie
 
+returns : tie.Need-returns
+returns c =
+    let at-any-ref : tie.After-any-ref = search in
+    node-out _ _ _ _ (sym (at-any-ref .any-ref .ensures) ∙ c .if1 .taken)
+
+returns-2 : tie.Need-returns-2
+returns-2 c =
+    let at-if1 : tie.Else1 = search in
+    let at-any-ref : tie.After-any-ref = search in
+    node-in _ _ _ _ _ (sym (at-any-ref .any-ref .ensures) ∙ at-if1 .if1 .left) (c .any-ref2 .ensures)
+
 pub is-reference-node-spec : {M : Type 1} → statement M
-is-reference-node-spec = tie.close (tie.spec
+is-reference-node-spec =
+    tie.close
+    (tie.spec
     (λ c κs. search needs)
-    (λ c. node-out _ _ _ _ (sym (c .before .any-ref .ensures) ∙ c .if1 .taken))
+    returns
     (λ c κs. search needs)
-    (λ c. node-in _ _ _ _ _ (sym (c .before .before .any-ref .ensures) ∙ c .before .if1 .left) (c .any-ref2 .ensures)))
+    returns-2)

@@ -15,6 +15,26 @@ Inv-loop es m n heads nexts v₀ v = (v ≤ n) × ((k : ℕ) → k < v → RefSi
 abbrev μ-loop : tie.MeasureT-loop
 μ-loop es m n heads nexts v₀ v = n - v
 
+returns : tie.Need-returns Inv-loop μ-loop
+returns c =
+    first-sink _ (omega arith) (at-loop .loop .inv .1) (sink-as (c .if1 .taken) (at-is-ref-sink .is-ref-sink .ensures))
+  where
+    at-is-ref-sink : tie.After-is-ref-sink Inv-loop μ-loop
+    at-is-ref-sink = search
+
+    at-loop : tie.At-loop Inv-loop μ-loop
+    at-loop = let c = at-is-ref-sink in search
+
+loop-again : tie.Need-loop-again Inv-loop μ-loop
+loop-again c =
+    (omega arith, below-more _ _ (at-loop .loop .inv .1) (sink-as (c .if1 .left) (at-is-ref-sink .is-ref-sink .ensures)))
+  where
+    at-is-ref-sink : tie.After-is-ref-sink Inv-loop μ-loop
+    at-is-ref-sink = search
+
+    at-loop : tie.At-loop Inv-loop μ-loop
+    at-loop = let c = at-is-ref-sink in search
+
 pub reference-sink-vertex-spec : {M : Type 1} → statement M
 reference-sink-vertex-spec =
     tie.close
@@ -22,9 +42,9 @@ reference-sink-vertex-spec =
     Inv-loop
     μ-loop
     (λ c. (omega arith, λ k h. absurd (omega arith)))
-    (λ c κs. (omega arith, c .before .before .before .before .before .pre))
-    (λ c. first-sink _ (omega arith) (c .before .before .before .loop .inv .1) (sink-as (c .if1 .taken) (c .before .is-ref-sink .ensures)))
+    (λ c κs. let start : tie.Start Inv-loop μ-loop = search in (omega arith, start .pre))
+    returns
     (λ c. omega arith)
     (λ c. omega arith)
-    (λ c. (omega arith, below-more _ _ (c .before .before .before .loop .inv .1) (sink-as (c .if1 .left) (c .before .is-ref-sink .ensures))))
-    (λ c. no-sink _ (c .loop-test .left) (c .before .loop .inv .1)))
+    loop-again
+    (λ c. let at-loop : tie.At-loop Inv-loop μ-loop = search in no-sink _ (c .loop-test .left) (at-loop .loop .inv .1)))

@@ -3,7 +3,17 @@ use native.Mathlib.Omega.{arith}
 use mathlib.Core.Path.{_≡_, refl, sym, _∙_}
 use Prim.Native.Nat.{_-_}
 use lib.ListN.{length}
-use Rattle.rounds.proofs.RoundLaws.{Rounding, rounding-start, round-countable, round-quiet, round-early, round-writable, round-repeated, round-on, round-full}
+use Rattle.rounds.proofs.RoundLaws.{
+  Rounding,
+  rounding-start,
+  round-countable,
+  round-quiet,
+  round-early,
+  round-writable,
+  round-repeated,
+  round-on,
+  round-full,
+}
 use Rattle.rounds.proofs.simplify_rounds.Statement.{statement}
 use Rattle.rounds.proofs.simplify_rounds.Tie as tie
 use Rattle.rounds.proofs.simplify_rounds.Reads as reads
@@ -14,186 +24,512 @@ use Rattle.signature.proofs.replace_signature.Reads as replace-signature-reads
 
 abbrev Inv-loop : tie.InvT-loop
 Inv-loop least es₀ vs₀ p₀ heads₀ nexts₀ nodes₀ map₀ starts₀ tried₀ sig₀ w₀ n₀ old₀ es vs p heads nexts nodes map starts tried sig w n old =
-    Rounding least w₀ es₀ vs₀ p₀ heads₀ sig₀ w es vs p heads nexts nodes map sig n old × ((length es ≡ length es₀) × ((length vs ≡ length vs₀) × ((length p ≡ length p₀) × ((length heads ≡ length heads₀) × ((length nexts ≡ length nexts₀) × ((length nodes ≡ length nodes₀) × ((length map ≡ length map₀) × ((length starts ≡ length starts₀) × (length tried ≡ length tried₀)))))))))
+    Rounding least w₀ es₀ vs₀ p₀ heads₀ sig₀ w es vs p heads nexts nodes map sig n old
+    ×
+    ((length es ≡ length es₀) × ((length vs ≡ length vs₀) × ((length p ≡ length p₀) ×
+    ((length heads ≡ length heads₀) × ((length nexts ≡ length nexts₀) × ((length nodes ≡ length nodes₀) ×
+    ((length map ≡ length map₀) × ((length starts ≡ length starts₀) × (length tried ≡ length tried₀)))))))))
 
 abbrev μ-loop : tie.MeasureT-loop
 μ-loop least es₀ vs₀ p₀ heads₀ nexts₀ nodes₀ map₀ starts₀ tried₀ sig₀ w₀ n₀ old₀ es vs p heads nexts nodes map starts tried sig w n old = 100 - n
 
--- src/lib.rt:77:5
 loop-holds : tie.Need-loop-holds Inv-loop μ-loop
-loop-holds c = (rounding-start (c .before .before .before .before .before .before .before .before .before .before .pre .0), (refl, (refl, (refl, (refl, (refl, (refl, (refl, (refl, refl)))))))))
+loop-holds c =
+    let start : tie.Start Inv-loop μ-loop = search in
+    (rounding-start (start .pre .0), (refl, (refl, (refl, (refl, (refl, (refl, (refl, (refl, refl)))))))))
 
--- src/lib.rt:79:9
 simplify-graph-once-requires : tie.Need-simplify-graph-once-requires Inv-loop μ-loop
-simplify-graph-once-requires c κs = (c .before .before .before .before .before .before .before .before .before .before .loop .inv .0 .ready, (round-countable (c .before .before .before .before .before .before .before .before .before .before .loop .inv .0) (c .before .before .before .before .before .before .before .before .before .loop-test .taken) (c .before .before .before .before .before .before .before .before .before .before .before .before .before .before .before .before .before .before .before .before .before .pre .1 .0), record { starts-room = omega (arith, c .before .before .before .before .before .before .before .before .before .before .before .before .before .before .before .before .before .before .before .before .before .pre .1 .1 .0 .starts-room, c .before .before .before .before .before .before .before .before .before .before .loop .inv .1 .1 .1 .1 .0, c .before .before .before .before .before .before .before .before .before .before .loop .inv .1 .1 .1 .1 .1 .1 .1 .1 .0); tried-room = omega (arith, c .before .before .before .before .before .before .before .before .before .before .before .before .before .before .before .before .before .before .before .before .before .pre .1 .1 .0 .tried-room, c .before .before .before .before .before .before .before .before .before .before .loop .inv .1 .1 .1 .1 .0, c .before .before .before .before .before .before .before .before .before .before .loop .inv .1 .1 .1 .1 .1 .1 .1 .1 .1) }))
+simplify-graph-once-requires c κs = (
+  at-loop .loop .inv .0 .ready,
+  (
+    round-countable (at-loop .loop .inv .0) (at-loop-test .loop-test .taken) (start .pre .1 .0),
+    record {
+      starts-room = omega (
+        arith,
+        start .pre .1 .1 .0 .starts-room,
+        at-loop .loop .inv .1 .1 .1 .1 .0,
+        at-loop .loop .inv .1 .1 .1 .1 .1 .1 .1 .1 .0,
+      );
+      tried-room = omega (
+        arith,
+        start .pre .1 .1 .0 .tried-room,
+        at-loop .loop .inv .1 .1 .1 .1 .0,
+        at-loop .loop .inv .1 .1 .1 .1 .1 .1 .1 .1 .1,
+      );
+    },
+  ),
+)
+  where
+    at-loop-test : tie.In-loop Inv-loop μ-loop
+    at-loop-test = search
 
--- src/lib.rt:80:9
+    at-loop : tie.At-loop Inv-loop μ-loop
+    at-loop = let c = at-loop-test in search
+
+    start : tie.Start Inv-loop μ-loop
+    start = let c = at-loop in search
+
 add-n : tie.Need-add-n Inv-loop μ-loop
 add-n c = omega arith
 
--- src/lib.rt:82:13
 end-with-requires : tie.Need-end-with-requires Inv-loop μ-loop
 end-with-requires c κs = omega arith
 
--- src/lib.rt:82:13
 same-length : tie.Need-same-length Inv-loop μ-loop
-same-length c = c .before .before .before .before .before .before .before .before .before .before .before .before .before .before .before .before .before .before .before .before .before .simplify-graph-once .kept .1 .1 .0 ∙ c .before .before .before .before .before .before .before .before .before .before .before .before .before .before .before .before .before .before .before .before .before .before .before .before .before .before .before .before .before .before .before .before .loop .inv .1 .0
+same-length c = at-sgo .simplify-graph-once .kept .1 .1 .0 ∙ at-loop .loop .inv .1 .0
+  where
+    at-sgo : tie.After-simplify-graph-once Inv-loop μ-loop
+    at-sgo = let c : tie.After-nexts Inv-loop μ-loop = search in search
 
--- src/lib.rt:82:13
+    at-loop : tie.At-loop Inv-loop μ-loop
+    at-loop = let c = at-sgo in search
+
 same-length-2 : tie.Need-same-length-2 Inv-loop μ-loop
-same-length-2 c = c .before .before .before .before .before .before .before .before .before .before .before .before .before .before .before .before .before .before .before .before .before .simplify-graph-once .kept .1 .1 .1 .0 ∙ c .before .before .before .before .before .before .before .before .before .before .before .before .before .before .before .before .before .before .before .before .before .before .before .before .before .before .before .before .before .before .before .before .loop .inv .1 .1 .0
+same-length-2 c = at-sgo .simplify-graph-once .kept .1 .1 .1 .0 ∙ at-loop .loop .inv .1 .1 .0
+  where
+    at-sgo : tie.After-simplify-graph-once Inv-loop μ-loop
+    at-sgo = let c : tie.After-nexts Inv-loop μ-loop = search in search
 
--- src/lib.rt:82:13
+    at-loop : tie.At-loop Inv-loop μ-loop
+    at-loop = let c = at-sgo in search
+
 same-length-3 : tie.Need-same-length-3 Inv-loop μ-loop
-same-length-3 c = c .before .before .before .before .before .before .before .before .before .before .before .before .before .before .before .before .before .before .before .before .before .simplify-graph-once .kept .1 .1 .1 .1 .0 ∙ c .before .before .before .before .before .before .before .before .before .before .before .before .before .before .before .before .before .before .before .before .before .before .before .before .before .before .before .before .before .before .before .before .loop .inv .1 .1 .1 .0
+same-length-3 c = at-sgo .simplify-graph-once .kept .1 .1 .1 .1 .0 ∙ at-loop .loop .inv .1 .1 .1 .0
+  where
+    at-sgo : tie.After-simplify-graph-once Inv-loop μ-loop
+    at-sgo = let c : tie.After-nexts Inv-loop μ-loop = search in search
 
--- src/lib.rt:82:13
+    at-loop : tie.At-loop Inv-loop μ-loop
+    at-loop = let c = at-sgo in search
+
 same-length-4 : tie.Need-same-length-4 Inv-loop μ-loop
-same-length-4 c = c .before .before .before .before .before .before .before .before .before .before .before .before .before .before .before .before .before .before .before .before .before .simplify-graph-once .kept .1 .1 .1 .1 .1 .0 ∙ c .before .before .before .before .before .before .before .before .before .before .before .before .before .before .before .before .before .before .before .before .before .before .before .before .before .before .before .before .before .before .before .before .loop .inv .1 .1 .1 .1 .0
+same-length-4 c = at-sgo .simplify-graph-once .kept .1 .1 .1 .1 .1 .0 ∙ at-loop .loop .inv .1 .1 .1 .1 .0
+  where
+    at-sgo : tie.After-simplify-graph-once Inv-loop μ-loop
+    at-sgo = let c : tie.After-nexts Inv-loop μ-loop = search in search
 
--- src/lib.rt:82:13
+    at-loop : tie.At-loop Inv-loop μ-loop
+    at-loop = let c = at-sgo in search
+
 same-length-5 : tie.Need-same-length-5 Inv-loop μ-loop
-same-length-5 c = c .before .before .before .before .before .before .before .before .before .before .before .before .before .before .before .before .before .before .before .before .before .simplify-graph-once .kept .1 .1 .1 .1 .1 .1 .0 ∙ c .before .before .before .before .before .before .before .before .before .before .before .before .before .before .before .before .before .before .before .before .before .before .before .before .before .before .before .before .before .before .before .before .loop .inv .1 .1 .1 .1 .1 .0
+same-length-5 c = at-sgo .simplify-graph-once .kept .1 .1 .1 .1 .1 .1 .0 ∙ at-loop .loop .inv .1 .1 .1 .1 .1 .0
+  where
+    at-sgo : tie.After-simplify-graph-once Inv-loop μ-loop
+    at-sgo = let c : tie.After-nexts Inv-loop μ-loop = search in search
 
--- src/lib.rt:82:13
+    at-loop : tie.At-loop Inv-loop μ-loop
+    at-loop = let c = at-sgo in search
+
 same-length-6 : tie.Need-same-length-6 Inv-loop μ-loop
-same-length-6 c = c .before .before .before .before .before .before .before .before .before .before .before .before .before .before .before .before .before .before .before .before .before .simplify-graph-once .kept .1 .1 .1 .1 .1 .1 .1 .0 ∙ c .before .before .before .before .before .before .before .before .before .before .before .before .before .before .before .before .before .before .before .before .before .before .before .before .before .before .before .before .before .before .before .before .loop .inv .1 .1 .1 .1 .1 .1 .0
+same-length-6 c = at-sgo .simplify-graph-once .kept .1 .1 .1 .1 .1 .1 .1 .0 ∙ at-loop .loop .inv .1 .1 .1 .1 .1 .1 .0
+  where
+    at-sgo : tie.After-simplify-graph-once Inv-loop μ-loop
+    at-sgo = let c : tie.After-nexts Inv-loop μ-loop = search in search
 
--- src/lib.rt:82:13
+    at-loop : tie.At-loop Inv-loop μ-loop
+    at-loop = let c = at-sgo in search
+
 same-length-7 : tie.Need-same-length-7 Inv-loop μ-loop
-same-length-7 c = c .before .before .before .before .before .before .before .before .before .before .before .before .before .before .before .before .before .before .before .before .before .simplify-graph-once .kept .1 .1 .1 .1 .1 .1 .1 .1 .0 ∙ c .before .before .before .before .before .before .before .before .before .before .before .before .before .before .before .before .before .before .before .before .before .before .before .before .before .before .before .before .before .before .before .before .loop .inv .1 .1 .1 .1 .1 .1 .1 .0
+same-length-7 c =
+    at-sgo .simplify-graph-once .kept .1 .1 .1 .1 .1 .1 .1 .1 .0 ∙ at-loop .loop .inv .1 .1 .1 .1 .1 .1 .1 .0
+  where
+    at-sgo : tie.After-simplify-graph-once Inv-loop μ-loop
+    at-sgo = let c : tie.After-nexts Inv-loop μ-loop = search in search
 
--- src/lib.rt:82:13
+    at-loop : tie.At-loop Inv-loop μ-loop
+    at-loop = let c = at-sgo in search
+
 same-length-8 : tie.Need-same-length-8 Inv-loop μ-loop
-same-length-8 c = c .before .before .before .before .before .before .before .before .before .before .before .before .before .before .before .before .before .before .before .before .before .simplify-graph-once .kept .1 .1 .1 .1 .1 .1 .1 .1 .1 .0 ∙ c .before .before .before .before .before .before .before .before .before .before .before .before .before .before .before .before .before .before .before .before .before .before .before .before .before .before .before .before .before .before .before .before .loop .inv .1 .1 .1 .1 .1 .1 .1 .1 .0
+same-length-8 c =
+    at-sgo .simplify-graph-once .kept .1 .1 .1 .1 .1 .1 .1 .1 .1 .0 ∙ at-loop .loop .inv .1 .1 .1 .1 .1 .1 .1 .1 .0
+  where
+    at-sgo : tie.After-simplify-graph-once Inv-loop μ-loop
+    at-sgo = let c : tie.After-nexts Inv-loop μ-loop = search in search
 
--- src/lib.rt:82:13
+    at-loop : tie.At-loop Inv-loop μ-loop
+    at-loop = let c = at-sgo in search
+
 same-length-9 : tie.Need-same-length-9 Inv-loop μ-loop
-same-length-9 c = c .before .before .before .before .before .before .before .before .before .before .before .before .before .before .before .before .before .before .before .before .before .simplify-graph-once .kept .1 .1 .1 .1 .1 .1 .1 .1 .1 .1 .0 ∙ c .before .before .before .before .before .before .before .before .before .before .before .before .before .before .before .before .before .before .before .before .before .before .before .before .before .before .before .before .before .before .before .before .loop .inv .1 .1 .1 .1 .1 .1 .1 .1 .1
+same-length-9 c =
+    at-sgo .simplify-graph-once .kept .1 .1 .1 .1 .1 .1 .1 .1 .1 .1 .0 ∙ at-loop .loop .inv .1 .1 .1 .1 .1 .1 .1 .1 .1
+  where
+    at-sgo : tie.After-simplify-graph-once Inv-loop μ-loop
+    at-sgo = let c : tie.After-nexts Inv-loop μ-loop = search in search
 
--- src/lib.rt:82:13
+    at-loop : tie.At-loop Inv-loop μ-loop
+    at-loop = let c = at-sgo in search
+
 same-length-10 : tie.Need-same-length-10 Inv-loop μ-loop
-same-length-10 c = c .before .before .before .before .before .before .before .before .before .before .before .before .before .before .before .before .before .before .before .before .before .before .before .before .before .before .before .before .before .before .before .before .loop .inv .0 .sig-len
+same-length-10 c = at-loop .loop .inv .0 .sig-len
+  where
+    at-loop : tie.At-loop Inv-loop μ-loop
+    at-loop =
+        let c : tie.After-nexts Inv-loop μ-loop = search in
+        let c : tie.After-simplify-graph-once Inv-loop μ-loop = search in
+        search
 
--- src/lib.rt:82:13
 returns : tie.Need-returns Inv-loop μ-loop
-returns c = rw (c .end-with .ensures) (round-quiet (c .before .before .before .before .before .before .before .before .before .before .before .before .before .before .before .before .before .before .before .before .before .before .before .before .before .before .before .before .before .before .before .before .loop .inv .0) (c .before .before .before .before .before .before .before .before .before .before .before .before .before .before .before .before .before .before .before .before .before .before .before .before .before .before .before .before .before .before .before .loop-test .taken) (c .before .before .before .before .before .before .before .before .before .before .before .before .before .before .before .before .before .before .before .before .before .simplify-graph-once .ensures) (c .before .before .before .before .before .before .before .before .before .before .before .before .before .before .before .before .before .before .before .before .before .simplify-graph-once .kept .1 .1 .1 .1 .1 .0) (sym (c .before .before .before .before .before .before .before .before .before .before .before .before .before .before .before .before .before .before .before .before .before .simplify-graph-once .kept .1 .1 .1 .1 .1 .0 ∙ c .before .before .before .before .before .before .before .before .before .before .before .before .before .before .before .before .before .before .before .before .before .before .before .before .before .before .before .before .before .before .before .before .loop .inv .1 .1 .1 .1 .0)) (sym (c .before .before .before .before .before .before .before .before .before .before .before .before .before .before .before .before .before .before .before .before .before .simplify-graph-once .kept .1 .1 .1 .1 .1 .1 .0 ∙ c .before .before .before .before .before .before .before .before .before .before .before .before .before .before .before .before .before .before .before .before .before .before .before .before .before .before .before .before .before .before .before .before .loop .inv .1 .1 .1 .1 .1 .0)) (c .before .if1 .taken))
+returns c =
+    rw
+    (c .end-with .ensures)
+    (round-quiet (at-loop .loop .inv .0) (at-loop-test .loop-test .taken) (at-sgo .simplify-graph-once .ensures)
+    (at-sgo .simplify-graph-once .kept .1 .1 .1 .1 .1 .0)
+    (sym (at-sgo .simplify-graph-once .kept .1 .1 .1 .1 .1 .0 ∙ at-loop .loop .inv .1 .1 .1 .1 .0))
+    (sym (at-sgo .simplify-graph-once .kept .1 .1 .1 .1 .1 .1 .0 ∙ at-loop .loop .inv .1 .1 .1 .1 .1 .0))
+    (at-if1 .if1 .taken))
+  where
+    at-if1 : tie.Then1 Inv-loop μ-loop
+    at-if1 = search
 
--- src/lib.rt:85:17
+    at-sgo : tie.After-simplify-graph-once Inv-loop μ-loop
+    at-sgo = let c = at-if1 in let c : tie.After-nexts Inv-loop μ-loop = search in search
+
+    at-loop-test : tie.In-loop Inv-loop μ-loop
+    at-loop-test = let c = at-sgo in search
+
+    at-loop : tie.At-loop Inv-loop μ-loop
+    at-loop = let c = at-loop-test in search
+
 replace-signature-requires : tie.Need-replace-signature-requires Inv-loop μ-loop
-replace-signature-requires c κs = round-writable (c .before .before .before .before .before .before .before .before .before .before .before .before .before .before .before .before .before .before .before .before .before .before .before .before .before .before .before .before .before .before .before .before .before .before .before .loop .inv .0) (c .before .before .before .before .before .before .before .before .before .before .before .before .before .before .before .before .before .before .before .before .before .before .before .before .before .before .before .before .before .before .before .before .before .before .loop-test .taken) (c .before .before .before .before .before .before .before .before .before .before .before .before .before .before .before .before .before .before .before .before .before .before .before .before .simplify-graph-once .ensures) (c .before .before .before .before .before .before .before .before .before .before .before .before .before .before .before .before .before .before .before .before .before .before .before .before .simplify-graph-once .kept .1 .1 .1 .1 .1 .0) (c .before .before .before .before .if1 .left) (c .before .before .before .before .before .before .before .before .before .before .before .before .before .before .before .before .before .before .before .before .before .before .before .before .before .before .before .before .before .before .before .before .before .before .before .before .before .before .before .before .before .before .before .before .before .before .pre .1 .1 .1)
+replace-signature-requires c κs =
+    round-writable
+    (at-loop .loop .inv .0)
+    (at-loop-test .loop-test .taken)
+    (at-sgo .simplify-graph-once .ensures)
+    (at-sgo .simplify-graph-once .kept .1 .1 .1 .1 .1 .0)
+    (at-if1 .if1 .left)
+    (start .pre .1 .1 .1)
+  where
+    at-if1 : tie.Else1 Inv-loop μ-loop
+    at-if1 = search
 
--- src/lib.rt:88:17
+    at-sgo : tie.After-simplify-graph-once Inv-loop μ-loop
+    at-sgo = let c = at-if1 in let c : tie.After-nexts Inv-loop μ-loop = search in search
+
+    at-loop-test : tie.In-loop Inv-loop μ-loop
+    at-loop-test = let c = at-sgo in search
+
+    at-loop : tie.At-loop Inv-loop μ-loop
+    at-loop = let c = at-loop-test in search
+
+    start : tie.Start Inv-loop μ-loop
+    start = let c = at-loop in search
+
 end-with-requires-2 : tie.Need-end-with-requires-2 Inv-loop μ-loop
 end-with-requires-2 c κs = omega arith
 
--- src/lib.rt:88:17
 same-length-11 : tie.Need-same-length-11 Inv-loop μ-loop
-same-length-11 c = c .before .before .before .before .before .before .before .before .before .before .before .before .before .before .before .before .before .before .before .before .before .before .before .before .before .before .before .before .before .simplify-graph-once .kept .1 .1 .0 ∙ c .before .before .before .before .before .before .before .before .before .before .before .before .before .before .before .before .before .before .before .before .before .before .before .before .before .before .before .before .before .before .before .before .before .before .before .before .before .before .before .before .loop .inv .1 .0
+same-length-11 c = at-sgo .simplify-graph-once .kept .1 .1 .0 ∙ at-loop .loop .inv .1 .0
+  where
+    at-sgo : tie.After-simplify-graph-once Inv-loop μ-loop
+    at-sgo = let c : tie.After-tried Inv-loop μ-loop = search in let c : tie.After-p Inv-loop μ-loop = search in search
 
--- src/lib.rt:88:17
+    at-loop : tie.At-loop Inv-loop μ-loop
+    at-loop = let c = at-sgo in search
+
 same-length-12 : tie.Need-same-length-12 Inv-loop μ-loop
-same-length-12 c = c .before .before .before .before .before .before .before .before .before .before .before .before .before .before .before .before .before .before .before .before .before .before .before .before .before .before .before .before .before .simplify-graph-once .kept .1 .1 .1 .0 ∙ c .before .before .before .before .before .before .before .before .before .before .before .before .before .before .before .before .before .before .before .before .before .before .before .before .before .before .before .before .before .before .before .before .before .before .before .before .before .before .before .before .loop .inv .1 .1 .0
+same-length-12 c = at-sgo .simplify-graph-once .kept .1 .1 .1 .0 ∙ at-loop .loop .inv .1 .1 .0
+  where
+    at-sgo : tie.After-simplify-graph-once Inv-loop μ-loop
+    at-sgo = let c : tie.After-tried Inv-loop μ-loop = search in let c : tie.After-p Inv-loop μ-loop = search in search
 
--- src/lib.rt:88:17
+    at-loop : tie.At-loop Inv-loop μ-loop
+    at-loop = let c = at-sgo in search
+
 same-length-13 : tie.Need-same-length-13 Inv-loop μ-loop
-same-length-13 c = c .before .before .before .before .before .before .before .before .before .before .before .before .before .before .before .before .before .before .before .before .before .before .before .before .before .before .before .before .before .simplify-graph-once .kept .1 .1 .1 .1 .0 ∙ c .before .before .before .before .before .before .before .before .before .before .before .before .before .before .before .before .before .before .before .before .before .before .before .before .before .before .before .before .before .before .before .before .before .before .before .before .before .before .before .before .loop .inv .1 .1 .1 .0
+same-length-13 c = at-sgo .simplify-graph-once .kept .1 .1 .1 .1 .0 ∙ at-loop .loop .inv .1 .1 .1 .0
+  where
+    at-sgo : tie.After-simplify-graph-once Inv-loop μ-loop
+    at-sgo = let c : tie.After-tried Inv-loop μ-loop = search in let c : tie.After-p Inv-loop μ-loop = search in search
 
--- src/lib.rt:88:17
+    at-loop : tie.At-loop Inv-loop μ-loop
+    at-loop = let c = at-sgo in search
+
 same-length-14 : tie.Need-same-length-14 Inv-loop μ-loop
-same-length-14 c = c .before .before .before .before .before .before .before .before .before .before .before .before .before .before .before .before .before .before .before .before .before .before .before .before .before .before .before .before .before .simplify-graph-once .kept .1 .1 .1 .1 .1 .0 ∙ c .before .before .before .before .before .before .before .before .before .before .before .before .before .before .before .before .before .before .before .before .before .before .before .before .before .before .before .before .before .before .before .before .before .before .before .before .before .before .before .before .loop .inv .1 .1 .1 .1 .0
+same-length-14 c = at-sgo .simplify-graph-once .kept .1 .1 .1 .1 .1 .0 ∙ at-loop .loop .inv .1 .1 .1 .1 .0
+  where
+    at-sgo : tie.After-simplify-graph-once Inv-loop μ-loop
+    at-sgo = let c : tie.After-tried Inv-loop μ-loop = search in let c : tie.After-p Inv-loop μ-loop = search in search
 
--- src/lib.rt:88:17
+    at-loop : tie.At-loop Inv-loop μ-loop
+    at-loop = let c = at-sgo in search
+
 same-length-15 : tie.Need-same-length-15 Inv-loop μ-loop
-same-length-15 c = c .before .before .before .before .before .before .before .before .before .before .before .before .before .before .before .before .before .before .before .before .before .before .before .before .before .before .before .before .before .simplify-graph-once .kept .1 .1 .1 .1 .1 .1 .0 ∙ c .before .before .before .before .before .before .before .before .before .before .before .before .before .before .before .before .before .before .before .before .before .before .before .before .before .before .before .before .before .before .before .before .before .before .before .before .before .before .before .before .loop .inv .1 .1 .1 .1 .1 .0
+same-length-15 c = at-sgo .simplify-graph-once .kept .1 .1 .1 .1 .1 .1 .0 ∙ at-loop .loop .inv .1 .1 .1 .1 .1 .0
+  where
+    at-sgo : tie.After-simplify-graph-once Inv-loop μ-loop
+    at-sgo = let c : tie.After-tried Inv-loop μ-loop = search in let c : tie.After-p Inv-loop μ-loop = search in search
 
--- src/lib.rt:88:17
+    at-loop : tie.At-loop Inv-loop μ-loop
+    at-loop = let c = at-sgo in search
+
 same-length-16 : tie.Need-same-length-16 Inv-loop μ-loop
-same-length-16 c = c .before .before .before .before .before .before .before .before .before .before .before .before .before .before .before .before .before .before .before .before .before .before .before .before .before .before .before .before .before .simplify-graph-once .kept .1 .1 .1 .1 .1 .1 .1 .0 ∙ c .before .before .before .before .before .before .before .before .before .before .before .before .before .before .before .before .before .before .before .before .before .before .before .before .before .before .before .before .before .before .before .before .before .before .before .before .before .before .before .before .loop .inv .1 .1 .1 .1 .1 .1 .0
+same-length-16 c = at-sgo .simplify-graph-once .kept .1 .1 .1 .1 .1 .1 .1 .0 ∙ at-loop .loop .inv .1 .1 .1 .1 .1 .1 .0
+  where
+    at-sgo : tie.After-simplify-graph-once Inv-loop μ-loop
+    at-sgo = let c : tie.After-tried Inv-loop μ-loop = search in let c : tie.After-p Inv-loop μ-loop = search in search
 
--- src/lib.rt:88:17
+    at-loop : tie.At-loop Inv-loop μ-loop
+    at-loop = let c = at-sgo in search
+
 same-length-17 : tie.Need-same-length-17 Inv-loop μ-loop
-same-length-17 c = c .before .before .before .before .before .before .before .before .before .before .before .before .before .before .before .before .before .before .before .before .before .before .before .before .before .before .before .before .before .simplify-graph-once .kept .1 .1 .1 .1 .1 .1 .1 .1 .0 ∙ c .before .before .before .before .before .before .before .before .before .before .before .before .before .before .before .before .before .before .before .before .before .before .before .before .before .before .before .before .before .before .before .before .before .before .before .before .before .before .before .before .loop .inv .1 .1 .1 .1 .1 .1 .1 .0
+same-length-17 c =
+    at-sgo .simplify-graph-once .kept .1 .1 .1 .1 .1 .1 .1 .1 .0 ∙ at-loop .loop .inv .1 .1 .1 .1 .1 .1 .1 .0
+  where
+    at-sgo : tie.After-simplify-graph-once Inv-loop μ-loop
+    at-sgo = let c : tie.After-tried Inv-loop μ-loop = search in let c : tie.After-p Inv-loop μ-loop = search in search
 
--- src/lib.rt:88:17
+    at-loop : tie.At-loop Inv-loop μ-loop
+    at-loop = let c = at-sgo in search
+
 same-length-18 : tie.Need-same-length-18 Inv-loop μ-loop
-same-length-18 c = c .before .before .before .before .before .before .before .before .before .before .before .before .before .before .before .before .before .before .before .before .before .before .before .before .before .before .before .before .before .simplify-graph-once .kept .1 .1 .1 .1 .1 .1 .1 .1 .1 .0 ∙ c .before .before .before .before .before .before .before .before .before .before .before .before .before .before .before .before .before .before .before .before .before .before .before .before .before .before .before .before .before .before .before .before .before .before .before .before .before .before .before .before .loop .inv .1 .1 .1 .1 .1 .1 .1 .1 .0
+same-length-18 c =
+    at-sgo .simplify-graph-once .kept .1 .1 .1 .1 .1 .1 .1 .1 .1 .0 ∙ at-loop .loop .inv .1 .1 .1 .1 .1 .1 .1 .1 .0
+  where
+    at-sgo : tie.After-simplify-graph-once Inv-loop μ-loop
+    at-sgo = let c : tie.After-tried Inv-loop μ-loop = search in let c : tie.After-p Inv-loop μ-loop = search in search
 
--- src/lib.rt:88:17
+    at-loop : tie.At-loop Inv-loop μ-loop
+    at-loop = let c = at-sgo in search
+
 same-length-19 : tie.Need-same-length-19 Inv-loop μ-loop
-same-length-19 c = c .before .before .before .before .before .before .before .before .before .before .before .before .before .before .before .before .before .before .before .before .before .before .before .before .before .before .before .before .before .simplify-graph-once .kept .1 .1 .1 .1 .1 .1 .1 .1 .1 .1 .0 ∙ c .before .before .before .before .before .before .before .before .before .before .before .before .before .before .before .before .before .before .before .before .before .before .before .before .before .before .before .before .before .before .before .before .before .before .before .before .before .before .before .before .loop .inv .1 .1 .1 .1 .1 .1 .1 .1 .1
+same-length-19 c =
+    at-sgo .simplify-graph-once .kept .1 .1 .1 .1 .1 .1 .1 .1 .1 .1 .0 ∙ at-loop .loop .inv .1 .1 .1 .1 .1 .1 .1 .1 .1
+  where
+    at-sgo : tie.After-simplify-graph-once Inv-loop μ-loop
+    at-sgo = let c : tie.After-tried Inv-loop μ-loop = search in let c : tie.After-p Inv-loop μ-loop = search in search
 
--- src/lib.rt:88:17
+    at-loop : tie.At-loop Inv-loop μ-loop
+    at-loop = let c = at-sgo in search
+
 same-length-20 : tie.Need-same-length-20 Inv-loop μ-loop
-same-length-20 c = c .before .before .before .before .replace-signature .kept .0 ∙ c .before .before .before .before .before .before .before .before .before .before .before .before .before .before .before .before .before .before .before .before .before .before .before .before .before .before .before .before .before .before .before .before .before .before .before .before .before .before .before .before .loop .inv .0 .sig-len
+same-length-20 c = at-rs .replace-signature .kept .0 ∙ at-loop .loop .inv .0 .sig-len
+  where
+    at-rs : tie.After-replace-signature Inv-loop μ-loop
+    at-rs = search
 
--- src/lib.rt:88:17
+    at-loop : tie.At-loop Inv-loop μ-loop
+    at-loop =
+        let c = at-rs in
+        let c : tie.After-map Inv-loop μ-loop = search in
+        let c : tie.After-es Inv-loop μ-loop = search in
+        search
+
 returns-2 : tie.Need-returns-2 Inv-loop μ-loop
-returns-2 c = rw (c .end-with2 .ensures) (round-repeated (c .before .before .before .before .before .before .before .before .before .before .before .before .before .before .before .before .before .before .before .before .before .before .before .before .before .before .before .before .before .before .before .before .before .before .before .before .before .before .before .before .loop .inv .0) (c .before .before .before .before .before .before .before .before .before .before .before .before .before .before .before .before .before .before .before .before .before .before .before .before .before .before .before .before .before .before .before .before .before .before .before .before .before .before .before .loop-test .taken) (c .before .before .before .before .before .before .before .before .before .before .before .before .before .before .before .before .before .before .before .before .before .before .before .before .before .before .before .before .before .simplify-graph-once .ensures) (c .before .before .before .before .before .before .before .before .before .before .before .before .before .before .before .before .before .before .before .before .before .before .before .before .before .before .before .before .before .simplify-graph-once .kept .1 .1 .1 .1 .1 .0) (c .before .before .before .before .before .before .before .before .before .if1 .left) (c .before .before .before .before .before .before .before .before .if2 .taken) (c .before .before .before .before .replace-signature .ensures) (sym (c .before .before .before .before .before .before .before .before .before .before .before .before .before .before .before .before .before .before .before .before .before .before .before .before .before .before .before .before .before .simplify-graph-once .kept .1 .1 .1 .1 .1 .0 ∙ c .before .before .before .before .before .before .before .before .before .before .before .before .before .before .before .before .before .before .before .before .before .before .before .before .before .before .before .before .before .before .before .before .before .before .before .before .before .before .before .before .loop .inv .1 .1 .1 .1 .0)) (sym (c .before .before .before .before .before .before .before .before .before .before .before .before .before .before .before .before .before .before .before .before .before .before .before .before .before .before .before .before .before .simplify-graph-once .kept .1 .1 .1 .1 .1 .1 .0 ∙ c .before .before .before .before .before .before .before .before .before .before .before .before .before .before .before .before .before .before .before .before .before .before .before .before .before .before .before .before .before .before .before .before .before .before .before .before .before .before .before .before .loop .inv .1 .1 .1 .1 .1 .0)) (c .before .if3 .taken))
+returns-2 c =
+    rw
+    (c .end-with2 .ensures)
+    (round-repeated (at-loop .loop .inv .0) (at-loop-test .loop-test .taken) (at-sgo .simplify-graph-once .ensures)
+    (at-sgo .simplify-graph-once .kept .1 .1 .1 .1 .1 .0) (at-if1 .if1 .left) (at-if2 .if2 .taken)
+    (at-rs .replace-signature .ensures)
+    (sym (at-sgo .simplify-graph-once .kept .1 .1 .1 .1 .1 .0 ∙ at-loop .loop .inv .1 .1 .1 .1 .0))
+    (sym (at-sgo .simplify-graph-once .kept .1 .1 .1 .1 .1 .1 .0 ∙ at-loop .loop .inv .1 .1 .1 .1 .1 .0))
+    (at-if3 .if3 .taken))
+  where
+    at-if3 : tie.Then3 Inv-loop μ-loop
+    at-if3 = search
 
--- src/lib.rt:77:5
+    at-rs : tie.After-replace-signature Inv-loop μ-loop
+    at-rs = let c = at-if3 in search
+
+    at-if2 : tie.Then2 Inv-loop μ-loop
+    at-if2 = let c = at-rs in search
+
+    at-if1 : tie.Else1 Inv-loop μ-loop
+    at-if1 = let c = at-if2 in search
+
+    at-sgo : tie.After-simplify-graph-once Inv-loop μ-loop
+    at-sgo = let c = at-if1 in let c : tie.After-nexts Inv-loop μ-loop = search in search
+
+    at-loop-test : tie.In-loop Inv-loop μ-loop
+    at-loop-test = let c = at-sgo in search
+
+    at-loop : tie.At-loop Inv-loop μ-loop
+    at-loop = let c = at-loop-test in search
+
 loop-less : tie.Need-loop-less Inv-loop μ-loop
-loop-less c = omega (arith, c .before .before .before .before .before .before .before .before .before .before .before .before .before .before .before .before .before .before .before .before .before .before .before .before .before .before .before .before .before .before .before .before .before .before .before .before .before .before .loop-test .taken)
+loop-less c = omega (arith, at-loop-test .loop-test .taken)
+  where
+    at-loop-test : tie.In-loop Inv-loop μ-loop
+    at-loop-test =
+        let c : tie.After-tried Inv-loop μ-loop = search in
+        let c : tie.After-p Inv-loop μ-loop = search in
+        let c : tie.After-simplify-graph-once-arg3 Inv-loop μ-loop = search in
+        search
 
--- src/lib.rt:77:5
 loop-again : tie.Need-loop-again Inv-loop μ-loop
-loop-again c = (round-on (c .before .before .before .before .before .before .before .before .before .before .before .before .before .before .before .before .before .before .before .before .before .before .before .before .before .before .before .before .before .before .before .before .before .before .before .before .before .before .before .loop .inv .0) (c .before .before .before .before .before .before .before .before .before .before .before .before .before .before .before .before .before .before .before .before .before .before .before .before .before .before .before .before .before .before .before .before .before .before .before .before .before .before .loop-test .taken) (c .before .before .before .before .before .before .before .before .before .before .before .before .before .before .before .before .before .before .before .before .before .before .before .before .before .before .before .before .simplify-graph-once .ensures) (c .before .before .before .before .before .before .before .before .before .before .before .before .before .before .before .before .before .before .before .before .before .before .before .before .before .before .before .before .simplify-graph-once .kept .1 .1 .1 .1 .1 .0) (c .before .before .before .before .before .before .before .before .if1 .left) (c .before .before .before .before .before .before .before .if2 .taken) (c .before .before .before .replace-signature .ensures) (c .if3 .left) (c .before .before .before .replace-signature .kept .0), ((c .before .before .before .before .before .before .before .before .before .before .before .before .before .before .before .before .before .before .before .before .before .before .before .before .before .before .before .before .simplify-graph-once .kept .1 .1 .0 ∙ c .before .before .before .before .before .before .before .before .before .before .before .before .before .before .before .before .before .before .before .before .before .before .before .before .before .before .before .before .before .before .before .before .before .before .before .before .before .before .before .loop .inv .1 .0), ((c .before .before .before .before .before .before .before .before .before .before .before .before .before .before .before .before .before .before .before .before .before .before .before .before .before .before .before .before .simplify-graph-once .kept .1 .1 .1 .0 ∙ c .before .before .before .before .before .before .before .before .before .before .before .before .before .before .before .before .before .before .before .before .before .before .before .before .before .before .before .before .before .before .before .before .before .before .before .before .before .before .before .loop .inv .1 .1 .0), ((c .before .before .before .before .before .before .before .before .before .before .before .before .before .before .before .before .before .before .before .before .before .before .before .before .before .before .before .before .simplify-graph-once .kept .1 .1 .1 .1 .0 ∙ c .before .before .before .before .before .before .before .before .before .before .before .before .before .before .before .before .before .before .before .before .before .before .before .before .before .before .before .before .before .before .before .before .before .before .before .before .before .before .before .loop .inv .1 .1 .1 .0), ((c .before .before .before .before .before .before .before .before .before .before .before .before .before .before .before .before .before .before .before .before .before .before .before .before .before .before .before .before .simplify-graph-once .kept .1 .1 .1 .1 .1 .0 ∙ c .before .before .before .before .before .before .before .before .before .before .before .before .before .before .before .before .before .before .before .before .before .before .before .before .before .before .before .before .before .before .before .before .before .before .before .before .before .before .before .loop .inv .1 .1 .1 .1 .0), ((c .before .before .before .before .before .before .before .before .before .before .before .before .before .before .before .before .before .before .before .before .before .before .before .before .before .before .before .before .simplify-graph-once .kept .1 .1 .1 .1 .1 .1 .0 ∙ c .before .before .before .before .before .before .before .before .before .before .before .before .before .before .before .before .before .before .before .before .before .before .before .before .before .before .before .before .before .before .before .before .before .before .before .before .before .before .before .loop .inv .1 .1 .1 .1 .1 .0), ((c .before .before .before .before .before .before .before .before .before .before .before .before .before .before .before .before .before .before .before .before .before .before .before .before .before .before .before .before .simplify-graph-once .kept .1 .1 .1 .1 .1 .1 .1 .0 ∙ c .before .before .before .before .before .before .before .before .before .before .before .before .before .before .before .before .before .before .before .before .before .before .before .before .before .before .before .before .before .before .before .before .before .before .before .before .before .before .before .loop .inv .1 .1 .1 .1 .1 .1 .0), ((c .before .before .before .before .before .before .before .before .before .before .before .before .before .before .before .before .before .before .before .before .before .before .before .before .before .before .before .before .simplify-graph-once .kept .1 .1 .1 .1 .1 .1 .1 .1 .0 ∙ c .before .before .before .before .before .before .before .before .before .before .before .before .before .before .before .before .before .before .before .before .before .before .before .before .before .before .before .before .before .before .before .before .before .before .before .before .before .before .before .loop .inv .1 .1 .1 .1 .1 .1 .1 .0), ((c .before .before .before .before .before .before .before .before .before .before .before .before .before .before .before .before .before .before .before .before .before .before .before .before .before .before .before .before .simplify-graph-once .kept .1 .1 .1 .1 .1 .1 .1 .1 .1 .0 ∙ c .before .before .before .before .before .before .before .before .before .before .before .before .before .before .before .before .before .before .before .before .before .before .before .before .before .before .before .before .before .before .before .before .before .before .before .before .before .before .before .loop .inv .1 .1 .1 .1 .1 .1 .1 .1 .0), (c .before .before .before .before .before .before .before .before .before .before .before .before .before .before .before .before .before .before .before .before .before .before .before .before .before .before .before .before .simplify-graph-once .kept .1 .1 .1 .1 .1 .1 .1 .1 .1 .1 .0 ∙ c .before .before .before .before .before .before .before .before .before .before .before .before .before .before .before .before .before .before .before .before .before .before .before .before .before .before .before .before .before .before .before .before .before .before .before .before .before .before .before .loop .inv .1 .1 .1 .1 .1 .1 .1 .1 .1))))))))))
+loop-again c = (
+  round-on (at-loop .loop .inv .0) (at-loop-test .loop-test .taken) (at-sgo .simplify-graph-once .ensures)
+      (at-sgo .simplify-graph-once .kept .1 .1 .1 .1 .1 .0) (at-if1 .if1 .left) (at-if2 .if2 .taken)
+      (at-rs .replace-signature .ensures) (c .if3 .left) (at-rs .replace-signature .kept .0),
+  (
+    (at-sgo .simplify-graph-once .kept .1 .1 .0 ∙ at-loop .loop .inv .1 .0),
+    (
+      (at-sgo .simplify-graph-once .kept .1 .1 .1 .0 ∙ at-loop .loop .inv .1 .1 .0),
+      (
+        (at-sgo .simplify-graph-once .kept .1 .1 .1 .1 .0 ∙ at-loop .loop .inv .1 .1 .1 .0),
+        (
+          (at-sgo .simplify-graph-once .kept .1 .1 .1 .1 .1 .0 ∙ at-loop .loop .inv .1 .1 .1 .1 .0),
+          (
+            (at-sgo .simplify-graph-once .kept .1 .1 .1 .1 .1 .1 .0 ∙ at-loop .loop .inv .1 .1 .1 .1 .1 .0),
+            (
+              (at-sgo .simplify-graph-once .kept .1 .1 .1 .1 .1 .1 .1 .0 ∙ at-loop .loop .inv .1 .1 .1 .1 .1 .1 .0),
+              (
+                (at-sgo .simplify-graph-once .kept .1 .1 .1 .1 .1 .1 .1 .1 .0
+                    ∙ at-loop .loop .inv .1 .1 .1 .1 .1 .1 .1 .0),
+                (
+                  (at-sgo .simplify-graph-once .kept .1 .1 .1 .1 .1 .1 .1 .1 .1 .0
+                      ∙ at-loop .loop .inv .1 .1 .1 .1 .1 .1 .1 .1 .0),
+                  (at-sgo .simplify-graph-once .kept .1 .1 .1 .1 .1 .1 .1 .1 .1 .1 .0
+                      ∙ at-loop .loop .inv .1 .1 .1 .1 .1 .1 .1 .1 .1),
+                ),
+              ),
+            ),
+          ),
+        ),
+      ),
+    ),
+  ),
+)
+  where
+    at-rs : tie.After-replace-signature Inv-loop μ-loop
+    at-rs = search
 
--- src/lib.rt:77:5
+    at-if2 : tie.Then2 Inv-loop μ-loop
+    at-if2 = let c = at-rs in search
+
+    at-if1 : tie.Else1 Inv-loop μ-loop
+    at-if1 = let c = at-if2 in search
+
+    at-sgo : tie.After-simplify-graph-once Inv-loop μ-loop
+    at-sgo = let c = at-if1 in let c : tie.After-nexts Inv-loop μ-loop = search in search
+
+    at-loop-test : tie.In-loop Inv-loop μ-loop
+    at-loop-test = let c = at-sgo in search
+
+    at-loop : tie.At-loop Inv-loop μ-loop
+    at-loop = let c = at-loop-test in search
+
 loop-less-2 : tie.Need-loop-less-2 Inv-loop μ-loop
-loop-less-2 c = omega (arith, c .before .before .before .before .before .before .before .before .before .before .before .before .before .before .before .before .before .before .before .before .before .before .before .before .before .before .before .before .before .before .before .loop-test .taken)
+loop-less-2 c = omega (arith, at-loop-test .loop-test .taken)
+  where
+    at-loop-test : tie.In-loop Inv-loop μ-loop
+    at-loop-test =
+        let c : tie.After-nexts Inv-loop μ-loop = search in
+        let c : tie.After-simplify-graph-once Inv-loop μ-loop = search in
+        search
 
--- src/lib.rt:77:5
 loop-again-2 : tie.Need-loop-again-2 Inv-loop μ-loop
-loop-again-2 c = (round-early (c .before .before .before .before .before .before .before .before .before .before .before .before .before .before .before .before .before .before .before .before .before .before .before .before .before .before .before .before .before .before .before .before .loop .inv .0) (c .before .before .before .before .before .before .before .before .before .before .before .before .before .before .before .before .before .before .before .before .before .before .before .before .before .before .before .before .before .before .before .loop-test .taken) (c .before .before .before .before .before .before .before .before .before .before .before .before .before .before .before .before .before .before .before .before .before .simplify-graph-once .ensures) (c .before .before .before .before .before .before .before .before .before .before .before .before .before .before .before .before .before .before .before .before .before .simplify-graph-once .kept .1 .1 .1 .1 .1 .0) (c .before .if1 .left) (c .if2 .left), ((c .before .before .before .before .before .before .before .before .before .before .before .before .before .before .before .before .before .before .before .before .before .simplify-graph-once .kept .1 .1 .0 ∙ c .before .before .before .before .before .before .before .before .before .before .before .before .before .before .before .before .before .before .before .before .before .before .before .before .before .before .before .before .before .before .before .before .loop .inv .1 .0), ((c .before .before .before .before .before .before .before .before .before .before .before .before .before .before .before .before .before .before .before .before .before .simplify-graph-once .kept .1 .1 .1 .0 ∙ c .before .before .before .before .before .before .before .before .before .before .before .before .before .before .before .before .before .before .before .before .before .before .before .before .before .before .before .before .before .before .before .before .loop .inv .1 .1 .0), ((c .before .before .before .before .before .before .before .before .before .before .before .before .before .before .before .before .before .before .before .before .before .simplify-graph-once .kept .1 .1 .1 .1 .0 ∙ c .before .before .before .before .before .before .before .before .before .before .before .before .before .before .before .before .before .before .before .before .before .before .before .before .before .before .before .before .before .before .before .before .loop .inv .1 .1 .1 .0), ((c .before .before .before .before .before .before .before .before .before .before .before .before .before .before .before .before .before .before .before .before .before .simplify-graph-once .kept .1 .1 .1 .1 .1 .0 ∙ c .before .before .before .before .before .before .before .before .before .before .before .before .before .before .before .before .before .before .before .before .before .before .before .before .before .before .before .before .before .before .before .before .loop .inv .1 .1 .1 .1 .0), ((c .before .before .before .before .before .before .before .before .before .before .before .before .before .before .before .before .before .before .before .before .before .simplify-graph-once .kept .1 .1 .1 .1 .1 .1 .0 ∙ c .before .before .before .before .before .before .before .before .before .before .before .before .before .before .before .before .before .before .before .before .before .before .before .before .before .before .before .before .before .before .before .before .loop .inv .1 .1 .1 .1 .1 .0), ((c .before .before .before .before .before .before .before .before .before .before .before .before .before .before .before .before .before .before .before .before .before .simplify-graph-once .kept .1 .1 .1 .1 .1 .1 .1 .0 ∙ c .before .before .before .before .before .before .before .before .before .before .before .before .before .before .before .before .before .before .before .before .before .before .before .before .before .before .before .before .before .before .before .before .loop .inv .1 .1 .1 .1 .1 .1 .0), ((c .before .before .before .before .before .before .before .before .before .before .before .before .before .before .before .before .before .before .before .before .before .simplify-graph-once .kept .1 .1 .1 .1 .1 .1 .1 .1 .0 ∙ c .before .before .before .before .before .before .before .before .before .before .before .before .before .before .before .before .before .before .before .before .before .before .before .before .before .before .before .before .before .before .before .before .loop .inv .1 .1 .1 .1 .1 .1 .1 .0), ((c .before .before .before .before .before .before .before .before .before .before .before .before .before .before .before .before .before .before .before .before .before .simplify-graph-once .kept .1 .1 .1 .1 .1 .1 .1 .1 .1 .0 ∙ c .before .before .before .before .before .before .before .before .before .before .before .before .before .before .before .before .before .before .before .before .before .before .before .before .before .before .before .before .before .before .before .before .loop .inv .1 .1 .1 .1 .1 .1 .1 .1 .0), (c .before .before .before .before .before .before .before .before .before .before .before .before .before .before .before .before .before .before .before .before .before .simplify-graph-once .kept .1 .1 .1 .1 .1 .1 .1 .1 .1 .1 .0 ∙ c .before .before .before .before .before .before .before .before .before .before .before .before .before .before .before .before .before .before .before .before .before .before .before .before .before .before .before .before .before .before .before .before .loop .inv .1 .1 .1 .1 .1 .1 .1 .1 .1))))))))))
+loop-again-2 c = (
+  round-early (at-loop .loop .inv .0) (at-loop-test .loop-test .taken) (at-sgo .simplify-graph-once .ensures)
+      (at-sgo .simplify-graph-once .kept .1 .1 .1 .1 .1 .0) (at-if1 .if1 .left) (c .if2 .left),
+  (
+    (at-sgo .simplify-graph-once .kept .1 .1 .0 ∙ at-loop .loop .inv .1 .0),
+    (
+      (at-sgo .simplify-graph-once .kept .1 .1 .1 .0 ∙ at-loop .loop .inv .1 .1 .0),
+      (
+        (at-sgo .simplify-graph-once .kept .1 .1 .1 .1 .0 ∙ at-loop .loop .inv .1 .1 .1 .0),
+        (
+          (at-sgo .simplify-graph-once .kept .1 .1 .1 .1 .1 .0 ∙ at-loop .loop .inv .1 .1 .1 .1 .0),
+          (
+            (at-sgo .simplify-graph-once .kept .1 .1 .1 .1 .1 .1 .0 ∙ at-loop .loop .inv .1 .1 .1 .1 .1 .0),
+            (
+              (at-sgo .simplify-graph-once .kept .1 .1 .1 .1 .1 .1 .1 .0 ∙ at-loop .loop .inv .1 .1 .1 .1 .1 .1 .0),
+              (
+                (at-sgo .simplify-graph-once .kept .1 .1 .1 .1 .1 .1 .1 .1 .0
+                    ∙ at-loop .loop .inv .1 .1 .1 .1 .1 .1 .1 .0),
+                (
+                  (at-sgo .simplify-graph-once .kept .1 .1 .1 .1 .1 .1 .1 .1 .1 .0
+                      ∙ at-loop .loop .inv .1 .1 .1 .1 .1 .1 .1 .1 .0),
+                  (at-sgo .simplify-graph-once .kept .1 .1 .1 .1 .1 .1 .1 .1 .1 .1 .0
+                      ∙ at-loop .loop .inv .1 .1 .1 .1 .1 .1 .1 .1 .1),
+                ),
+              ),
+            ),
+          ),
+        ),
+      ),
+    ),
+  ),
+)
+  where
+    at-if1 : tie.Else1 Inv-loop μ-loop
+    at-if1 = search
 
--- src/lib.rt:93:5
+    at-sgo : tie.After-simplify-graph-once Inv-loop μ-loop
+    at-sgo = let c = at-if1 in let c : tie.After-nexts Inv-loop μ-loop = search in search
+
+    at-loop-test : tie.In-loop Inv-loop μ-loop
+    at-loop-test = let c = at-sgo in search
+
+    at-loop : tie.At-loop Inv-loop μ-loop
+    at-loop = let c = at-loop-test in search
+
 end-with-requires-3 : tie.Need-end-with-requires-3 Inv-loop μ-loop
 end-with-requires-3 c κs = omega arith
 
--- src/lib.rt:56:1
 same-length-21 : tie.Need-same-length-21 Inv-loop μ-loop
-same-length-21 c = c .before .before .loop .inv .1 .0
+same-length-21 c =
+    let at-loop : tie.At-loop Inv-loop μ-loop = search in
+    at-loop .loop .inv .1 .0
 
--- src/lib.rt:56:1
 same-length-22 : tie.Need-same-length-22 Inv-loop μ-loop
-same-length-22 c = c .before .before .loop .inv .1 .1 .0
+same-length-22 c =
+    let at-loop : tie.At-loop Inv-loop μ-loop = search in
+    at-loop .loop .inv .1 .1 .0
 
--- src/lib.rt:56:1
 same-length-23 : tie.Need-same-length-23 Inv-loop μ-loop
-same-length-23 c = c .before .before .loop .inv .1 .1 .1 .0
+same-length-23 c =
+    let at-loop : tie.At-loop Inv-loop μ-loop = search in
+    at-loop .loop .inv .1 .1 .1 .0
 
--- src/lib.rt:56:1
 same-length-24 : tie.Need-same-length-24 Inv-loop μ-loop
-same-length-24 c = c .before .before .loop .inv .1 .1 .1 .1 .0
+same-length-24 c =
+    let at-loop : tie.At-loop Inv-loop μ-loop = search in
+    at-loop .loop .inv .1 .1 .1 .1 .0
 
--- src/lib.rt:56:1
 same-length-25 : tie.Need-same-length-25 Inv-loop μ-loop
-same-length-25 c = c .before .before .loop .inv .1 .1 .1 .1 .1 .0
+same-length-25 c =
+    let at-loop : tie.At-loop Inv-loop μ-loop = search in
+    at-loop .loop .inv .1 .1 .1 .1 .1 .0
 
--- src/lib.rt:56:1
 same-length-26 : tie.Need-same-length-26 Inv-loop μ-loop
-same-length-26 c = c .before .before .loop .inv .1 .1 .1 .1 .1 .1 .0
+same-length-26 c =
+    let at-loop : tie.At-loop Inv-loop μ-loop = search in
+    at-loop .loop .inv .1 .1 .1 .1 .1 .1 .0
 
--- src/lib.rt:56:1
 same-length-27 : tie.Need-same-length-27 Inv-loop μ-loop
-same-length-27 c = c .before .before .loop .inv .1 .1 .1 .1 .1 .1 .1 .0
+same-length-27 c =
+    let at-loop : tie.At-loop Inv-loop μ-loop = search in
+    at-loop .loop .inv .1 .1 .1 .1 .1 .1 .1 .0
 
--- src/lib.rt:56:1
 same-length-28 : tie.Need-same-length-28 Inv-loop μ-loop
-same-length-28 c = c .before .before .loop .inv .1 .1 .1 .1 .1 .1 .1 .1 .0
+same-length-28 c =
+    let at-loop : tie.At-loop Inv-loop μ-loop = search in
+    at-loop .loop .inv .1 .1 .1 .1 .1 .1 .1 .1 .0
 
--- src/lib.rt:56:1
 same-length-29 : tie.Need-same-length-29 Inv-loop μ-loop
-same-length-29 c = c .before .before .loop .inv .1 .1 .1 .1 .1 .1 .1 .1 .1
+same-length-29 c =
+    let at-loop : tie.At-loop Inv-loop μ-loop = search in
+    at-loop .loop .inv .1 .1 .1 .1 .1 .1 .1 .1 .1
 
--- src/lib.rt:56:1
 same-length-30 : tie.Need-same-length-30 Inv-loop μ-loop
-same-length-30 c = c .before .before .loop .inv .0 .sig-len
+same-length-30 c =
+    let at-loop : tie.At-loop Inv-loop μ-loop = search in
+    at-loop .loop .inv .0 .sig-len
 
--- src/lib.rt:56:1
 returns-3 : tie.Need-returns-3 Inv-loop μ-loop
-returns-3 c = rw (c .end-with3 .ensures) (round-full (c .before .before .loop .inv .0) (c .before .loop-test .left) (sym (c .before .before .loop .inv .1 .1 .1 .1 .0)) (sym (c .before .before .loop .inv .1 .1 .1 .1 .1 .0)))
+returns-3 c =
+    rw
+    (c .end-with3 .ensures)
+    (round-full (at-loop .loop .inv .0) (at-loop-test .loop-test .left) (sym (at-loop .loop .inv .1 .1 .1 .1 .0))
+    (sym (at-loop .loop .inv .1 .1 .1 .1 .1 .0)))
+  where
+    at-loop-test : tie.After-loop Inv-loop μ-loop
+    at-loop-test = search
+
+    at-loop : tie.At-loop Inv-loop μ-loop
+    at-loop = let c = at-loop-test in search
 
 pub simplify-rounds-spec : {M : Type 1} → statement M
 simplify-rounds-spec =

@@ -9,20 +9,61 @@ use Rattle.sequence.proofs.sequence_part.Statement.{statement}
 use Rattle.sequence.proofs.sequence_part.Tie as tie
 
 add-end : tie.Need-add-end
-add-end c = omega (arith, sequence-inside (c .before .before .before .args .rec .now) (c .before .before .before .args .v) (c .before .before .before .pre .1) (c .before .before .before .pre .0), c .before .sequence-start .ensures, c .length-at .ensures .0)
+add-end c =
+    omega (
+      arith,
+      sequence-inside (start .args .rec .now) (start .args .v) (start .pre .1) (start .pre .0),
+      at-sequence-start .sequence-start .ensures,
+      c .length-at .ensures .0,
+    )
+  where
+    at-sequence-start : tie.After-sequence-start
+    at-sequence-start = search
+
+    start : tie.Start
+    start = let c = at-sequence-start in search
 
 part-result-end : tie.Need-part-result-end
-part-result-end c = omega (arith, sequence-inside (c .before .before .before .args .rec .now) (c .before .before .before .args .v) (c .before .before .before .pre .1) (c .before .before .before .pre .0), c .before .sequence-start .ensures, c .length-at .ensures .0)
+part-result-end c =
+    omega (
+      arith,
+      sequence-inside (start .args .rec .now) (start .args .v) (start .pre .1) (start .pre .0),
+      at-sequence-start .sequence-start .ensures,
+      c .length-at .ensures .0,
+    )
+  where
+    at-sequence-start : tie.After-sequence-start
+    at-sequence-start = search
+
+    start : tie.Start
+    start = let c = at-sequence-start in search
 
 returns : tie.Need-returns
-returns c = part-is (c .before .before .before .before .args .rec .now) (c .before .before .before .before .args .v) (c .before .before .sequence-start .result) (c .before .before .sequence-start .result + c .before .length-at .result) (c .before .before .sequence-start .ensures) (ap (λ n. c .before .before .sequence-start .result + n) (c .before .length-at .ensures .0)) (c .before .before .before .before .pre .1)
+returns c =
+    let at-length-at : tie.After-length-at = search in
+    let at-sequence-start : tie.After-sequence-start = search in
+    let start : tie.Start = search in
+    part-is
+    (start .args .rec .now)
+    (start .args .v)
+    (at-sequence-start .sequence-start .result)
+    (at-sequence-start .sequence-start .result + at-length-at .length-at .result)
+    (at-sequence-start .sequence-start .ensures)
+    (ap (λ n. at-sequence-start .sequence-start .result + n) (at-length-at .length-at .ensures .0))
+    (start .pre .1)
+
+length-at-requires : tie.Need-length-at-requires
+length-at-requires c κs = omega (arith, length-is (start .args .rec .now) (start .pre .0), start .pre .1)
+  where
+    start : tie.Start
+    start = search
 
 pub sequence-part-spec : {M : Type 1} → statement M
 sequence-part-spec =
     tie.close
     (tie.spec
     (λ c κs. search needs)
-    (λ c κs. omega (arith, length-is (c .before .before .args .rec .now) (c .before .before .pre .0), c .before .before .pre .1))
+    length-at-requires
     add-end
     (λ c. search needs)
     (λ c. search needs)

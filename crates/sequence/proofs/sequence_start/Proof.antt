@@ -13,19 +13,79 @@ abbrev μ-loop : tie.MeasureT-loop
 μ-loop rec v at₀ i₀ at i = v - i
 
 loop-holds : tie.Need-loop-holds Inv-loop μ-loop
-loop-holds c = adding-start (c .before .before .before .args .rec .now) (c .before .before .before .args .v) (c .before .vertex-count .result) (c .edge-count .result) (c .before .vertex-count .ensures .0) (c .edge-count .ensures .0)
+loop-holds c =
+    let at-vertex-count : tie.After-vertex-count Inv-loop μ-loop = search in
+    let start : tie.Start Inv-loop μ-loop = search in
+    adding-start
+    (start .args .rec .now)
+    (start .args .v)
+    (at-vertex-count .vertex-count .result)
+    (c .edge-count .result)
+    (at-vertex-count .vertex-count .ensures .0)
+    (c .edge-count .ensures .0)
 
 length-at-requires : tie.Need-length-at-requires Inv-loop μ-loop
-length-at-requires c κs = omega (arith, length-is (c .before .before .before .before .before .args .rec .now) (c .before .before .before .before .before .pre .0), c .before .before .before .before .before .pre .1)
+length-at-requires c κs = omega (arith, length-is (start .args .rec .now) (start .pre .0), start .pre .1)
+  where
+    start : tie.Start Inv-loop μ-loop
+    start = search
 
 add-at-3 : tie.Need-add-at-3 Inv-loop μ-loop
-add-at-3 c = omega (arith, adding-fits (c .before .before .before .before .before .before .args .rec .now) (c .before .before .before .before .before .before .args .v) (c .before .before .loop .i) (c .before .before .loop .at) (c .length-at .result) (c .before .loop-test .taken) (c .length-at .ensures .0) (c .before .before .loop .inv), sequence-inside (c .before .before .before .before .before .before .args .rec .now) (c .before .before .before .before .before .before .args .v) (c .before .before .before .before .before .before .pre .1) (c .before .before .before .before .before .before .pre .0))
+add-at-3 c =
+    omega (
+      arith,
+      adding-fits (start .args .rec .now) (start .args .v) (at-loop .loop .i) (at-loop .loop .at)
+          (c .length-at .result) (at-loop-test .loop-test .taken) (c .length-at .ensures .0) (at-loop .loop .inv),
+      sequence-inside (start .args .rec .now) (start .args .v) (start .pre .1) (start .pre .0),
+    )
+  where
+    at-loop-test : tie.In-loop Inv-loop μ-loop
+    at-loop-test = search
+
+    at-loop : tie.At-loop Inv-loop μ-loop
+    at-loop = let c = at-loop-test in search
+
+    start : tie.Start Inv-loop μ-loop
+    start = let c = at-loop in search
 
 loop-again : tie.Need-loop-again Inv-loop μ-loop
-loop-again c = adding-more (c .before .before .before .before .before .before .args .rec .now) (c .before .before .before .before .before .before .args .v) (c .before .before .loop .i) (c .before .before .loop .at) (c .length-at .result) (c .before .loop-test .taken) (c .length-at .ensures .0) (c .before .before .loop .inv)
+loop-again c =
+    let at-loop-test : tie.In-loop Inv-loop μ-loop = search in
+    let at-loop : tie.At-loop Inv-loop μ-loop = search in
+    let start : tie.Start Inv-loop μ-loop = search in
+    adding-more
+    (start .args .rec .now)
+    (start .args .v)
+    (at-loop .loop .i)
+    (at-loop .loop .at)
+    (c .length-at .result)
+    (at-loop-test .loop-test .taken)
+    (c .length-at .ensures .0)
+    (at-loop .loop .inv)
 
 returns : tie.Need-returns Inv-loop μ-loop
-returns c = adding-end (c .before .before .before .before .before .args .rec .now) (c .before .before .before .before .before .args .v) (c .before .loop .i) (c .before .loop .at) (c .loop-test .left) (c .before .loop .inv)
+returns c =
+    let at-loop : tie.At-loop Inv-loop μ-loop = search in
+    let start : tie.Start Inv-loop μ-loop = search in
+    adding-end
+    (start .args .rec .now)
+    (start .args .v)
+    (at-loop .loop .i)
+    (at-loop .loop .at)
+    (c .loop-test .left)
+    (at-loop .loop .inv)
+
+vertex-count-requires : tie.Need-vertex-count-requires Inv-loop μ-loop
+vertex-count-requires c κs = omega (arith, length-is (start .args .rec .now) (start .pre .0))
+  where
+    start : tie.Start Inv-loop μ-loop
+    start = search
+
+edge-count-requires : tie.Need-edge-count-requires Inv-loop μ-loop
+edge-count-requires c κs = omega (arith, length-is (start .args .rec .now) (start .pre .0))
+  where
+    start : tie.Start Inv-loop μ-loop
+    start = search
 
 pub sequence-start-spec : {M : Type 1} → statement M
 sequence-start-spec =
@@ -33,10 +93,10 @@ sequence-start-spec =
     (tie.spec
     Inv-loop
     μ-loop
-    (λ c κs. omega (arith, length-is (c .before .args .rec .now) (c .before .pre .0)))
+    vertex-count-requires
     (λ c. omega arith)
     (λ c. omega arith)
-    (λ c κs. omega (arith, length-is (c .before .before .args .rec .now) (c .before .before .pre .0)))
+    edge-count-requires
     (λ c. omega arith)
     (λ c. omega arith)
     loop-holds

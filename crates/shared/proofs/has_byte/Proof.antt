@@ -6,8 +6,10 @@ use Rattle.shared.proofs.has_byte.Statement.{statement}
 use Rattle.shared.proofs.has_byte.Tie as tie
 
 pub has-byte-spec : {M : Type 1} → statement M
-has-byte-spec = tie.close (tie.spec
+has-byte-spec =
+    tie.close
+    (tie.spec
     (λ c. and-else _ (le-ltb _ _ (c .if1 .taken)))
     (λ c. search needs)
     (λ c. search needs)
-    (λ c. and-then _ (lt-ltb _ _ (c .before .if1 .left))))
+    (λ c. let at-if1 : tie.Else1 = search in and-then _ (lt-ltb _ _ (at-if1 .if1 .left))))

@@ -15,4 +15,4 @@ has-last-spec =
     (λ c. search needs)
     (λ c. search needs)
     (λ c. search needs)
-    (λ c. and-then _ (lt-ltb _ _ (c .before .if1 .left))))
+    (λ c. let at-if1 : tie.Else1 = search in and-then _ (lt-ltb _ _ (at-if1 .if1 .left))))

@@ -5,6 +5,8 @@ use Rattle.show.proofs.input_refusal.Statement.{statement}
 use Rattle.show.proofs.input_refusal.Tie as tie
 
 pub input-refusal-spec : {M : Type 1} → statement M
-input-refusal-spec = tie.close (tie.spec
-    (λ c. causes-long (c .before .args .rec .now) (c .if1 .taken))
-    (λ c. c .before .pre ∙ causes-record (c .before .args .rec .now) (c .if1 .left)))
+input-refusal-spec =
+    tie.close
+    (tie.spec
+    (λ c. let start : tie.Start = search in causes-long (start .args .rec .now) (c .if1 .taken))
+    (λ c. let start : tie.Start = search in start .pre ∙ causes-record (start .args .rec .now) (c .if1 .left)))

@@ -6,6 +6,18 @@ use borrow.Author.Needs.{needs}
 use Rattle.signature.proofs.put.Statement.{statement}
 use Rattle.signature.proofs.put.Tie as tie
 
+returns : tie.Need-returns
+returns c =
+    let at-same-at : tie.After-same-at = search in
+    let start : tie.Start = search in
+    put-over (start .pre .1) (at-same-at .same-at .ensures) _ refl (and-yes (c .if1 .taken))
+
+returns-2 : tie.Need-returns-2
+returns-2 c =
+    let at-same-at : tie.After-same-at = search in
+    let start : tie.Start = search in
+    put-over (start .pre .1) (at-same-at .same-at .ensures) _ refl (and-no _ (c .if1 .left))
+
 pub put-spec : {M : Type 1} → statement M
 put-spec =
     tie.close
@@ -15,7 +27,7 @@ put-spec =
     (λ c. search needs)
     (λ c. search needs)
     (λ c. search needs)
-    (λ c. put-over (c .before .before .before .before .pre .1) (c .before .same-at .ensures) _ refl (and-yes (c .if1 .taken)))
+    returns
     (λ c. search needs)
     (λ c. search needs)
-    (λ c. put-over (c .before .before .before .before .pre .1) (c .before .same-at .ensures) _ refl (and-no _ (c .if1 .left))))
+    returns-2)

@@ -13,10 +13,29 @@ abbrev μ-loop : tie.MeasureT-loop
 μ-loop sig₀ old seq t₀ i₀ sig t i = length seq - i
 
 put-requires : tie.Need-put-requires Inv-loop μ-loop
-put-requires c κs = (omega (arith, c .before .before .before .loop .inv .len, c .before .before .before .before .before .before .pre .0), omega (arith, bytes-at (c .before .before .before .loop .inv), c .before .before .before .loop .inv .len, c .before .before .before .before .before .before .pre .1))
+put-requires c κs = (
+  omega (arith, at-loop .loop .inv .len, start .pre .0),
+  omega (arith, bytes-at (at-loop .loop .inv), at-loop .loop .inv .len, start .pre .1),
+)
+  where
+    at-loop : tie.At-loop Inv-loop μ-loop
+    at-loop = search
+
+    start : tie.Start Inv-loop μ-loop
+    start = let c = at-loop in search
 
 loop-again : tie.Need-loop-again Inv-loop μ-loop
-loop-again c = bytes-more (c .before .before .before .before .before .before .loop .inv) (c .before .before .before .before .before .loop-test .taken) (c .before .before .put .ensures) (c .before .before .put .kept .0)
+loop-again c =
+    let at-put : tie.After-put Inv-loop μ-loop = search in
+    let at-loop-test : tie.In-loop Inv-loop μ-loop = search in
+    let at-loop : tie.At-loop Inv-loop μ-loop = search in
+    bytes-more (at-loop .loop .inv) (at-loop-test .loop-test .taken) (at-put .put .ensures) (at-put .put .kept .0)
+
+cast-put : tie.Need-cast-put Inv-loop μ-loop
+cast-put c = omega (arith, c .shared-slice-known2 .given (at-loop .loop .i))
+  where
+    at-loop : tie.At-loop Inv-loop μ-loop
+    at-loop = search
 
 pub put-bytes-spec : {M : Type 1} → statement M
 put-bytes-spec =
@@ -26,10 +45,10 @@ put-bytes-spec =
     μ-loop
     (λ c. bytes-start)
     (λ c. omega arith)
-    (λ c. omega (arith, c .shared-slice-known2 .given (c .before .before .before .loop .i)))
+    cast-put
     put-requires
     (λ c. omega arith)
     (λ c. omega arith)
     loop-again
-    (λ c. c .before .loop .inv .len)
-    (λ c. bytes-end (c .before .loop .inv) (c .loop-test .left)))
+    (λ c. let at-loop : tie.At-loop Inv-loop μ-loop = search in at-loop .loop .inv .len)
+    (λ c. let at-loop : tie.At-loop Inv-loop μ-loop = search in bytes-end (at-loop .loop .inv) (c .loop-test .left)))

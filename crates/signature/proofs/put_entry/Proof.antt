@@ -8,7 +8,32 @@ use Rattle.signature.proofs.put_entry.Statement.{statement}
 use Rattle.signature.proofs.put_entry.Tie as tie
 
 returns : tie.Need-returns
-returns c = entered (c .before .before .before .before .before .before .before .before .before .before .before .before .before .before .pre) (c .before .before .before .before .before .before .before .before .before .before .vertex-start .ensures) (c .before .before .before .before .before .before .before .before .before .vertex-len .ensures) (c .before .before .before .before .before .before .before .put .ensures) (part-sub (c .before .before .before .before .before .before .before .before .before .before .before .before .before .before .args .p .now) (c .before .before .before .before .before .before .before .before .before .before .vertex-start .result) (c .before .before .before .before .before .before .before .before .before .vertex-len .result) (c .before .before .put-bytes .ensures))
+returns c =
+    let at-put-bytes : tie.After-put-bytes = search in
+    let at-put : tie.After-put = search in
+    let at-vertex-len : tie.After-vertex-len = search in
+    let at-vertex-start : tie.After-vertex-start = search in
+    let start : tie.Start = search in
+    entered
+    (start .pre)
+    (at-vertex-start .vertex-start .ensures)
+    (at-vertex-len .vertex-len .ensures)
+    (at-put .put .ensures)
+    (part-sub (start .args .p .now) (at-vertex-start .vertex-start .result) (at-vertex-len .vertex-len .result)
+    (at-put-bytes .put-bytes .ensures))
+
+cast-put : tie.Need-cast-put
+cast-put c =
+    omega (arith, at-vertex-len .vertex-len .ensures, at-ssk .shared-slice-known .given (2 * start .args .v + 1))
+  where
+    at-vertex-len : tie.After-vertex-len
+    at-vertex-len = search
+
+    at-ssk : tie.After-shared-slice-known
+    at-ssk = let c = at-vertex-len in search
+
+    start : tie.Start
+    start = let c = at-ssk in search
 
 pub put-entry-spec : {M : Type 1} → statement M
 put-entry-spec =
@@ -16,7 +41,7 @@ put-entry-spec =
     (tie.spec
     (λ c κs. search needs)
     (λ c κs. search needs)
-    (λ c. omega (arith, c .before .vertex-len .ensures, c .before .before .before .before .shared-slice-known .given (2 * c .before .before .before .before .before .before .args .v + 1)))
+    cast-put
     (λ c κs. search needs)
     (λ c. search needs)
     (λ c. search needs)

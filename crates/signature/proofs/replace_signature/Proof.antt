@@ -15,25 +15,131 @@ abbrev μ-loop : tie.MeasureT-loop
 μ-loop sig₀ old vs p s₀ n v₀ sig s v = n - v
 
 put-requires-2 : tie.Need-put-requires-2 Inv-loop μ-loop
-put-requires-2 c κs = (omega (arith, c .before .before .before .before .before .before .before .before .before .before .pre .old-room, c .before .before .before .before .put .kept), omega (arith, c .before .before .before .before .before .before .before .before .before .before .pre .room, c .before .before .before .before .put .kept, c .before .before .before .before .put .ensures .over .at))
+put-requires-2 c κs = (
+  omega (arith, start .pre .old-room, at-put .put .kept),
+  omega (arith, start .pre .room, at-put .put .kept, at-put .put .ensures .over .at),
+)
+  where
+    at-put : tie.After-put Inv-loop μ-loop
+    at-put = search
+
+    start : tie.Start Inv-loop μ-loop
+    start = let c = at-put in search
 
 put-entry-requires : tie.Need-put-entry-requires Inv-loop μ-loop
-put-entry-requires c κs = record { old-room = omega (arith, c .before .before .before .before .before .before .before .before .before .before .before .before .before .before .before .before .pre .old-room, c .before .before .before .before .before .before .before .before .before .before .put .kept, c .before .before .before .before .before .put2 .kept, c .before .before .loop .inv .len); vs-room = omega (arith, c .before .before .before .before .before .before .before .before .before .before .before .before .before .before .before .before .pre .vs-room); within = c .before .before .before .before .before .before .before .before .before .before .before .before .before .before .before .before .pre .within .at _ (c .before .loop-test .taken); room = omega (arith, c .before .before .before .before .before .before .before .before .before .before .before .before .before .before .before .before .pre .room, c .before .before .before .before .before .before .before .before .before .before .put .kept, c .before .before .before .before .before .put2 .kept, c .before .before .loop .inv .len, c .before .before .loop .inv .at, c .before .before .before .before .before .before .before .before .before .before .put .ensures .over .at, c .before .before .before .before .before .put2 .ensures .over .at, sum-below _ _ (λ u. getD (c .before .before .before .before .before .before .before .before .before .before .before .before .before .before .before .before .args .vs .now) (2 * u + 1) 0) (c .before .loop-test .taken)) }
+put-entry-requires c κs =
+    record {
+      old-room = omega (arith, start .pre .old-room, at-put .put .kept, at-put2 .put2 .kept, at-loop .loop .inv .len);
+      vs-room = omega (arith, start .pre .vs-room);
+      within = start .pre .within .at _ (at-loop-test .loop-test .taken);
+      room = omega (
+        arith,
+        start .pre .room,
+        at-put .put .kept,
+        at-put2 .put2 .kept,
+        at-loop .loop .inv .len,
+        at-loop .loop .inv .at,
+        at-put .put .ensures .over .at,
+        at-put2 .put2 .ensures .over .at,
+        sum-below _ _ (λ u. getD (start .args .vs .now) (2 * u + 1) 0) (at-loop-test .loop-test .taken),
+      );
+    }
+  where
+    at-loop-test : tie.In-loop Inv-loop μ-loop
+    at-loop-test = search
+
+    at-loop : tie.At-loop Inv-loop μ-loop
+    at-loop = let c = at-loop-test in search
+
+    at-put2 : tie.After-put2 Inv-loop μ-loop
+    at-put2 = let c = at-loop in search
+
+    at-put : tie.After-put Inv-loop μ-loop
+    at-put = let c = at-put2 in search
+
+    start : tie.Start Inv-loop μ-loop
+    start = let c = at-put in search
 
 loop-again : tie.Need-loop-again Inv-loop μ-loop
-loop-again c = entries-step (c .before .before .before .before .before .loop .inv) (c .before .before .before .before .loop-test .taken) (c .before .before .put-entry .ensures) (c .before .before .put-entry .kept .0)
+loop-again c =
+    let at-put-entry : tie.After-put-entry Inv-loop μ-loop = search in
+    let at-loop-test : tie.In-loop Inv-loop μ-loop = search in
+    let at-loop : tie.At-loop Inv-loop μ-loop = search in
+    entries-step
+    (at-loop .loop .inv)
+    (at-loop-test .loop-test .taken)
+    (at-put-entry .put-entry .ensures)
+    (at-put-entry .put-entry .kept .0)
 
 same-length : tie.Need-same-length Inv-loop μ-loop
-same-length c = c .before .before .loop .inv .len ∙ c .before .before .before .before .before .put2 .kept .0 ∙ c .before .before .before .before .before .before .before .before .before .before .put .kept .0
+same-length c =
+    let at-loop : tie.At-loop Inv-loop μ-loop = search in
+    let at-put2 : tie.After-put2 Inv-loop μ-loop = search in
+    let at-put : tie.After-put Inv-loop μ-loop = search in
+    at-loop .loop .inv .len ∙ at-put2 .put2 .kept .0 ∙ at-put .put .kept .0
 
 returns : tie.Need-returns Inv-loop μ-loop
-returns c = signed-other (c .before .before .before .before .before .before .before .before .before .before .put .ensures) (c .before .before .before .before .before .put2 .ensures) (c .before .before .loop .inv) (c .before .loop-test .left) (c .before .before .before .before .before .before .before .before .before .before .before .before .before .before .before .before .pre) (c .if1 .taken)
+returns c =
+    signed-other
+    (at-put .put .ensures)
+    (at-put2 .put2 .ensures)
+    (at-loop .loop .inv)
+    (at-loop-test .loop-test .left)
+    (start .pre)
+    (c .if1 .taken)
+  where
+    at-loop-test : tie.After-loop Inv-loop μ-loop
+    at-loop-test = search
+
+    at-loop : tie.At-loop Inv-loop μ-loop
+    at-loop = let c = at-loop-test in search
+
+    at-put2 : tie.After-put2 Inv-loop μ-loop
+    at-put2 = let c = at-loop in search
+
+    at-put : tie.After-put Inv-loop μ-loop
+    at-put = let c = at-put2 in search
+
+    start : tie.Start Inv-loop μ-loop
+    start = let c = at-put in search
 
 same-length-2 : tie.Need-same-length-2 Inv-loop μ-loop
-same-length-2 c = c .before .before .loop .inv .len ∙ c .before .before .before .before .before .put2 .kept .0 ∙ c .before .before .before .before .before .before .before .before .before .before .put .kept .0
+same-length-2 c =
+    let at-loop : tie.At-loop Inv-loop μ-loop = search in
+    let at-put2 : tie.After-put2 Inv-loop μ-loop = search in
+    let at-put : tie.After-put Inv-loop μ-loop = search in
+    at-loop .loop .inv .len ∙ at-put2 .put2 .kept .0 ∙ at-put .put .kept .0
 
 returns-2 : tie.Need-returns-2 Inv-loop μ-loop
-returns-2 c = signed-same (c .before .before .before .before .before .before .before .before .before .before .put .ensures) (c .before .before .before .before .before .put2 .ensures) (c .before .before .loop .inv) (c .before .loop-test .left) (c .before .before .before .before .before .before .before .before .before .before .before .before .before .before .before .before .pre) (c .if1 .left)
+returns-2 c =
+    signed-same
+    (at-put .put .ensures)
+    (at-put2 .put2 .ensures)
+    (at-loop .loop .inv)
+    (at-loop-test .loop-test .left)
+    (start .pre)
+    (c .if1 .left)
+  where
+    at-loop-test : tie.After-loop Inv-loop μ-loop
+    at-loop-test = search
+
+    at-loop : tie.At-loop Inv-loop μ-loop
+    at-loop = let c = at-loop-test in search
+
+    at-put2 : tie.After-put2 Inv-loop μ-loop
+    at-put2 = let c = at-loop in search
+
+    at-put : tie.After-put Inv-loop μ-loop
+    at-put = let c = at-put2 in search
+
+    start : tie.Start Inv-loop μ-loop
+    start = let c = at-put in search
+
+cast-put-entry : tie.Need-cast-put-entry Inv-loop μ-loop
+cast-put-entry c = omega (arith, start .pre .small-n)
+  where
+    start : tie.Start Inv-loop μ-loop
+    start = let c : tie.After-put Inv-loop μ-loop = search in search
 
 pub replace-signature-spec : {M : Type 1} → statement M
 replace-signature-spec =
@@ -41,12 +147,12 @@ replace-signature-spec =
     (tie.spec
     Inv-loop
     μ-loop
-    (λ c. omega (arith, c .before .before .before .before .before .pre .small-n))
-    (λ c κs. (c .before .before .before .before .before .pre .old-room, omega (arith, c .before .before .before .before .before .pre .room)))
-    (λ c. omega (arith, c .before .before .before .before .before .before .before .before .before .before .pre .small-m))
+    (λ c. let start : tie.Start Inv-loop μ-loop = search in omega (arith, start .pre .small-n))
+    (λ c κs. let start : tie.Start Inv-loop μ-loop = search in (start .pre .old-room, omega (arith, start .pre .room)))
+    (λ c. let start : tie.Start Inv-loop μ-loop = search in omega (arith, start .pre .small-m))
     put-requires-2
     (λ c. entries-start)
-    (λ c. omega (arith, c .before .before .before .before .before .before .before .before .before .before .before .before .before .before .before .before .pre .small-n))
+    cast-put-entry
     put-entry-requires
     (λ c. omega arith)
     (λ c. omega arith)

@@ -11,6 +11,34 @@ Inv-loop p from n out₀ to i₀ out i = Pasting p from n out₀ to out i
 abbrev μ-loop : tie.MeasureT-loop
 μ-loop p from n out₀ to i₀ out i = n - i
 
+slice-write-out : tie.Need-slice-write-out Inv-loop μ-loop
+slice-write-out c = omega (arith, start .pre .to-room, pasting-long (start .pre) (at-loop .loop .inv))
+  where
+    at-loop : tie.At-loop Inv-loop μ-loop
+    at-loop = search
+
+    start : tie.Start Inv-loop μ-loop
+    start = let c = at-loop in search
+
+loop-again : tie.Need-loop-again Inv-loop μ-loop
+loop-again c =
+    let at-loop-test : tie.In-loop Inv-loop μ-loop = search in
+    let at-loop : tie.At-loop Inv-loop μ-loop = search in
+    let start : tie.Start Inv-loop μ-loop = search in
+    pasting-more (start .pre) (at-loop .loop .inv) (at-loop-test .loop-test .taken)
+
+same-length : tie.Need-same-length Inv-loop μ-loop
+same-length c =
+    let at-loop : tie.At-loop Inv-loop μ-loop = search in
+    let start : tie.Start Inv-loop μ-loop = search in
+    pasting-long (start .pre) (at-loop .loop .inv)
+
+returns : tie.Need-returns Inv-loop μ-loop
+returns c =
+    let at-loop : tie.At-loop Inv-loop μ-loop = search in
+    let start : tie.Start Inv-loop μ-loop = search in
+    pasting-end (start .pre) (at-loop .loop .inv) (c .loop-test .left)
+
 pub copy-to-spec : {M : Type 1} → statement M
 copy-to-spec =
     tie.close
@@ -18,12 +46,12 @@ copy-to-spec =
     Inv-loop
     μ-loop
     (λ c. pasting-start)
-    (λ c. omega (arith, c .before .before .pre .from-room))
-    (λ c. omega (arith, c .before .before .before .pre .from-room))
-    (λ c. omega (arith, c .before .before .before .pre .to-room))
-    (λ c. omega (arith, c .before .before .before .pre .to-room, pasting-long (c .before .before .before .pre) (c .before .before .loop .inv)))
+    (λ c. let start : tie.Start Inv-loop μ-loop = search in omega (arith, start .pre .from-room))
+    (λ c. let start : tie.Start Inv-loop μ-loop = search in omega (arith, start .pre .from-room))
+    (λ c. let start : tie.Start Inv-loop μ-loop = search in omega (arith, start .pre .to-room))
+    slice-write-out
     (λ c. omega arith)
     (λ c. omega arith)
-    (λ c. pasting-more (c .before .before .before .pre) (c .before .before .loop .inv) (c .before .loop-test .taken))
-    (λ c. pasting-long (c .before .before .pre) (c .before .loop .inv))
-    (λ c. pasting-end (c .before .before .pre) (c .before .loop .inv) (c .loop-test .left)))
+    loop-again
+    same-length
+    returns)

@@ -5,6 +5,13 @@ use borrow.Author.Needs.{needs}
 use Rattle.spell.proofs.put_sequence.Statement.{statement}
 use Rattle.spell.proofs.put_sequence.Tie as tie
 
+returns : tie.Need-returns
+returns c =
+    let at-copy-to : tie.After-copy-to = search in
+    let at-vertex-len : tie.After-vertex-len = search in
+    let at-vertex-start : tie.After-vertex-start = search in
+    put-is (at-vertex-start .vertex-start .ensures) (at-vertex-len .vertex-len .ensures) (at-copy-to .copy-to .ensures)
+
 pub put-sequence-spec : {M : Type 1} → statement M
 put-sequence-spec =
     tie.close
@@ -14,4 +21,4 @@ put-sequence-spec =
     (λ c κs. search needs)
     (λ c. search needs)
     (λ c. search needs)
-    (λ c. put-is (c .before .before .before .before .before .vertex-start .ensures) (c .before .before .before .before .vertex-len .ensures) (c .before .before .copy-to .ensures)))
+    returns)

@@ -6,13 +6,28 @@ use Rattle.spell.proofs.spell.Statement.{statement}
 use Rattle.spell.proofs.spell.Tie as tie
 
 returns-2 : tie.Need-returns-2
-returns-2 c = written-whole (c .before .before .before .before .if1 .left) (listed-long (c .before .before .before .before .before .before .before .before .before .before .pre) (c .before .before .before .before .before .spelled-len .ensures)) (c .before .before .write-spelled .ensures)
+returns-2 c =
+    let at-write-spelled : tie.After-write-spelled = search in
+    let at-if1 : tie.Else1 = search in
+    let at-spelled-len : tie.After-spelled-len = search in
+    let start : tie.Start = search in
+    written-whole
+    (at-if1 .if1 .left)
+    (listed-long (start .pre) (at-spelled-len .spelled-len .ensures))
+    (at-write-spelled .write-spelled .ensures)
+
+returns : tie.Need-returns
+returns c =
+    let at-spelled-len : tie.After-spelled-len = search in
+    let start : tie.Start = search in
+    too-long _ (start .pre) (at-spelled-len .spelled-len .ensures) (c .if1 .taken)
 
 pub spell-spec : {M : Type 1} → statement M
 spell-spec =
-    tie.close (tie.spec
+    tie.close
+    (tie.spec
     (λ c κs. search needs)
-    (λ c. too-long _ (c .before .before .before .before .before .before .pre) (c .before .spelled-len .ensures) (c .if1 .taken))
+    returns
     (λ c κs. search needs)
     (λ c. search needs)
     returns-2)

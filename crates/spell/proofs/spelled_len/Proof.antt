@@ -12,7 +12,31 @@ abbrev μ-loop : tie.MeasureT-loop
 μ-loop vs p nodes c len₀ i₀ len i = c - i
 
 add-len : tie.Need-add-len Inv-loop μ-loop
-add-len c = omega (arith, adding-small (c .before .before .before .before .before .before .before .pre) (c .before .before .before .loop .inv) (c .before .before .loop-test .taken) (c .vertex-len .ensures))
+add-len c =
+    omega
+    (arith, adding-small (start .pre) (at-loop .loop .inv) (at-loop-test .loop-test .taken) (c .vertex-len .ensures))
+  where
+    at-loop-test : tie.In-loop Inv-loop μ-loop
+    at-loop-test = search
+
+    at-loop : tie.At-loop Inv-loop μ-loop
+    at-loop = let c = at-loop-test in search
+
+    start : tie.Start Inv-loop μ-loop
+    start = let c = at-loop in search
+
+vertex-len-requires : tie.Need-vertex-len-requires Inv-loop μ-loop
+vertex-len-requires c κs =
+    let at-loop-test : tie.In-loop Inv-loop μ-loop = search in
+    let start : tie.Start Inv-loop μ-loop = search in
+    start .pre .vs-room _ (at-loop-test .loop-test .taken)
+
+loop-again : tie.Need-loop-again Inv-loop μ-loop
+loop-again c =
+    let at-loop-test : tie.In-loop Inv-loop μ-loop = search in
+    let at-loop : tie.At-loop Inv-loop μ-loop = search in
+    let start : tie.Start Inv-loop μ-loop = search in
+    adding-more (start .pre) (at-loop .loop .inv) (at-loop-test .loop-test .taken) (c .vertex-len .ensures)
 
 pub spelled-len-spec : {M : Type 1} → statement M
 spelled-len-spec =
@@ -21,11 +45,11 @@ spelled-len-spec =
     Inv-loop
     μ-loop
     (λ c. adding-start _ _ _)
-    (λ c. omega (arith, c .before .before .before .before .before .pre .nodes-room))
-    (λ c. omega (arith, c .before .before .before .before .before .before .pre .nodes-room))
-    (λ c κs. c .before .before .before .before .before .before .pre .vs-room _ (c .before .loop-test .taken))
+    (λ c. let start : tie.Start Inv-loop μ-loop = search in omega (arith, start .pre .nodes-room))
+    (λ c. let start : tie.Start Inv-loop μ-loop = search in omega (arith, start .pre .nodes-room))
+    vertex-len-requires
     add-len
     (λ c. omega arith)
     (λ c. omega arith)
-    (λ c. adding-more (c .before .before .before .before .before .before .before .pre) (c .before .before .before .loop .inv) (c .before .before .loop-test .taken) (c .vertex-len .ensures))
-    (λ c. adding-end (c .before .loop .inv) (c .loop-test .left)))
+    loop-again
+    (λ c. let at-loop : tie.At-loop Inv-loop μ-loop = search in adding-end (at-loop .loop .inv) (c .loop-test .left)))

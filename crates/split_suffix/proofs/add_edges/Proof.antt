@@ -3,7 +3,16 @@ use native.Mathlib.Omega.{arith}
 use mathlib.Core.Path.{ap, _∙_}
 use Prim.Native.Nat.{ℕ, _-_}
 use lib.Dec.{ltb}
-use Rattle.split_suffix.proofs.EdgeLoops.{Adding, adding-start, adding-block, adding-more, adding-end, next-small, first-small, entries}
+use Rattle.split_suffix.proofs.EdgeLoops.{
+  Adding,
+  adding-start,
+  adding-block,
+  adding-more,
+  adding-end,
+  next-small,
+  first-small,
+  entries,
+}
 use Rattle.split_suffix.proofs.add_edges.Statement.{statement}
 use Rattle.split_suffix.proofs.add_edges.Tie as tie
 
@@ -14,19 +23,125 @@ abbrev μ-loop : tie.MeasureT-loop
 μ-loop es₀ m n heads nexts vs nodes c s bottom map₀ y₀ k₀ i₀ es map y k i = c - i
 
 vertex-len-requires : tie.Need-vertex-len-requires Inv-loop μ-loop
-vertex-len-requires c κs = omega (arith, c .before .before .before .before .before .before .before .before .before .before .before .before .before .pre .vs-room, c .before .before .before .before .before .before .before .before .before .before .before .before .before .pre .prevs .at _ (c .before .loop-test .taken))
+vertex-len-requires c κs = omega (arith, start .pre .vs-room, start .pre .prevs .at _ (at-loop-test .loop-test .taken))
+  where
+    at-loop-test : tie.In-loop Inv-loop μ-loop
+    at-loop-test = search
+
+    start : tie.Start Inv-loop μ-loop
+    start = let c = at-loop-test in search
 
 split-edges-requires : tie.Need-split-edges-requires Inv-loop μ-loop
-split-edges-requires c κs = adding-block (c .before .before .before .before .before .before .before .before .before .before .before .before .before .before .before .before .pre) (c .before .before .before .before .before .loop .inv) (c .before .before .before .before .loop-test .taken) (ap (λ (x : ℕ). ltb (c .before .before .before .before .before .before .before .before .before .before .before .before .before .before .before .before .args .s) x) (c .before .before .vertex-len .ensures))
+split-edges-requires c κs =
+    adding-block
+    (start .pre)
+    (at-loop .loop .inv)
+    (at-loop-test .loop-test .taken)
+    (ap (λ (x : ℕ). ltb (start .args .s) x) (at-vertex-len .vertex-len .ensures))
+  where
+    at-vertex-len : tie.After-vertex-len Inv-loop μ-loop
+    at-vertex-len = search
+
+    at-loop-test : tie.In-loop Inv-loop μ-loop
+    at-loop-test = let c = at-vertex-len in search
+
+    at-loop : tie.At-loop Inv-loop μ-loop
+    at-loop = let c = at-loop-test in search
+
+    start : tie.Start Inv-loop μ-loop
+    start = let c = at-loop in search
 
 entry-of-requires : tie.Need-entry-of-requires Inv-loop μ-loop
-entry-of-requires c κs = adding-block (c .before .before .before .before .before .before .before .before .before .before .before .before .before .before .before .before .before .before .before .before .before .pre) (c .before .before .before .before .before .before .before .before .before .before .loop .inv) (c .before .before .before .before .before .before .before .before .before .loop-test .taken) (ap (λ (x : ℕ). ltb (c .before .before .before .before .before .before .before .before .before .before .before .before .before .before .before .before .before .before .before .before .before .args .s) x) (c .before .before .before .before .before .before .before .vertex-len .ensures)) .small
+entry-of-requires c κs =
+    adding-block
+    (start .pre)
+    (at-loop .loop .inv)
+    (at-loop-test .loop-test .taken)
+    (ap (λ (x : ℕ). ltb (start .args .s) x) (at-vertex-len .vertex-len .ensures)) .small
+  where
+    at-vertex-len : tie.After-vertex-len Inv-loop μ-loop
+    at-vertex-len = search
+
+    at-loop-test : tie.In-loop Inv-loop μ-loop
+    at-loop-test = let c = at-vertex-len in search
+
+    at-loop : tie.At-loop Inv-loop μ-loop
+    at-loop = let c = at-loop-test in search
+
+    start : tie.Start Inv-loop μ-loop
+    start = let c = at-loop in search
 
 add-y : tie.Need-add-y Inv-loop μ-loop
-add-y c = omega (arith, c .entry-of .ensures, next-small (c .before .before .before .before .before .before .before .before .before .before .before .before .before .before .before .before .before .before .before .before .before .before .pre) (c .before .before .before .before .before .before .before .before .before .before .before .loop .inv) (c .before .before .before .before .before .before .before .before .before .before .loop-test .taken) (ap (λ (x : ℕ). ltb (c .before .before .before .before .before .before .before .before .before .before .before .before .before .before .before .before .before .before .before .before .before .before .args .s) x) (c .before .before .before .before .before .before .before .before .vertex-len .ensures)))
+add-y c =
+    omega (
+      arith,
+      c .entry-of .ensures,
+      next-small (start .pre) (at-loop .loop .inv) (at-loop-test .loop-test .taken)
+          (ap (λ (x : ℕ). ltb (start .args .s) x) (at-vertex-len .vertex-len .ensures)),
+    )
+  where
+    at-vertex-len : tie.After-vertex-len Inv-loop μ-loop
+    at-vertex-len = search
+
+    at-loop-test : tie.In-loop Inv-loop μ-loop
+    at-loop-test = let c = at-vertex-len in search
+
+    at-loop : tie.At-loop Inv-loop μ-loop
+    at-loop = let c = at-loop-test in search
+
+    start : tie.Start Inv-loop μ-loop
+    start = let c = at-loop in search
 
 loop-again : tie.Need-loop-again Inv-loop μ-loop
-loop-again c = entries (c .entry-of .ensures) (adding-more (c .before .before .before .before .before .before .before .before .before .before .before .before .before .before .before .before .before .before .before .before .before .before .pre) (c .before .before .before .before .before .before .before .before .before .before .before .loop .inv) (c .before .before .before .before .before .before .before .before .before .before .loop-test .taken) (ap (λ (x : ℕ). ltb (c .before .before .before .before .before .before .before .before .before .before .before .before .before .before .before .before .before .before .before .before .before .before .args .s) x) (c .before .before .before .before .before .before .before .before .vertex-len .ensures)) (c .before .before .before .before .before .split-edges .ensures) (c .before .before .before .before .before .split-edges .kept .0) (c .before .before .before .before .before .split-edges .kept .1 .1 .1 .1 .1 .1 .1 .1 .1 .1 .0))
+loop-again c =
+    entries
+    (c .entry-of .ensures)
+    (adding-more (start .pre) (at-loop .loop .inv) (at-loop-test .loop-test .taken)
+    (ap (λ (x : ℕ). ltb (start .args .s) x) (at-vertex-len .vertex-len .ensures))
+    (at-split-edges .split-edges .ensures) (at-split-edges .split-edges .kept .0)
+    (at-split-edges .split-edges .kept .1 .1 .1 .1 .1 .1 .1 .1 .1 .1 .0))
+  where
+    at-split-edges : tie.After-split-edges Inv-loop μ-loop
+    at-split-edges = search
+
+    at-vertex-len : tie.After-vertex-len Inv-loop μ-loop
+    at-vertex-len = let c = at-split-edges in search
+
+    at-loop-test : tie.In-loop Inv-loop μ-loop
+    at-loop-test = let c = at-vertex-len in search
+
+    at-loop : tie.At-loop Inv-loop μ-loop
+    at-loop = let c = at-loop-test in search
+
+    start : tie.Start Inv-loop μ-loop
+    start = let c = at-loop in search
+
+loop-holds : tie.Need-loop-holds Inv-loop μ-loop
+loop-holds c =
+    let at-fill : tie.After-fill Inv-loop μ-loop = search in
+    let start : tie.Start Inv-loop μ-loop = search in
+    adding-start (start .pre) (at-fill .fill .kept .0) (at-fill .fill .ensures)
+
+shared-slice-read-v : tie.Need-shared-slice-read-v Inv-loop μ-loop
+shared-slice-read-v c = omega (arith, start .pre .prevs .room)
+  where
+    start : tie.Start Inv-loop μ-loop
+    start = let c : tie.After-slice-known Inv-loop μ-loop = search in search
+
+same-length-2 : tie.Need-same-length-2 Inv-loop μ-loop
+same-length-2 c =
+    let at-loop : tie.At-loop Inv-loop μ-loop = search in
+    let at-fill : tie.After-fill Inv-loop μ-loop = search in
+    at-loop .loop .inv .mp-len ∙ at-fill .fill .kept .0
+
+returns : tie.Need-returns Inv-loop μ-loop
+returns c = adding-end (start .pre) (at-loop .loop .inv) (c .loop-test .left)
+  where
+    at-loop : tie.At-loop Inv-loop μ-loop
+    at-loop = search
+
+    start : tie.Start Inv-loop μ-loop
+    start = let c = at-loop in search
 
 pub add-edges-spec : {M : Type 1} → statement M
 add-edges-spec =
@@ -34,11 +149,11 @@ add-edges-spec =
     (tie.spec
     Inv-loop
     μ-loop
-    (λ c κs. c .before .before .before .before .before .before .before .pre .mp-room)
-    (λ c. omega (arith, first-small (c .before .before .before .before .before .before .before .before .before .before .pre)))
-    (λ c. adding-start (c .before .before .before .before .before .before .before .before .before .before .pre) (c .before .before .fill .kept .0) (c .before .before .fill .ensures))
-    (λ c. omega (arith, c .before .before .before .before .before .before .before .before .before .before .before .before .pre .prevs .room))
-    (λ c. omega (arith, c .before .before .before .before .before .before .before .before .before .before .before .before .before .pre .prevs .room))
+    (λ c κs. let start : tie.Start Inv-loop μ-loop = search in start .pre .mp-room)
+    (λ c. let start : tie.Start Inv-loop μ-loop = search in omega (arith, first-small (start .pre)))
+    loop-holds
+    (λ c. let start : tie.Start Inv-loop μ-loop = search in omega (arith, start .pre .prevs .room))
+    shared-slice-read-v
     vertex-len-requires
     split-edges-requires
     entry-of-requires
@@ -46,6 +161,6 @@ add-edges-spec =
     (λ c. omega arith)
     (λ c. omega arith)
     loop-again
-    (λ c. c .before .loop .inv .len)
-    (λ c. c .before .loop .inv .mp-len ∙ c .before .before .before .before .fill .kept .0)
-    (λ c. adding-end (c .before .before .before .before .before .before .before .before .before .before .before .before .pre) (c .before .loop .inv) (c .loop-test .left)))
+    (λ c. let at-loop : tie.At-loop Inv-loop μ-loop = search in at-loop .loop .inv .len)
+    same-length-2
+    returns)

@@ -6,20 +6,41 @@ use Rattle.split_suffix.proofs.link_suffix.Statement.{statement}
 use Rattle.split_suffix.proofs.link_suffix.Tie as tie
 
 returns : tie.Need-returns
-returns c = links-two (c .before .before .before .before .before .before .before .before .before .before .pre) (c .before .before .before .before .before .before .before .before .if1 .taken) (c .before .before .before .before .before .before .put-edge .ensures) (c .before .before .put-edge2 .ensures)
+returns c =
+    let at-put-edge2 : tie.After-put-edge2 = search in
+    let at-put-edge : tie.After-put-edge = search in
+    let at-if1 : tie.Then1 = search in
+    let start : tie.Start = search in
+    links-two (start .pre) (at-if1 .if1 .taken) (at-put-edge .put-edge .ensures) (at-put-edge2 .put-edge2 .ensures)
+
+put-edge-requires-2 : tie.Need-put-edge-requires-2
+put-edge-requires-2 c κs = omega (arith, start .pre .room, at-put-edge .put-edge .kept .0)
+  where
+    at-put-edge : tie.After-put-edge
+    at-put-edge = search
+
+    start : tie.Start
+    start = let c = at-put-edge in search
+
+returns-2 : tie.Need-returns-2
+returns-2 c =
+    let at-put-edge3 : tie.After-put-edge3 = search in
+    let at-if1 : tie.Else1 = search in
+    let start : tie.Start = search in
+    links-one (start .pre) (at-if1 .if1 .left) (at-put-edge3 .put-edge3 .ensures)
 
 pub link-suffix-spec : {M : Type 1} → statement M
 link-suffix-spec =
     tie.close
     (tie.spec
-    (λ c. omega (arith, c .before .before .before .pre .small))
-    (λ c κs. omega (arith, c .before .before .before .pre .room))
-    (λ c. omega (arith, c .before .before .before .before .before .before .before .pre .room))
-    (λ c κs. omega (arith, c .before .before .before .before .before .before .before .pre .room, c .before .before .before .put-edge .kept .0))
-    (λ c. omega (arith, c .before .before .before .before .before .before .before .before .before .before .pre .room))
+    (λ c. let start : tie.Start = search in omega (arith, start .pre .small))
+    (λ c κs. let start : tie.Start = search in omega (arith, start .pre .room))
+    (λ c. let start : tie.Start = search in omega (arith, start .pre .room))
+    put-edge-requires-2
+    (λ c. let start : tie.Start = search in omega (arith, start .pre .room))
     (λ c. search needs)
     returns
-    (λ c κs. omega (arith, c .before .before .before .pre .room))
-    (λ c. omega (arith, c .before .before .before .before .before .before .pre .room))
+    (λ c κs. let start : tie.Start = search in omega (arith, start .pre .room))
+    (λ c. let start : tie.Start = search in omega (arith, start .pre .room))
     (λ c. search needs)
-    (λ c. links-one (c .before .before .before .before .before .before .pre) (c .before .before .before .before .if1 .left) (c .before .before .put-edge3 .ensures)))
+    returns-2)

@@ -2,43 +2,245 @@
 use native.Mathlib.Omega.{arith}
 use Rattle.memory.proofs.RoomLaws.{held-vertices}
 use Rattle.merge_suffices.proofs.TryLaws.{collect-room}
-use Rattle.split_suffix.proofs.SplitLaws.{split-testable, left-not, split-ending, first-room, split-edges-ready, split-verts-ready, split-compactable, split-below, left-done}
+use Rattle.split_suffix.proofs.SplitLaws.{
+  split-testable,
+  left-not,
+  split-ending,
+  first-room,
+  split-edges-ready,
+  split-verts-ready,
+  split-compactable,
+  split-below,
+  left-done,
+}
 use borrow.Author.Needs.{needs}
 use Rattle.split_suffix.proofs.try_split_common_suffix.Statement.{statement}
 use Rattle.split_suffix.proofs.try_split_common_suffix.Tie as tie
 
 collect-requires : tie.Need-collect-requires
-collect-requires c κs = (c .before .before .before .before .before .before .before .before .before .pre .1 .1 .1, (omega arith, (collect-room (c .before .before .before .before .before .before .before .before .before .pre .0) (c .before .before .before .before .before .before .before .before .before .pre .1 .0), c .before .before .before .before .before .before .before .before .before .pre .1 .1 .0)))
+collect-requires c κs =
+    (start .pre .1 .1 .1, (omega arith, (collect-room (start .pre .0) (start .pre .1 .0), start .pre .1 .1 .0)))
+  where
+    start : tie.Start
+    start = search
 
 safe-to-split-requires : tie.Need-safe-to-split-requires
-safe-to-split-requires c κs = split-testable (c .before .before .before .before .before .before .before .before .before .before .before .before .before .before .before .pre .0) (c .before .before .before .before .before .before .before .before .before .before .before .before .before .before .before .pre .1 .0) (c .before .before .before .before .before .before .before .before .before .before .before .before .before .before .before .pre .1 .1 .0) (c .before .before .before .before .before .collect .ensures) (c .before .before .before .before .before .collect .kept .1 .1 .1 .1 .1 .1 .1 .0)
+safe-to-split-requires c κs =
+    split-testable
+    (start .pre .0)
+    (start .pre .1 .0)
+    (start .pre .1 .1 .0)
+    (at-collect .collect .ensures)
+    (at-collect .collect .kept .1 .1 .1 .1 .1 .1 .1 .0)
+  where
+    at-collect : tie.After-collect
+    at-collect = search
+
+    start : tie.Start
+    start = let c = at-collect in search
 
 returns : tie.Need-returns
-returns c = left-not (c .before .before .before .before .before .before .before .before .before .before .before .before .before .before .before .before .before .pre .0) (c .before .before .before .before .before .before .before .before .before .before .before .before .before .before .before .before .before .pre .1 .0) (c .before .before .before .before .before .before .before .before .before .before .before .before .before .before .before .before .before .pre .1 .1 .0) (c .before .before .before .before .before .before .before .collect .ensures) (c .before .before .before .before .before .before .before .collect .kept .1 .1 .1 .1 .1 .1 .1 .0) (c .before .safe-to-split .ensures) (c .if1 .taken)
+returns c =
+    left-not
+    (start .pre .0)
+    (start .pre .1 .0)
+    (start .pre .1 .1 .0)
+    (at-collect .collect .ensures)
+    (at-collect .collect .kept .1 .1 .1 .1 .1 .1 .1 .0)
+    (at-safe-to-split .safe-to-split .ensures)
+    (c .if1 .taken)
+  where
+    at-safe-to-split : tie.After-safe-to-split
+    at-safe-to-split = search
+
+    at-collect : tie.After-collect
+    at-collect = let c = at-safe-to-split in search
+
+    start : tie.Start
+    start = let c = at-collect in search
 
 slice-read-suffix-start : tie.Need-slice-read-suffix-start
-slice-read-suffix-start c = first-room (c .before .before .before .before .before .before .before .before .before .before .before .before .before .before .before .before .before .before .before .pre .0) (c .before .before .before .before .before .before .before .before .before .before .before .before .before .before .before .before .before .before .before .pre .1 .0) (c .before .before .before .before .before .before .before .before .before .before .before .before .before .before .before .before .before .before .before .pre .1 .1 .0) (c .before .before .before .before .before .before .before .before .before .collect .ensures) (c .before .before .before .before .before .before .before .before .before .collect .kept .1 .1 .1 .1 .1 .1 .1 .0) (c .before .before .before .safe-to-split .ensures) (c .before .before .if1 .left)
+slice-read-suffix-start c =
+    first-room
+    (start .pre .0)
+    (start .pre .1 .0)
+    (start .pre .1 .1 .0)
+    (at-collect .collect .ensures)
+    (at-collect .collect .kept .1 .1 .1 .1 .1 .1 .1 .0)
+    (at-safe-to-split .safe-to-split .ensures)
+    (at-if1 .if1 .left)
+  where
+    at-if1 : tie.Else1
+    at-if1 = search
+
+    at-safe-to-split : tie.After-safe-to-split
+    at-safe-to-split = let c = at-if1 in search
+
+    at-collect : tie.After-collect
+    at-collect = let c = at-safe-to-split in search
+
+    start : tie.Start
+    start = let c = at-collect in search
 
 suffix-start-requires : tie.Need-suffix-start-requires
-suffix-start-requires c κs = split-ending (c .before .before .before .before .before .before .before .before .before .before .before .before .before .before .before .before .before .before .before .pre .0) (c .before .before .before .before .before .before .before .before .before .before .before .before .before .before .before .before .before .before .before .pre .1 .0) (c .before .before .before .before .before .before .before .before .before .before .before .before .before .before .before .before .before .before .before .pre .1 .1 .0) (c .before .before .before .before .before .before .before .before .before .collect .ensures) (c .before .before .before .before .before .before .before .before .before .collect .kept .1 .1 .1 .1 .1 .1 .1 .0) (c .before .before .before .safe-to-split .ensures) (c .before .before .if1 .left)
+suffix-start-requires c κs =
+    split-ending
+    (start .pre .0)
+    (start .pre .1 .0)
+    (start .pre .1 .1 .0)
+    (at-collect .collect .ensures)
+    (at-collect .collect .kept .1 .1 .1 .1 .1 .1 .1 .0)
+    (at-safe-to-split .safe-to-split .ensures)
+    (at-if1 .if1 .left)
+  where
+    at-if1 : tie.Else1
+    at-if1 = search
+
+    at-safe-to-split : tie.After-safe-to-split
+    at-safe-to-split = let c = at-if1 in search
+
+    at-collect : tie.After-collect
+    at-collect = let c = at-safe-to-split in search
+
+    start : tie.Start
+    start = let c = at-collect in search
 
 cast-add-edges : tie.Need-cast-add-edges
-cast-add-edges c = omega (arith, held-vertices (c .before .before .before .before .before .before .before .before .before .before .before .before .before .before .before .before .before .before .before .before .before .before .before .pre .1 .0), c .before .before .before .before .before .before .before .before .before .before .before .before .before .before .before .before .before .before .before .before .before .before .before .pre .1 .1 .1, c .before .before .before .before .before .before .before .before .before .before .before .before .before .before .before .before .before .before .before .before .before .before .before .pre .0 .small, c .before .before .before .before .before .before .before .before .before .before .before .before .before .before .before .before .before .before .before .before .before .before .before .pre .0 .vertices-edges)
+cast-add-edges c =
+    omega
+    (arith, held-vertices (start .pre .1 .0), start .pre .1 .1 .1, start .pre .0 .small, start .pre .0 .vertices-edges)
+  where
+    start : tie.Start
+    start = let c : tie.After-nodes = search in search
 
 add-edges-requires : tie.Need-add-edges-requires
-add-edges-requires c κs = split-edges-ready (c .before .before .before .before .before .before .before .before .before .before .before .before .before .before .before .before .before .before .before .before .before .before .before .before .pre .0) (c .before .before .before .before .before .before .before .before .before .before .before .before .before .before .before .before .before .before .before .before .before .before .before .before .pre .1 .0) (c .before .before .before .before .before .before .before .before .before .before .before .before .before .before .before .before .before .before .before .before .before .before .before .before .pre .1 .1 .0) (c .before .before .before .before .before .before .before .before .before .before .before .before .before .before .collect .ensures) (c .before .before .before .before .before .before .before .before .before .before .before .before .before .before .collect .kept .1 .1 .1 .1 .1 .1 .1 .0) (c .before .before .before .before .before .before .before .before .safe-to-split .ensures) (c .before .before .before .before .before .before .before .if1 .left) (c .before .before .before .before .before .before .before .before .before .before .before .before .before .before .before .before .before .before .before .before .before .before .before .before .pre .1 .1 .1)
+add-edges-requires c κs =
+    split-edges-ready
+    (start .pre .0)
+    (start .pre .1 .0)
+    (start .pre .1 .1 .0)
+    (at-collect .collect .ensures)
+    (at-collect .collect .kept .1 .1 .1 .1 .1 .1 .1 .0)
+    (at-safe-to-split .safe-to-split .ensures)
+    (at-if1 .if1 .left)
+    (start .pre .1 .1 .1)
+  where
+    at-if1 : tie.Else1
+    at-if1 = search
+
+    at-safe-to-split : tie.After-safe-to-split
+    at-safe-to-split = let c = at-if1 in search
+
+    at-collect : tie.After-collect
+    at-collect = let c = at-safe-to-split in search
+
+    start : tie.Start
+    start = let c = at-collect in search
 
 add-vertices-requires : tie.Need-add-vertices-requires
-add-vertices-requires c κs = split-verts-ready (c .before .before .before .before .before .before .before .before .before .before .before .before .before .before .before .before .before .before .before .before .before .before .before .before .before .before .before .before .before .before .before .pre .0) (c .before .before .before .before .before .before .before .before .before .before .before .before .before .before .before .before .before .before .before .before .before .before .before .before .before .before .before .before .before .before .before .pre .1 .0) (c .before .before .before .before .before .before .before .before .before .before .before .before .before .before .before .before .before .before .before .before .before .before .before .before .before .before .before .before .before .before .before .pre .1 .1 .0) (c .before .before .before .before .before .before .before .before .before .before .before .before .before .before .before .before .before .before .before .before .before .collect .ensures) (c .before .before .before .before .before .before .before .before .before .before .before .before .before .before .before .before .before .before .before .before .before .collect .kept .1 .1 .1 .1 .1 .1 .1 .0) (c .before .before .before .before .before .before .before .before .before .before .before .before .before .before .before .safe-to-split .ensures) (c .before .before .before .before .before .before .before .before .before .before .before .before .before .before .if1 .left)
+add-vertices-requires c κs =
+    split-verts-ready
+    (start .pre .0)
+    (start .pre .1 .0)
+    (start .pre .1 .1 .0)
+    (at-collect .collect .ensures)
+    (at-collect .collect .kept .1 .1 .1 .1 .1 .1 .1 .0)
+    (at-safe-to-split .safe-to-split .ensures)
+    (at-if1 .if1 .left)
+  where
+    at-if1 : tie.Else1
+    at-if1 = let c : tie.After-suffix-start = search in search
+
+    at-safe-to-split : tie.After-safe-to-split
+    at-safe-to-split = let c = at-if1 in search
+
+    at-collect : tie.After-collect
+    at-collect = let c = at-safe-to-split in search
+
+    start : tie.Start
+    start = let c = at-collect in search
 
 remove-vertices-by-id-requires : tie.Need-remove-vertices-by-id-requires
-remove-vertices-by-id-requires c κs = (split-compactable (c .before .before .before .before .before .before .before .before .before .before .before .before .before .before .before .before .before .before .before .before .before .before .before .before .before .before .before .before .before .before .before .before .before .before .before .before .before .before .pre .0) (c .before .before .before .before .before .before .before .before .before .before .before .before .before .before .before .before .before .before .before .before .before .before .before .before .before .before .before .before .before .before .before .before .before .before .before .before .before .before .pre .1 .0) (c .before .before .before .before .before .before .before .before .before .before .before .before .before .before .before .before .before .before .before .before .before .before .before .before .before .before .before .before .before .before .before .before .before .before .before .before .before .before .pre .1 .1 .0) (c .before .before .before .before .before .before .before .before .before .before .before .before .before .before .before .before .before .before .before .before .before .before .before .before .before .before .before .before .collect .ensures) (c .before .before .before .before .before .before .before .before .before .before .before .before .before .before .before .before .before .before .before .before .before .before .before .before .before .before .before .before .collect .kept .1 .1 .1 .1 .1 .1 .1 .0) (c .before .before .before .before .before .before .before .before .before .before .before .before .before .before .before .before .before .before .before .before .before .before .safe-to-split .ensures) (c .before .before .before .before .before .before .before .before .before .before .before .before .before .before .before .before .before .before .before .before .before .if1 .left) (c .before .before .before .before .before .before .before .before .before .before .before .before .before .add-edges .ensures) (c .before .before .before .before .before .before .add-vertices .ensures) (c .before .before .before .before .before .before .before .before .before .before .before .before .before .before .before .before .before .before .suffix-start .ensures) (c .before .before .before .before .before .before .before .before .before .before .before .before .before .add-edges .kept .0) (c .before .before .before .before .before .before .add-vertices .kept .0) (c .before .before .before .before .before .before .before .before .before .before .before .before .before .add-edges .kept .1 .1 .1 .1 .1 .1 .1 .1 .1 .1 .0), split-below (c .before .before .before .before .before .before .before .before .before .before .before .before .before .before .before .before .before .before .before .before .before .before .before .before .before .before .before .before .before .before .before .before .before .before .before .before .before .before .pre .0) (c .before .before .before .before .before .before .before .before .before .before .before .before .before .before .before .before .before .before .before .before .before .before .before .before .before .before .before .before .before .before .before .before .before .before .before .before .before .before .pre .1 .0) (c .before .before .before .before .before .before .before .before .before .before .before .before .before .before .before .before .before .before .before .before .before .before .before .before .before .before .before .before .before .before .before .before .before .before .before .before .before .before .pre .1 .1 .0) (c .before .before .before .before .before .before .before .before .before .before .before .before .before .before .before .before .before .before .before .before .before .before .before .before .before .before .before .before .collect .ensures) (c .before .before .before .before .before .before .before .before .before .before .before .before .before .before .before .before .before .before .before .before .before .before .before .before .before .before .before .before .collect .kept .1 .1 .1 .1 .1 .1 .1 .0) (c .before .before .before .before .before .before .before .before .before .before .before .before .before .before .before .before .before .before .before .before .before .before .safe-to-split .ensures) (c .before .before .before .before .before .before .before .before .before .before .before .before .before .before .before .before .before .before .before .before .before .if1 .left) (c .before .before .before .before .before .before .before .before .before .before .before .before .before .add-edges .ensures) (c .before .before .before .before .before .before .add-vertices .ensures) (c .before .before .before .before .before .before .before .before .before .before .before .before .before .before .before .before .before .before .suffix-start .ensures))
+remove-vertices-by-id-requires c κs = (
+  split-compactable (start .pre .0) (start .pre .1 .0) (start .pre .1 .1 .0) (at-collect .collect .ensures)
+      (at-collect .collect .kept .1 .1 .1 .1 .1 .1 .1 .0) (at-safe-to-split .safe-to-split .ensures) (at-if1 .if1 .left)
+      (at-add-edges .add-edges .ensures) (at-add-vertices .add-vertices .ensures) (at-suffix-start .suffix-start .ensures)
+      (at-add-edges .add-edges .kept .0) (at-add-vertices .add-vertices .kept .0)
+      (at-add-edges .add-edges .kept .1 .1 .1 .1 .1 .1 .1 .1 .1 .1 .0),
+  split-below (start .pre .0) (start .pre .1 .0) (start .pre .1 .1 .0) (at-collect .collect .ensures)
+      (at-collect .collect .kept .1 .1 .1 .1 .1 .1 .1 .0) (at-safe-to-split .safe-to-split .ensures) (at-if1 .if1 .left)
+      (at-add-edges .add-edges .ensures) (at-add-vertices .add-vertices .ensures) (at-suffix-start .suffix-start .ensures),
+)
+  where
+    at-add-vertices : tie.After-add-vertices
+    at-add-vertices = search
+
+    at-add-edges : tie.After-add-edges
+    at-add-edges = let c = at-add-vertices in search
+
+    at-suffix-start : tie.After-suffix-start
+    at-suffix-start = let c = at-add-edges in search
+
+    at-if1 : tie.Else1
+    at-if1 = let c = at-suffix-start in search
+
+    at-safe-to-split : tie.After-safe-to-split
+    at-safe-to-split = let c = at-if1 in search
+
+    at-collect : tie.After-collect
+    at-collect = let c = at-safe-to-split in search
+
+    start : tie.Start
+    start = let c = at-collect in search
 
 same-length-6 : tie.Need-same-length-6
-same-length-6 c = c .before .before .before .before .before .before .before .before .before .before .before .before .before .before .before .before .before .before .before .before .before .before .before .before .before .before .before .before .before .before .before .before .before .before .before .before .collect .kept .1 .1 .1 .1 .1 .1 .1 .0
+same-length-6 c = at-collect .collect .kept .1 .1 .1 .1 .1 .1 .1 .0
+  where
+    at-collect : tie.After-collect
+    at-collect =
+        let c : tie.After-remove-vertices-by-id = search in
+        let c : tie.After-map = search in
+        let c : tie.After-safe-to-split = search in
+        search
 
 returns-2 : tie.Need-returns-2
-returns-2 c = left-done (c .before .before .before .before .before .before .before .before .before .before .before .before .before .before .before .before .before .before .before .before .before .before .before .before .before .before .before .before .before .before .before .before .before .before .before .before .before .before .before .before .before .before .before .before .before .before .pre .0) (c .before .before .before .before .before .before .before .before .before .before .before .before .before .before .before .before .before .before .before .before .before .before .before .before .before .before .before .before .before .before .before .before .before .before .before .before .before .before .before .before .before .before .before .before .before .before .pre .1 .0) (c .before .before .before .before .before .before .before .before .before .before .before .before .before .before .before .before .before .before .before .before .before .before .before .before .before .before .before .before .before .before .before .before .before .before .before .before .before .before .before .before .before .before .before .before .before .before .pre .1 .1 .0) (c .before .before .before .before .before .before .before .before .before .before .before .before .before .before .before .before .before .before .before .before .before .before .before .before .before .before .before .before .before .before .before .before .before .before .before .before .collect .ensures) (c .before .before .before .before .before .before .before .before .before .before .before .before .before .before .before .before .before .before .before .before .before .before .before .before .before .before .before .before .before .before .before .before .before .before .before .before .collect .kept .1 .1 .1 .1 .1 .1 .1 .0) (c .before .before .before .before .before .before .before .before .before .before .before .before .before .before .before .before .before .before .before .before .before .before .before .before .before .before .before .before .before .before .safe-to-split .ensures) (c .before .before .before .before .before .before .before .before .before .before .before .before .before .before .before .before .before .before .before .before .before .before .before .before .before .before .before .before .before .if1 .left) (c .before .before .before .before .before .before .before .before .before .before .before .before .before .before .before .before .before .before .before .before .before .add-edges .ensures) (c .before .before .before .before .before .before .before .before .before .before .before .before .before .before .add-vertices .ensures) (c .before .before .before .before .before .before .before .before .before .before .before .before .before .before .before .before .before .before .before .before .before .before .before .before .before .before .suffix-start .ensures) (c .before .before .before .before .before .before .before .remove-vertices-by-id .ensures)
+returns-2 c =
+    left-done
+    (start .pre .0)
+    (start .pre .1 .0)
+    (start .pre .1 .1 .0)
+    (at-collect .collect .ensures)
+    (at-collect .collect .kept .1 .1 .1 .1 .1 .1 .1 .0)
+    (at-safe-to-split .safe-to-split .ensures)
+    (at-if1 .if1 .left)
+    (at-add-edges .add-edges .ensures)
+    (at-add-vertices .add-vertices .ensures)
+    (at-suffix-start .suffix-start .ensures)
+    (at-rvbi .remove-vertices-by-id .ensures)
+  where
+    at-rvbi : tie.After-remove-vertices-by-id
+    at-rvbi = search
+
+    at-add-vertices : tie.After-add-vertices
+    at-add-vertices = let c = at-rvbi in search
+
+    at-add-edges : tie.After-add-edges
+    at-add-edges = let c = at-add-vertices in search
+
+    at-suffix-start : tie.After-suffix-start
+    at-suffix-start = let c = at-add-edges in search
+
+    at-if1 : tie.Else1
+    at-if1 = let c = at-suffix-start in search
+
+    at-safe-to-split : tie.After-safe-to-split
+    at-safe-to-split = let c = at-if1 in search
+
+    at-collect : tie.After-collect
+    at-collect = let c = at-safe-to-split in search
+
+    start : tie.Start
+    start = let c = at-collect in search
 
 pub try-split-common-suffix-spec : {M : Type 1} → statement M
 try-split-common-suffix-spec =

@@ -18,7 +18,42 @@ abbrev μ-loop : tie.MeasureT-loop
 μ-loop es m n heads nexts nodes c i₀ i = c - i
 
 has-one-requires : tie.Need-has-one-requires Inv-loop μ-loop
-has-one-requires c κs = (c .before .before .before .before .before .before .before .pre .0 .at _ (c .before .loop-test .taken), (omega arith, c .before .before .before .before .before .before .before .pre .1))
+has-one-requires c κs = (start .pre .0 .at _ (at-loop-test .loop-test .taken), (omega arith, start .pre .1))
+  where
+    at-loop-test : tie.In-loop Inv-loop μ-loop
+    at-loop-test = search
+
+    start : tie.Start Inv-loop μ-loop
+    start = let c = at-loop-test in search
+
+cast-has-one : tie.Need-cast-has-one Inv-loop μ-loop
+cast-has-one c = omega (arith, c .shared-slice-known5 .given (at-loop .loop .i))
+  where
+    at-loop : tie.At-loop Inv-loop μ-loop
+    at-loop = search
+
+returns : tie.Need-returns Inv-loop μ-loop
+returns c =
+    let at-has-one : tie.After-has-one Inv-loop μ-loop = search in
+    let at-loop-test : tie.In-loop Inv-loop μ-loop = search in
+    sym
+    (allOf-no _ _ _ _ (at-loop-test .loop-test .taken) (sym (at-has-one .has-one .ensures) ∙ not-true _ (c .if1 .taken)))
+
+loop-again : tie.Need-loop-again Inv-loop μ-loop
+loop-again c =
+    (omega arith, below-more _ _ (at-loop .loop .inv .1) (sym (at-has-one .has-one .ensures) ∙ not-false _ (c .if1 .left)))
+  where
+    at-has-one : tie.After-has-one Inv-loop μ-loop
+    at-has-one = search
+
+    at-loop : tie.At-loop Inv-loop μ-loop
+    at-loop = let c = at-has-one in search
+
+returns-2 : tie.Need-returns-2 Inv-loop μ-loop
+returns-2 c = sym (allOf-yes _ _ _ (λ k h. at-loop .loop .inv .1 k (omega arith)))
+  where
+    at-loop : tie.At-loop Inv-loop μ-loop
+    at-loop = search
 
 pub all-one-out-spec : {M : Type 1} → statement M
 all-one-out-spec =
@@ -27,12 +62,12 @@ all-one-out-spec =
     Inv-loop
     μ-loop
     (λ c. (omega arith, below-none _))
-    (λ c. omega (arith, c .before .before .before .before .before .before .pre .0 .room))
-    (λ c. omega (arith, c .before .before .before .before .before .before .before .pre .0 .room))
-    (λ c. omega (arith, c .shared-slice-known5 .given (c .before .before .loop .i)))
+    (λ c. let start : tie.Start Inv-loop μ-loop = search in omega (arith, start .pre .0 .room))
+    (λ c. let start : tie.Start Inv-loop μ-loop = search in omega (arith, start .pre .0 .room))
+    cast-has-one
     has-one-requires
-    (λ c. sym (allOf-no _ _ _ _ (c .before .before .before .loop-test .taken) (sym (c .before .has-one .ensures) ∙ not-true _ (c .if1 .taken))))
+    returns
     (λ c. omega arith)
     (λ c. omega arith)
-    (λ c. (omega arith, below-more _ _ (c .before .before .before .before .loop .inv .1) (sym (c .before .has-one .ensures) ∙ not-false _ (c .if1 .left))))
-    (λ c. sym (allOf-yes _ _ _ (λ k h. c .before .loop .inv .1 k (omega arith)))))
+    loop-again
+    returns-2)

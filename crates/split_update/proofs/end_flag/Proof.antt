@@ -8,6 +8,12 @@ use borrow.Author.Needs.{needs}
 use Rattle.split_update.proofs.end_flag.Statement.{statement}
 use Rattle.split_update.proofs.end_flag.Tie as tie
 
+cast-e : tie.Need-cast-e
+cast-e c = omega (arith, c .shared-slice-known3 .given (2 * start .args .v + start .args .off))
+  where
+    start : tie.Start
+    start = search
+
 pub end-flag-spec : {M : Type 1} → statement M
 end-flag-spec =
     tie.close
@@ -16,13 +22,13 @@ end-flag-spec =
     (λ c. search needs)
     (λ c. search needs)
     (λ c. search needs)
-    (λ c. omega (arith, c .shared-slice-known3 .given (2 * c .before .before .before .args .v + c .before .before .before .args .off)))
+    cast-e
     (λ c κs. search needs)
-    (λ c. c .edge-flag .ensures ∙ cond-yes _ _ (lt-ltb _ _ (c .before .if1 .taken)))
+    (λ c. let at-if1 : tie.Then1 = search in c .edge-flag .ensures ∙ cond-yes _ _ (lt-ltb _ _ (at-if1 .if1 .taken)))
     (λ c. search needs)
     (λ c. search needs)
     (λ c. search needs)
     (λ c. search needs)
-    (λ c. omega (arith, c .shared-slice-known4 .given (2 * c .before .before .before .before .before .args .v + 1)))
+    (λ c. let start : tie.Start = search in omega (arith, c .shared-slice-known4 .given (2 * start .args .v + 1)))
     (λ c κs. search needs)
-    (λ c. c .edge-flag2 .ensures ∙ cond-no _ _ (le-ltb _ _ (c .before .before .if1 .left))))
+    (λ c. let at-if1 : tie.Else1 = search in c .edge-flag2 .ensures ∙ cond-no _ _ (le-ltb _ _ (at-if1 .if1 .left))))

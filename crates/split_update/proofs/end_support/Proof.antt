@@ -8,6 +8,12 @@ use borrow.Author.Needs.{needs}
 use Rattle.split_update.proofs.end_support.Statement.{statement}
 use Rattle.split_update.proofs.end_support.Tie as tie
 
+cast-e : tie.Need-cast-e
+cast-e c = omega (arith, c .shared-slice-known3 .given (2 * start .args .v + start .args .off))
+  where
+    start : tie.Start
+    start = search
+
 pub end-support-spec : {M : Type 1} → statement M
 end-support-spec =
     tie.close
@@ -16,7 +22,7 @@ end-support-spec =
     (λ c. search needs)
     (λ c. search needs)
     (λ c. search needs)
-    (λ c. omega (arith, c .shared-slice-known3 .given (2 * c .before .before .before .args .v + c .before .before .before .args .off)))
+    cast-e
     (λ c κs. search needs)
-    (λ c. c .edge-support .ensures ∙ cond-yes _ _ (lt-ltb _ _ (c .before .if1 .taken)))
+    (λ c. let at-if1 : tie.Then1 = search in c .edge-support .ensures ∙ cond-yes _ _ (lt-ltb _ _ (at-if1 .if1 .taken)))
     (λ c. cond-no _ _ (le-ltb _ _ (c .if1 .left))))

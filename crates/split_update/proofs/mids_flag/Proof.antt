@@ -18,19 +18,82 @@ abbrev μ-loop : tie.MeasureT-loop
 μ-loop es m vs heads nodes c cut off flag₀ i₀ flag i = c - i
 
 loop-holds : tie.Need-loop-holds Inv-loop μ-loop
-loop-holds c = (omega arith, flag-start (c .before .before .before .before .args .m) (c .before .before .before .before .args .es .now) (c .before .before .before .before .args .vs .now) (c .before .before .before .before .args .heads .now) (c .before .before .before .before .args .nodes .now) (c .before .before .before .before .args .cut) (c .before .before .before .before .args .off))
+loop-holds c = (
+  omega arith,
+  flag-start (start .args .m) (start .args .es .now) (start .args .vs .now) (start .args .heads .now)
+      (start .args .nodes .now) (start .args .cut) (start .args .off),
+)
+  where
+    start : tie.Start Inv-loop μ-loop
+    start = search
 
 end-flag-requires : tie.Need-end-flag-requires Inv-loop μ-loop
-end-flag-requires c κs = mids-enter (c .before .before .before .before .before .before .before .before .before .pre .1) (c .before .before .before .before .before .before .before .before .before .args .off) (c .before .before .before .before .loop .i) (c .before .before .before .before .before .before .before .before .before .pre .0) (c .before .before .before .loop-test .taken)
+end-flag-requires c κs =
+    let at-loop-test : tie.In-loop Inv-loop μ-loop = search in
+    let at-loop : tie.At-loop Inv-loop μ-loop = search in
+    let start : tie.Start Inv-loop μ-loop = search in
+    mids-enter (start .pre .1) (start .args .off) (at-loop .loop .i) (start .pre .0) (at-loop-test .loop-test .taken)
 
 loop-again : tie.Need-loop-again Inv-loop μ-loop
-loop-again c = (omega arith, flag-more (c .before .before .before .before .before .before .before .before .before .before .before .args .m) (c .before .before .before .before .before .before .before .before .before .before .before .args .es .now) (c .before .before .before .before .before .before .before .before .before .before .before .args .vs .now) (c .before .before .before .before .before .before .before .before .before .before .before .args .heads .now) (c .before .before .before .before .before .before .before .before .before .before .before .args .nodes .now) (c .before .before .before .before .before .before .before .before .before .before .before .args .cut) (c .before .before .before .before .before .before .loop .i) (c .before .before .before .before .before .before .before .before .before .before .before .args .off) (c .before .before .before .before .before .before .loop .flag) (c .before .before .before .before .before .before .before .before .before .before .before .pre .0) (c .before .before .before .before .before .before .loop .inv .1) (c .before .before .before .vertex-len .ensures) (c .before .before .if1 .taken) (c .before .end-flag .ensures) (c .larger .ensures))
+loop-again c = (
+  omega arith,
+  flag-more (start .args .m) (start .args .es .now) (start .args .vs .now) (start .args .heads .now)
+      (start .args .nodes .now) (start .args .cut) (at-loop .loop .i) (start .args .off) (at-loop .loop .flag)
+      (start .pre .0) (at-loop .loop .inv .1) (at-vertex-len .vertex-len .ensures) (at-if1 .if1 .taken)
+      (at-end-flag .end-flag .ensures) (c .larger .ensures),
+)
+  where
+    at-end-flag : tie.After-end-flag Inv-loop μ-loop
+    at-end-flag = search
+
+    at-if1 : tie.Then1 Inv-loop μ-loop
+    at-if1 = let c = at-end-flag in search
+
+    at-vertex-len : tie.After-vertex-len Inv-loop μ-loop
+    at-vertex-len = let c = at-if1 in search
+
+    at-loop : tie.At-loop Inv-loop μ-loop
+    at-loop = let c = at-vertex-len in search
+
+    start : tie.Start Inv-loop μ-loop
+    start = let c = at-loop in search
 
 loop-again-2 : tie.Need-loop-again-2 Inv-loop μ-loop
-loop-again-2 c = (omega arith, flag-skip (c .before .before .before .before .before .before .before .before .before .args .m) (c .before .before .before .before .before .before .before .before .before .args .es .now) (c .before .before .before .before .before .before .before .before .before .args .vs .now) (c .before .before .before .before .before .before .before .before .before .args .heads .now) (c .before .before .before .before .before .before .before .before .before .args .nodes .now) (c .before .before .before .before .before .before .before .before .before .args .cut) (c .before .before .before .before .loop .i) (c .before .before .before .before .before .before .before .before .before .args .off) (c .before .before .before .before .loop .flag) (c .before .before .before .before .loop .inv .1) (c .before .vertex-len .ensures) (c .if1 .left))
+loop-again-2 c = (
+  omega arith,
+  flag-skip (start .args .m) (start .args .es .now) (start .args .vs .now) (start .args .heads .now)
+      (start .args .nodes .now) (start .args .cut) (at-loop .loop .i) (start .args .off) (at-loop .loop .flag)
+      (at-loop .loop .inv .1) (at-vertex-len .vertex-len .ensures) (c .if1 .left),
+)
+  where
+    at-vertex-len : tie.After-vertex-len Inv-loop μ-loop
+    at-vertex-len = search
+
+    at-loop : tie.At-loop Inv-loop μ-loop
+    at-loop = let c = at-vertex-len in search
+
+    start : tie.Start Inv-loop μ-loop
+    start = let c = at-loop in search
 
 returns : tie.Need-returns Inv-loop μ-loop
-returns c = let q : c .before .loop .i ≡ c .before .before .before .before .before .before .args .c = omega arith in c .before .loop .inv .1 ∙ ap (λ (x : ℕ). anyRef (c .before .before .before .before .before .before .args .off) (plansOf (c .before .before .before .before .before .before .args .m) (c .before .before .before .before .before .before .args .es .now) (c .before .before .before .before .before .before .args .heads .now) (leftNodes (c .before .before .before .before .before .before .args .vs .now) (c .before .before .before .before .before .before .args .cut) (c .before .before .before .before .before .before .args .nodes .now) x))) q
+returns c =
+    let q : at-loop .loop .i ≡ start .args .c = omega arith in
+    at-loop .loop .inv .1 ∙ ap
+    (λ (x : ℕ). anyRef (start .args .off) (plansOf (start .args .m) (start .args .es .now) (start .args .heads .now)
+    (leftNodes (start .args .vs .now) (start .args .cut) (start .args .nodes .now) x))) q
+  where
+    at-loop : tie.At-loop Inv-loop μ-loop
+    at-loop = search
+
+    start : tie.Start Inv-loop μ-loop
+    start = let c = at-loop in search
+
+vertex-len-requires : tie.Need-vertex-len-requires Inv-loop μ-loop
+vertex-len-requires c κs =
+    let at-loop-test : tie.In-loop Inv-loop μ-loop = search in
+    let at-loop : tie.At-loop Inv-loop μ-loop = search in
+    let start : tie.Start Inv-loop μ-loop = search in
+    start .pre .1 .in-vs (at-loop .loop .i) (at-loop-test .loop-test .taken)
 
 pub mids-flag-spec : {M : Type 1} → statement M
 mids-flag-spec =
@@ -42,7 +105,7 @@ mids-flag-spec =
     (λ c. omega arith)
     (λ c. omega arith)
     (λ c. omega arith)
-    (λ c κs. c .before .before .before .before .before .before .before .pre .1 .in-vs (c .before .before .loop .i) (c .before .loop-test .taken))
+    vertex-len-requires
     end-flag-requires
     (λ c κs. search needs)
     (λ c. omega arith)

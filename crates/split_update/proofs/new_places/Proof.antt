@@ -5,7 +5,19 @@ use Rattle.split_update.proofs.new_places.Statement.{statement}
 use Rattle.split_update.proofs.new_places.Tie as tie
 
 returns : tie.Need-returns
-returns c = places-is (c .before .before .before .before .before .args .top) (c .before .before .before .before .before .args .bottom) (c .before .before .before .before .before .args .ends) (c .before .before .before .before .before .args .n) (c .before .before .before .before .before .args .a) (c .before .before .before .before .before .args .c) (c .before .before .before .before .before .args .x) (c .before .before .before .before .before .args .y) (c .before .before .before .before .both .ensures)
+returns c =
+    let at-both : tie.After-both = search in
+    let start : tie.Start = search in
+    places-is
+    (start .args .top)
+    (start .args .bottom)
+    (start .args .ends)
+    (start .args .n)
+    (start .args .a)
+    (start .args .c)
+    (start .args .x)
+    (start .args .y)
+    (at-both .both .ensures)
 
 pub new-places-spec : {M : Type 1} → statement M
 new-places-spec = tie.close (tie.spec

@@ -5,13 +5,28 @@ use Rattle.split_update.proofs.push_edge_if.Statement.{statement}
 use Rattle.split_update.proofs.push_edge_if.Tie as tie
 
 returns : tie.Need-returns
-returns c = record { is = pushed-not (c .before .before .args .test) (c .before .before .args .a) (c .before .before .args .b) (c .before .before .args .s) (c .before .before .args .f) (c .if1 .taken) }
+returns c =
+    let start : tie.Start = search in
+    record {
+      is = pushed-not (start .args .test) (start .args .a) (start .args .b) (start .args .s) (start .args .f)
+          (c .if1 .taken);
+    }
 
 put-edge-requires : tie.Need-put-edge-requires
-put-edge-requires c κs = room-yes (c .before .before .before .args .k) (c .before .before .before .args .es .now) (c .before .before .before .args .test) (c .before .if1 .left) (c .before .before .before .pre)
+put-edge-requires c κs =
+    let at-if1 : tie.Else1 = search in
+    let start : tie.Start = search in
+    room-yes (start .args .k) (start .args .es .now) (start .args .test) (at-if1 .if1 .left) (start .pre)
 
 returns-2 : tie.Need-returns-2
-returns-2 c = record { is = pushed-yes (c .before .before .before .before .before .before .args .test) (c .before .before .before .before .before .before .args .a) (c .before .before .before .before .before .before .args .b) (c .before .before .before .before .before .before .args .s) (c .before .before .before .before .before .before .args .f) (c .before .before .before .before .if1 .left) (c .before .before .before .before .before .before .pre) (c .before .before .put-edge .ensures) }
+returns-2 c =
+    let at-put-edge : tie.After-put-edge = search in
+    let at-if1 : tie.Else1 = search in
+    let start : tie.Start = search in
+    record {
+      is = pushed-yes (start .args .test) (start .args .a) (start .args .b) (start .args .s) (start .args .f)
+          (at-if1 .if1 .left) (start .pre) (at-put-edge .put-edge .ensures);
+    }
 
 pub push-edge-if-spec : {M : Type 1} → statement M
 push-edge-if-spec = tie.close (tie.spec

@@ -16,25 +16,147 @@ abbrev μ-loop : tie.MeasureT-loop
 μ-loop es₀ m k vs heads nodes c cut off u first at₀ j₀ i₀ es at j i = c - i
 
 end-support-requires : tie.Need-end-support-requires Inv-loop μ-loop
-end-support-requires c κs = mids-enter (mids-kept (c .before .before .before .before .before .before .before .before .before .before .pre .0 .1 .1 .1) (c .before .before .before .before .before .loop .inv .1 .edges .len)) (c .before .before .before .before .before .before .before .before .before .before .args .off) (c .before .before .before .before .before .loop .i) (c .before .before .before .before .before .before .before .before .before .before .pre .0 .0) (c .before .before .before .before .loop-test .taken)
+end-support-requires c κs =
+    let at-loop-test : tie.In-loop Inv-loop μ-loop = search in
+    let at-loop : tie.At-loop Inv-loop μ-loop = search in
+    let start : tie.Start Inv-loop μ-loop = search in
+    mids-enter
+    (mids-kept (start .pre .0 .1 .1 .1) (at-loop .loop .inv .1 .edges .len))
+    (start .args .off)
+    (at-loop .loop .i)
+    (start .pre .0 .0)
+    (at-loop-test .loop-test .taken)
 
 end-flag-requires : tie.Need-end-flag-requires Inv-loop μ-loop
-end-flag-requires c κs = mids-enter (mids-kept (c .before .before .before .before .before .before .before .before .before .before .before .before .pre .0 .1 .1 .1) (c .before .before .before .before .before .before .before .loop .inv .1 .edges .len)) (c .before .before .before .before .before .before .before .before .before .before .before .before .args .off) (c .before .before .before .before .before .before .before .loop .i) (c .before .before .before .before .before .before .before .before .before .before .before .before .pre .0 .0) (c .before .before .before .before .before .before .loop-test .taken)
+end-flag-requires c κs =
+    let at-loop-test : tie.In-loop Inv-loop μ-loop = search in
+    let at-loop : tie.At-loop Inv-loop μ-loop = search in
+    let start : tie.Start Inv-loop μ-loop = search in
+    mids-enter
+    (mids-kept (start .pre .0 .1 .1 .1) (at-loop .loop .inv .1 .edges .len))
+    (start .args .off)
+    (at-loop .loop .i)
+    (start .pre .0 .0)
+    (at-loop-test .loop-test .taken)
 
 put-mid-edge-requires : tie.Need-put-mid-edge-requires Inv-loop μ-loop
-put-mid-edge-requires c κs = pushing-room (c .before .before .before .before .before .before .before .before .before .loop .inv .1) (c .before .before .before .before .before .before .before .before .loop-test .taken) (c .before .before .before .before .before .before .vertex-len .ensures) (c .before .before .before .before .before .if1 .taken) (c .before .before .before .before .before .before .before .before .before .before .before .before .before .before .pre .1)
+put-mid-edge-requires c κs =
+    let at-if1 : tie.Then1 Inv-loop μ-loop = search in
+    let at-vertex-len : tie.After-vertex-len Inv-loop μ-loop = search in
+    let at-loop-test : tie.In-loop Inv-loop μ-loop = search in
+    let at-loop : tie.At-loop Inv-loop μ-loop = search in
+    let start : tie.Start Inv-loop μ-loop = search in
+    pushing-room
+    (at-loop .loop .inv .1)
+    (at-loop-test .loop-test .taken)
+    (at-vertex-len .vertex-len .ensures)
+    (at-if1 .if1 .taken)
+    (start .pre .1)
 
 add-at : tie.Need-add-at Inv-loop μ-loop
-add-at c = omega (arith, pushing-room (c .before .before .before .before .before .before .before .before .before .before .before .before .loop .inv .1) (c .before .before .before .before .before .before .before .before .before .before .before .loop-test .taken) (c .before .before .before .before .before .before .before .before .before .vertex-len .ensures) (c .before .before .before .before .before .before .before .before .if1 .taken) (c .before .before .before .before .before .before .before .before .before .before .before .before .before .before .before .before .before .pre .1))
+add-at c =
+    omega (
+      arith,
+      pushing-room (at-loop .loop .inv .1) (at-loop-test .loop-test .taken) (at-vertex-len .vertex-len .ensures)
+          (at-if1 .if1 .taken) (start .pre .1),
+    )
+  where
+    at-if1 : tie.Then1 Inv-loop μ-loop
+    at-if1 = search
+
+    at-vertex-len : tie.After-vertex-len Inv-loop μ-loop
+    at-vertex-len = let c = at-if1 in search
+
+    at-loop-test : tie.In-loop Inv-loop μ-loop
+    at-loop-test = let c = at-vertex-len in search
+
+    at-loop : tie.At-loop Inv-loop μ-loop
+    at-loop = let c = at-loop-test in search
+
+    start : tie.Start Inv-loop μ-loop
+    start = let c = at-loop in search
 
 add-j : tie.Need-add-j Inv-loop μ-loop
-add-j c = omega (arith, c .before .before .before .before .before .before .before .before .before .before .before .before .loop .inv .1 .number, c .before .before .before .before .before .before .before .before .before .before .before .before .before .before .before .before .before .pre .0 .1 .1 .0, node-counts (c .before .before .before .before .before .before .before .before .before .before .before .before .before .before .before .before .before .args .vs .now) (c .before .before .before .before .before .before .before .before .before .before .before .before .before .before .before .before .before .args .nodes .now) (c .before .before .before .before .before .before .before .before .before .before .before .before .before .before .before .before .before .args .cut) (c .before .before .before .before .before .before .before .before .before .before .before .before .loop .i))
+add-j c =
+    omega (
+      arith,
+      at-loop .loop .inv .1 .number,
+      start .pre .0 .1 .1 .0,
+      node-counts (start .args .vs .now) (start .args .nodes .now) (start .args .cut) (at-loop .loop .i),
+    )
+  where
+    at-loop : tie.At-loop Inv-loop μ-loop
+    at-loop = search
+
+    start : tie.Start Inv-loop μ-loop
+    start = let c = at-loop in search
 
 loop-again : tie.Need-loop-again Inv-loop μ-loop
-loop-again c = (omega arith, pushing-more (c .before .before .before .before .before .before .before .before .before .before .before .before .loop .inv .1) (c .before .before .before .before .before .before .before .before .before .before .before .before .before .before .before .before .before .pre .0 .0) (c .before .before .before .before .before .before .before .before .before .before .before .before .before .before .before .before .before .pre .0 .1 .0) (c .before .before .before .before .before .before .before .before .before .vertex-len .ensures) (c .before .before .before .before .before .before .before .before .if1 .taken) (c .before .before .before .before .before .before .before .before .before .before .before .before .before .before .before .before .before .pre .0 .1 .1 .1 .entered (c .before .before .before .before .before .before .before .before .before .before .before .before .loop .i) (c .before .before .before .before .before .before .before .before .before .before .before .loop-test .taken)) (pushing-room (c .before .before .before .before .before .before .before .before .before .before .before .before .loop .inv .1) (c .before .before .before .before .before .before .before .before .before .before .before .loop-test .taken) (c .before .before .before .before .before .before .before .before .before .vertex-len .ensures) (c .before .before .before .before .before .before .before .before .if1 .taken) (c .before .before .before .before .before .before .before .before .before .before .before .before .before .before .before .before .before .pre .1)) (c .before .before .before .before .before .before .end-support .ensures) (c .before .before .before .before .end-flag .ensures) (c .before .before .put-mid-edge .ensures))
+loop-again c = (
+  omega arith,
+  pushing-more (at-loop .loop .inv .1) (start .pre .0 .0) (start .pre .0 .1 .0) (at-vertex-len .vertex-len .ensures)
+      (at-if1 .if1 .taken) (start .pre .0 .1 .1 .1 .entered (at-loop .loop .i) (at-loop-test .loop-test .taken))
+      (pushing-room (at-loop .loop .inv .1) (at-loop-test .loop-test .taken) (at-vertex-len .vertex-len .ensures)
+      (at-if1 .if1 .taken) (start .pre .1)) (at-end-support .end-support .ensures) (at-end-flag .end-flag .ensures)
+      (at-put-mid-edge .put-mid-edge .ensures),
+)
+  where
+    at-put-mid-edge : tie.After-put-mid-edge Inv-loop μ-loop
+    at-put-mid-edge = search
+
+    at-end-flag : tie.After-end-flag Inv-loop μ-loop
+    at-end-flag = let c = at-put-mid-edge in search
+
+    at-end-support : tie.After-end-support Inv-loop μ-loop
+    at-end-support = let c = at-end-flag in search
+
+    at-if1 : tie.Then1 Inv-loop μ-loop
+    at-if1 = let c = at-end-support in search
+
+    at-vertex-len : tie.After-vertex-len Inv-loop μ-loop
+    at-vertex-len = let c = at-if1 in search
+
+    at-loop-test : tie.In-loop Inv-loop μ-loop
+    at-loop-test = let c = at-vertex-len in search
+
+    at-loop : tie.At-loop Inv-loop μ-loop
+    at-loop = let c = at-loop-test in search
+
+    start : tie.Start Inv-loop μ-loop
+    start = let c = at-loop in search
 
 returns : tie.Need-returns Inv-loop μ-loop
-returns c = let q : c .before .loop .i ≡ c .before .before .before .before .before .before .args .c = omega arith in record { is = subst (λ (z : ℕ). EdgesPushed (c .before .before .before .before .before .before .args .k) (c .before .before .before .before .before .before .args .es .now) (midEdges (c .before .before .before .before .before .before .args .off) (c .before .before .before .before .before .before .args .u) (c .before .before .before .before .before .before .args .first) (plansOf (c .before .before .before .before .before .before .args .m) (c .before .before .before .before .before .before .args .es .now) (c .before .before .before .before .before .before .args .heads .now) (leftNodes (c .before .before .before .before .before .before .args .vs .now) (c .before .before .before .before .before .before .args .cut) (c .before .before .before .before .before .before .args .nodes .now) z))) (c .before .loop .at) (c .before .loop .es)) q (c .before .loop .inv .1 .edges) }
+returns c =
+    let q : at-loop .loop .i ≡ start .args .c = omega arith in
+    record {
+      is = subst (λ (z : ℕ). EdgesPushed (start .args .k) (start .args .es .now)
+          (midEdges (start .args .off) (start .args .u) (start .args .first)
+          (plansOf (start .args .m) (start .args .es .now) (start .args .heads .now)
+          (leftNodes (start .args .vs .now) (start .args .cut) (start .args .nodes .now) z))) (at-loop .loop .at)
+          (at-loop .loop .es)) q (at-loop .loop .inv .1 .edges);
+    }
+  where
+    at-loop : tie.At-loop Inv-loop μ-loop
+    at-loop = search
+
+    start : tie.Start Inv-loop μ-loop
+    start = let c = at-loop in search
+
+vertex-len-requires : tie.Need-vertex-len-requires Inv-loop μ-loop
+vertex-len-requires c κs =
+    let at-loop-test : tie.In-loop Inv-loop μ-loop = search in
+    let at-loop : tie.At-loop Inv-loop μ-loop = search in
+    let start : tie.Start Inv-loop μ-loop = search in
+    start .pre .0 .1 .1 .1 .in-vs (at-loop .loop .i) (at-loop-test .loop-test .taken)
+
+loop-again-2 : tie.Need-loop-again-2 Inv-loop μ-loop
+loop-again-2 c = (omega arith, pushing-skip (at-loop .loop .inv .1) (at-vertex-len .vertex-len .ensures) (c .if1 .left))
+  where
+    at-vertex-len : tie.After-vertex-len Inv-loop μ-loop
+    at-vertex-len = search
+
+    at-loop : tie.At-loop Inv-loop μ-loop
+    at-loop = let c = at-vertex-len in search
 
 pub push-mid-edges-spec : {M : Type 1} → statement M
 push-mid-edges-spec =
@@ -46,7 +168,7 @@ push-mid-edges-spec =
     (λ c. omega arith)
     (λ c. omega arith)
     (λ c. omega arith)
-    (λ c κs. c .before .before .before .before .before .before .before .pre .0 .1 .1 .1 .in-vs (c .before .before .loop .i) (c .before .loop-test .taken))
+    vertex-len-requires
     end-support-requires
     end-flag-requires
     put-mid-edge-requires
@@ -55,6 +177,6 @@ push-mid-edges-spec =
     (λ c. omega arith)
     loop-again
     (λ c. omega arith)
-    (λ c. (omega arith, pushing-skip (c .before .before .before .before .loop .inv .1) (c .before .vertex-len .ensures) (c .if1 .left)))
-    (λ c. omega (arith, c .before .loop .inv .1 .edges .len))
+    loop-again-2
+    (λ c. let at-loop : tie.At-loop Inv-loop μ-loop = search in omega (arith, at-loop .loop .inv .1 .edges .len))
     returns)

@@ -6,7 +6,38 @@ use Rattle.split_update.proofs.push_part.Statement.{statement}
 use Rattle.split_update.proofs.push_part.Tie as tie
 
 returns-2 : tie.Need-returns-2
-returns-2 c = part-put (omega (arith, c .before .before .before .before .if1 .left)) (c .before .before .before .before .before .before .before .pre .1 (omega (arith, c .before .before .before .before .if1 .left))) (c .before .before .put-vertex .ensures)
+returns-2 c =
+    part-put
+    (omega (arith, at-if1 .if1 .left))
+    (start .pre .1 (omega (arith, at-if1 .if1 .left)))
+    (at-put-vertex .put-vertex .ensures)
+  where
+    at-put-vertex : tie.After-put-vertex
+    at-put-vertex = search
+
+    at-if1 : tie.Else1
+    at-if1 = let c = at-put-vertex in search
+
+    start : tie.Start
+    start = let c = at-if1 in search
+
+put-vertex-requires : tie.Need-put-vertex-requires
+put-vertex-requires c κs = start .pre .1 (omega (arith, at-if1 .if1 .left))
+  where
+    at-if1 : tie.Else1
+    at-if1 = search
+
+    start : tie.Start
+    start = let c = at-if1 in search
+
+add-result : tie.Need-add-result
+add-result c = omega (arith, start .pre .1 (omega (arith, at-if1 .if1 .left)))
+  where
+    at-if1 : tie.Else1
+    at-if1 = search
+
+    start : tie.Start
+    start = let c = at-if1 in search
 
 pub push-part-spec : {M : Type 1} → statement M
 push-part-spec =
@@ -15,7 +46,7 @@ push-part-spec =
     (λ c. part-none (c .if1 .taken))
     (λ c. search needs)
     (λ c. search needs)
-    (λ c κs. c .before .before .before .before .pre .1 (omega (arith, c .before .if1 .left)))
-    (λ c. omega (arith, c .before .before .before .before .before .before .before .pre .1 (omega (arith, c .before .before .before .before .if1 .left))))
+    put-vertex-requires
+    add-result
     (λ c. search needs)
     returns-2)

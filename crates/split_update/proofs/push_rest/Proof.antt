@@ -9,10 +9,30 @@ use Rattle.split_update.proofs.push_rest.Statement.{statement}
 use Rattle.split_update.proofs.push_rest.Tie as tie
 
 push-part-requires : tie.Need-push-part-requires
-push-part-requires c κs = let l = rest-length (c .before .before .before .before .before .args .p .now) (c .before .before .before .before .before .args .start) (c .before .before .before .before .before .args .len) (c .before .before .before .before .before .args .x) (c .before .before .before .before .before .args .y) (c .before .before .before .before .before .pre .0 .0) (c .before .before .before .before .before .pre .0 .1 .0) in (omega (arith, l, c .before .before .before .before .before .pre .0 .1 .1, c .before .before .before .before .before .pre .0 .0), λ b. c .before .before .before .before .before .pre .1 (omega (arith, l)))
+push-part-requires c κs =
+    let l = rest-length
+    (start .args .p .now)
+    (start .args .start)
+    (start .args .len)
+    (start .args .x)
+    (start .args .y)
+    (start .pre .0 .0)
+    (start .pre .0 .1 .0) in
+    (omega (arith, l, start .pre .0 .1 .1, start .pre .0 .0), λ b. start .pre .1 (omega (arith, l)))
+  where
+    start : tie.Start
+    start = search
 
 returns : tie.Need-returns
-returns c = subst (λ (n : ℕ). PartPushed (c .before .before .before .before .before .before .before .before .args .k) (c .before .before .before .before .before .before .before .before .args .vs .now) (c .before .before .before .before .before .before .before .before .args .start + c .before .before .before .before .before .before .before .before .args .x) n (c .before .before .push-part .result) (c .before .before .push-part .last .0)) (rest-length (c .before .before .before .before .before .before .before .before .args .p .now) (c .before .before .before .before .before .before .before .before .args .start) (c .before .before .before .before .before .before .before .before .args .len) (c .before .before .before .before .before .before .before .before .args .x) (c .before .before .before .before .before .before .before .before .args .y) (c .before .before .before .before .before .before .before .before .pre .0 .0) (c .before .before .before .before .before .before .before .before .pre .0 .1 .0)) (c .before .before .push-part .ensures)
+returns c =
+    let at-push-part : tie.After-push-part = search in
+    let start : tie.Start = search in
+    subst
+    (λ (n : ℕ). PartPushed (start .args .k) (start .args .vs .now) (start .args .start + start .args .x) n
+    (at-push-part .push-part .result) (at-push-part .push-part .last .0))
+    (rest-length (start .args .p .now) (start .args .start) (start .args .len) (start .args .x) (start .args .y)
+    (start .pre .0 .0) (start .pre .0 .1 .0))
+    (at-push-part .push-part .ensures)
 
 pub push-rest-spec : {M : Type 1} → statement M
 push-rest-spec =

@@ -14,16 +14,70 @@ abbrev μ-loop : tie.MeasureT-loop
 μ-loop vs₀ k p nodes c x y j₀ i₀ vs j i = c - i
 
 vertex-len-requires : tie.Need-vertex-len-requires Inv-loop μ-loop
-vertex-len-requires c κs = rests-in (c .before .before .before .before .before .before .before .before .before .before .pre) (c .before .before .before .before .before .before .loop .inv .1) (c .before .before .before .before .before .loop-test .taken)
+vertex-len-requires c κs =
+    let at-loop-test : tie.In-loop Inv-loop μ-loop = search in
+    let at-loop : tie.At-loop Inv-loop μ-loop = search in
+    let start : tie.Start Inv-loop μ-loop = search in
+    rests-in (start .pre) (at-loop .loop .inv .1) (at-loop-test .loop-test .taken)
 
 push-rest-requires : tie.Need-push-rest-requires Inv-loop μ-loop
-push-rest-requires c κs = rests-asks (c .before .before .before .before .before .before .before .before .before .before .before .before .pre) (c .before .before .before .before .before .before .before .before .loop .inv .1) (c .before .before .before .before .before .before .before .loop-test .taken) (c .before .before .before .before .vertex-start .ensures) (c .before .vertex-len .ensures)
+push-rest-requires c κs =
+    let at-vertex-len : tie.After-vertex-len Inv-loop μ-loop = search in
+    let at-vertex-start : tie.After-vertex-start Inv-loop μ-loop = search in
+    let at-loop-test : tie.In-loop Inv-loop μ-loop = search in
+    let at-loop : tie.At-loop Inv-loop μ-loop = search in
+    let start : tie.Start Inv-loop μ-loop = search in
+    rests-asks
+    (start .pre)
+    (at-loop .loop .inv .1)
+    (at-loop-test .loop-test .taken)
+    (at-vertex-start .vertex-start .ensures)
+    (at-vertex-len .vertex-len .ensures)
 
 loop-again : tie.Need-loop-again Inv-loop μ-loop
-loop-again c = (omega arith, rests-next (c .before .before .before .before .before .before .before .before .before .before .before .before .before .before .before .pre) (c .before .before .before .before .before .before .before .before .before .before .before .loop .inv .1) (c .before .before .before .before .before .before .before .before .before .before .loop-test .taken) (c .before .before .before .before .before .before .before .vertex-start .ensures) (c .before .before .before .before .vertex-len .ensures) (c .before .before .push-rest .ensures))
+loop-again c = (
+  omega arith,
+  rests-next (start .pre) (at-loop .loop .inv .1) (at-loop-test .loop-test .taken)
+      (at-vertex-start .vertex-start .ensures) (at-vertex-len .vertex-len .ensures) (at-push-rest .push-rest .ensures),
+)
+  where
+    at-push-rest : tie.After-push-rest Inv-loop μ-loop
+    at-push-rest = search
+
+    at-vertex-len : tie.After-vertex-len Inv-loop μ-loop
+    at-vertex-len = let c = at-push-rest in search
+
+    at-vertex-start : tie.After-vertex-start Inv-loop μ-loop
+    at-vertex-start = let c = at-vertex-len in search
+
+    at-loop-test : tie.In-loop Inv-loop μ-loop
+    at-loop-test = let c = at-vertex-start in search
+
+    at-loop : tie.At-loop Inv-loop μ-loop
+    at-loop = let c = at-loop-test in search
+
+    start : tie.Start Inv-loop μ-loop
+    start = let c = at-loop in search
 
 returns : tie.Need-returns Inv-loop μ-loop
-returns c = let q : c .before .loop .i ≡ c .before .before .before .before .before .args .c = omega arith in subst (λ (z : ℕ). RestsPushed (c .before .before .before .before .before .args .k) (c .before .before .before .before .before .args .vs .now) (c .before .before .before .before .before .args .p .now) (c .before .before .before .before .before .args .nodes .now) z (c .before .before .before .before .before .args .x) (c .before .before .before .before .before .args .y) (c .before .loop .j) (c .before .loop .vs)) q (c .before .loop .inv .1)
+returns c =
+    let q : at-loop .loop .i ≡ start .args .c = omega arith in
+    subst
+    (λ (z : ℕ). RestsPushed (start .args .k) (start .args .vs .now) (start .args .p .now) (start .args .nodes .now) z
+    (start .args .x) (start .args .y) (at-loop .loop .j) (at-loop .loop .vs)) q (at-loop .loop .inv .1)
+  where
+    at-loop : tie.At-loop Inv-loop μ-loop
+    at-loop = search
+
+    start : tie.Start Inv-loop μ-loop
+    start = let c = at-loop in search
+
+vertex-start-requires : tie.Need-vertex-start-requires Inv-loop μ-loop
+vertex-start-requires c κs =
+    let at-loop-test : tie.In-loop Inv-loop μ-loop = search in
+    let at-loop : tie.At-loop Inv-loop μ-loop = search in
+    let start : tie.Start Inv-loop μ-loop = search in
+    rests-in (start .pre) (at-loop .loop .inv .1) (at-loop-test .loop-test .taken)
 
 pub push-rests-spec : {M : Type 1} → statement M
 push-rests-spec =
@@ -34,7 +88,7 @@ push-rests-spec =
     (λ c. (omega arith, rests-start _ _ _ _ _ _))
     (λ c. omega arith)
     (λ c. omega arith)
-    (λ c κs. rests-in (c .before .before .before .before .before .before .before .pre) (c .before .before .before .loop .inv .1) (c .before .before .loop-test .taken))
+    vertex-start-requires
     (λ c. omega arith)
     (λ c. omega arith)
     vertex-len-requires
@@ -42,5 +96,5 @@ push-rests-spec =
     (λ c. omega arith)
     (λ c. omega arith)
     loop-again
-    (λ c. omega (arith, c .before .loop .inv .1 .is .len))
+    (λ c. let at-loop : tie.At-loop Inv-loop μ-loop = search in omega (arith, at-loop .loop .inv .1 .is .len))
     returns)

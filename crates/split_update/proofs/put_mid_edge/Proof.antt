@@ -6,13 +6,25 @@ use borrow.Author.Needs.{needs}
 use Rattle.split_update.proofs.put_mid_edge.Statement.{statement}
 use Rattle.split_update.proofs.put_mid_edge.Tie as tie
 
+returns : tie.Need-returns
+returns c =
+    let at-put-edge : tie.After-put-edge = search in
+    let at-if1 : tie.Then1 = search in
+    at-put-edge .put-edge .ensures ∙ cond-yes _ _ (eq-eqb _ _ (at-if1 .if1 .taken))
+
+returns-2 : tie.Need-returns-2
+returns-2 c =
+    let at-put-edge2 : tie.After-put-edge2 = search in
+    let at-if1 : tie.Else1 = search in
+    at-put-edge2 .put-edge2 .ensures ∙ cond-no _ _ (ne-eqb _ _ (at-if1 .if1 .left))
+
 pub put-mid-edge-spec : {M : Type 1} → statement M
 put-mid-edge-spec =
     tie.close
     (tie.spec
     (λ c κs. search needs)
     (λ c. search needs)
-    (λ c. c .before .before .put-edge .ensures ∙ cond-yes _ _ (eq-eqb _ _ (c .before .before .before .before .if1 .taken)))
+    returns
     (λ c κs. search needs)
     (λ c. search needs)
-    (λ c. c .before .before .put-edge2 .ensures ∙ cond-no _ _ (ne-eqb _ _ (c .before .before .before .before .if1 .left))))
+    returns-2)

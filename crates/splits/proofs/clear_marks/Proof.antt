@@ -11,6 +11,12 @@ Inv-loop tried₀ from to i₀ tried i = Clearing tried₀ from to tried i
 abbrev μ-loop : tie.MeasureT-loop
 μ-loop tried₀ from to i₀ tried i = to - i
 
+loop-again : tie.Need-loop-again Inv-loop μ-loop
+loop-again c =
+    let at-loop : tie.At-loop Inv-loop μ-loop = search in
+    let start : tie.Start Inv-loop μ-loop = search in
+    clearing-more (at-loop .loop .inv) (c .loop-test .taken) (start .pre .1)
+
 pub clear-marks-spec : {M : Type 1} → statement M
 clear-marks-spec =
     tie.close
@@ -22,6 +28,6 @@ clear-marks-spec =
     (λ c. omega arith)
     (λ c. omega arith)
     (λ c. omega arith)
-    (λ c. clearing-more (c .before .loop .inv) (c .loop-test .taken) (c .before .before .pre .1))
+    loop-again
     (λ c. omega arith)
-    (λ c. clearing-end (c .before .loop .inv) (c .loop-test .left)))
+    (λ c. let at-loop : tie.At-loop Inv-loop μ-loop = search in clearing-end (at-loop .loop .inv) (c .loop-test .left)))

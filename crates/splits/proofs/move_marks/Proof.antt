@@ -14,7 +14,22 @@ abbrev μ-loop : tie.MeasureT-loop
 μ-loop tried₀ n map j₀ v₀ tried j v = n - v
 
 loop-again : tie.Need-loop-again Inv-loop μ-loop
-loop-again c = moving-yes (c .before .before .before .before .loop .inv) (c .before .before .before .loop-test .taken) (c .before .before .before .before .before .pre .room) (set-yes _ refl (c .before .if1 .taken))
+loop-again c =
+    let at-if1 : tie.Then1 Inv-loop μ-loop = search in
+    let at-loop-test : tie.In-loop Inv-loop μ-loop = search in
+    let at-loop : tie.At-loop Inv-loop μ-loop = search in
+    let start : tie.Start Inv-loop μ-loop = search in
+    moving-yes
+    (at-loop .loop .inv)
+    (at-loop-test .loop-test .taken)
+    (start .pre .room)
+    (set-yes _ refl (at-if1 .if1 .taken))
+
+loop-again-2 : tie.Need-loop-again-2 Inv-loop μ-loop
+loop-again-2 c =
+    let at-loop-test : tie.In-loop Inv-loop μ-loop = search in
+    let at-loop : tie.At-loop Inv-loop μ-loop = search in
+    moving-no (at-loop .loop .inv) (at-loop-test .loop-test .taken) (set-no _ refl (c .if1 .left))
 
 pub move-marks-spec : {M : Type 1} → statement M
 move-marks-spec =
@@ -34,6 +49,6 @@ move-marks-spec =
     (λ c. omega arith)
     loop-again
     (λ c. omega arith)
-    (λ c. moving-no (c .before .before .before .loop .inv) (c .before .before .loop-test .taken) (set-no _ refl (c .if1 .left)))
+    loop-again-2
     (λ c. omega arith)
-    (λ c. moving-end (c .before .loop .inv) (c .loop-test .left)))
+    (λ c. let at-loop : tie.At-loop Inv-loop μ-loop = search in moving-end (at-loop .loop .inv) (c .loop-test .left)))

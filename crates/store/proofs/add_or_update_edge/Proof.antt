@@ -6,10 +6,49 @@ use Rattle.store.proofs.add_or_update_edge.Statement.{statement}
 use Rattle.store.proofs.add_or_update_edge.Tie as tie
 
 returns : tie.Need-returns
-returns c = (omega arith, packed-hit _ _ _ _ _ _ _ _ _ _ _ _ _ _ (c .before .before .before .before .before .before .before .before .before .before .before .before .before .before .before .before .pre .room) (c .before .before .before .before .before .before .before .before .before .before .before .before .before .before .before .before .pre .is) (omega arith) (c .before .before .before .before .before .edge-from .ensures) (c .before .before .before .edge-to .ensures) (c .before .before .before .before .before .before .before .before .before .before .before .before .edge-support .ensures) (c .before .before .before .before .before .before .before .before .before .before .before .saturating-add .ensures) (c .before .before .before .before .before .before .before .before .before .edge-flag .ensures) (c .before .before .before .before .before .before .before .before .larger .ensures) (c .before .before .put-edge .ensures))
+returns c = (
+  omega arith,
+  packed-hit _ _ _ _ _ _ _ _ _ _ _ _ _ _ (start .pre .room) (start .pre .is) (omega arith)
+      (at-edge-from .edge-from .ensures) (at-edge-to .edge-to .ensures) (at-edge-support .edge-support .ensures)
+      (at-saturating-add .saturating-add .ensures) (at-edge-flag .edge-flag .ensures) (at-larger .larger .ensures)
+      (at-put-edge .put-edge .ensures),
+)
+  where
+    at-put-edge : tie.After-put-edge
+    at-put-edge = search
+
+    at-edge-to : tie.After-edge-to
+    at-edge-to = let c = at-put-edge in search
+
+    at-edge-from : tie.After-edge-from
+    at-edge-from = let c = at-edge-to in search
+
+    at-larger : tie.After-larger
+    at-larger = let c = at-edge-from in search
+
+    at-edge-flag : tie.After-edge-flag
+    at-edge-flag = let c = at-larger in search
+
+    at-saturating-add : tie.After-saturating-add
+    at-saturating-add = let c = at-edge-flag in search
+
+    at-edge-support : tie.After-edge-support
+    at-edge-support = let c = at-saturating-add in search
+
+    start : tie.Start
+    start = let c = at-edge-support in search
 
 returns-2 : tie.Need-returns-2
-returns-2 c = (omega arith, packed-miss _ _ _ _ _ _ _ _ (c .before .before .before .before .before .before .pre .room) (c .before .before .before .before .before .before .pre .is) (omega arith) (c .before .before .put-edge2 .ensures))
+returns-2 c = (
+  omega arith,
+  packed-miss _ _ _ _ _ _ _ _ (start .pre .room) (start .pre .is) (omega arith) (at-put-edge2 .put-edge2 .ensures),
+)
+  where
+    at-put-edge2 : tie.After-put-edge2
+    at-put-edge2 = search
+
+    start : tie.Start
+    start = let c = at-put-edge2 in search
 
 pub add-or-update-edge-spec : {M : Type 1} → statement M
 add-or-update-edge-spec =

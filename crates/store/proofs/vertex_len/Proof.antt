@@ -13,5 +13,5 @@ vertex-len-spec =
     (λ c. search needs)
     (λ c. search needs)
     (λ c. search needs)
-    (λ c. omega (arith, c .shared-slice-known .given (2 * c .before .args .v + 1)))
+    (λ c. let start : tie.Start = search in omega (arith, c .shared-slice-known .given (2 * start .args .v + 1)))
     (λ c. search needs))

@@ -7,9 +7,10 @@ use Rattle.store.proofs.vertex_start.Tie as tie
 
 pub vertex-start-spec : {M : Type 1} → statement M
 vertex-start-spec =
-    tie.close (tie.spec
+    tie.close
+    (tie.spec
     (λ c. search needs)
     (λ c. search needs)
     (λ c. search needs)
-    (λ c. omega (arith, c .shared-slice-known .given (2 * c .before .args .v)))
+    (λ c. let start : tie.Start = search in omega (arith, c .shared-slice-known .given (2 * start .args .v)))
     (λ c. search needs))

@@ -5,7 +5,9 @@ use Rattle.string_calls.proofs.path_small_with.Statement.{statement}
 use Rattle.string_calls.proofs.path_small_with.Tie as tie
 
 pub path-small-with-spec : {M : Type 1} → statement M
-path-small-with-spec = tie.close (tie.spec
-    (λ c κs. small-graph (c .before .before .before .before .before .before .before .before .before .before .before .pre) (search needs))
+path-small-with-spec =
+    tie.close
+    (tie.spec
+    (λ c κs. let start : tie.Start = search in small-graph (start .pre) (search needs))
     (λ c. search needs)
     (λ c. search needs))

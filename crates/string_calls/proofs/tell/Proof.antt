@@ -10,33 +10,40 @@ use Rattle.string_calls.proofs.tell.Lts as lts
 use Rattle.calls.proofs.accept.Reads as accept-reads
 use Rattle.calls.proofs.refuse.Reads as refuse-reads
 
--- src/lib.rt:43:9
 refuse-requires : tie.Need-refuse-requires
 refuse-requires c κs = search needs
 
--- src/lib.rt:43:9
 returns : tie.Need-returns
-returns c = tell-none (not-true _ (c .before .if1 .taken)) (c .refuse .ensures)
+returns c =
+    let at-if1 : tie.Then1 = search in
+    tell-none (not-true _ (at-if1 .if1 .taken)) (c .refuse .ensures)
 
--- src/lib.rt:47:9
 refuse-requires-2 : tie.Need-refuse-requires-2
 refuse-requires-2 c κs = search needs
 
--- src/lib.rt:47:9
 returns-2 : tie.Need-returns-2
-returns-2 c = tell-short (not-false _ (c .before .before .if1 .left)) (c .before .if2 .taken) (c .refuse2 .ensures)
+returns-2 c =
+    let at-if2 : tie.Then2 = search in
+    let at-if1 : tie.Else1 = search in
+    tell-short (not-false _ (at-if1 .if1 .left)) (at-if2 .if2 .taken) (c .refuse2 .ensures)
 
--- src/lib.rt:49:19
 cast-accept : tie.Need-cast-accept
-cast-accept c = omega (arith, c .before .before .pre (not-false _ (c .before .if1 .left)))
+cast-accept c = omega (arith, start .pre (not-false _ (at-if1 .if1 .left)))
+  where
+    at-if1 : tie.Else1
+    at-if1 = search
 
--- src/lib.rt:49:5
+    start : tie.Start
+    start = let c = at-if1 in search
+
 accept-requires : tie.Need-accept-requires
 accept-requires c κs = search needs
 
--- src/lib.rt:37:1
 returns-3 : tie.Need-returns-3
-returns-3 c = tell-whole (not-false _ (c .before .before .if1 .left)) (c .before .if2 .left) (c .accept .ensures)
+returns-3 c =
+    let at-if2 : tie.Else2 = search in
+    let at-if1 : tie.Else1 = search in
+    tell-whole (not-false _ (at-if1 .if1 .left)) (at-if2 .if2 .left) (c .accept .ensures)
 
 pub tell-spec : {M : Type 1} → statement M
 tell-spec =

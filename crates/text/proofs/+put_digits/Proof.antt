@@ -24,6 +24,39 @@ abbrev put-digits-below : ℕ → In 1 put-digits-kinds.ps
 put-digits-below t =
     and 1 put-digits-kinds.ps (falls 1 put-digits-kinds.ps _<_ μ-put-digits t) put-digits.Pre
 
+-- The places that the answers speak of: the start, the two arms, and behind the call of itself.
+abbrev Start : ℕ → Type 0
+Start t = put-digits-lts.Start (
+  digit-reads.Asked,
+  digit-reads.Learnt,
+  put-digits-below t,
+  put-digits.Post,
+) (put-digits-at t) put-digits.Post
+
+abbrev Then : ℕ → Type 0
+Then t = put-digits-lts.Then1 (
+  digit-reads.Asked,
+  digit-reads.Learnt,
+  put-digits-below t,
+  put-digits.Post,
+) (put-digits-at t) put-digits.Post
+
+abbrev Else : ℕ → Type 0
+Else t = put-digits-lts.Else1 (
+  digit-reads.Asked,
+  digit-reads.Learnt,
+  put-digits-below t,
+  put-digits.Post,
+) (put-digits-at t) put-digits.Post
+
+abbrev Called : ℕ → Type 0
+Called t = put-digits-lts.After-put-digits (
+  digit-reads.Asked,
+  digit-reads.Learnt,
+  put-digits-below t,
+  put-digits.Post,
+) (put-digits-at t) put-digits.Post
+
 put-digits-digit-requires : (t : ℕ) → put-digits-lts.Need-digit-requires (
   digit-reads.Asked,
   digit-reads.Learnt,
@@ -38,7 +71,10 @@ put-digits-slice-write-text : (t : ℕ) → put-digits-lts.Need-slice-write-text
   put-digits-below t,
   put-digits.Post,
 ) (put-digits-at t) put-digits.Post
-put-digits-slice-write-text t c = omega (arith, ap length (decimal-one (c .before .before .before .args .x) (c .before .if1 .taken)), c .before .before .before .pre .1)
+put-digits-slice-write-text t c =
+    let at-if1 : Then t = search in
+    let start : Start t = search in
+    omega (arith, ap length (decimal-one (start .args .x) (at-if1 .if1 .taken)), start .pre .1)
 
 put-digits-add-result : (t : ℕ) → put-digits-lts.Need-add-result (
   digit-reads.Asked,
@@ -46,7 +82,10 @@ put-digits-add-result : (t : ℕ) → put-digits-lts.Need-add-result (
   put-digits-below t,
   put-digits.Post,
 ) (put-digits-at t) put-digits.Post
-put-digits-add-result t c = omega (arith, ap length (decimal-one (c .before .before .before .args .x) (c .before .if1 .taken)), c .before .before .before .pre .1)
+put-digits-add-result t c =
+    let at-if1 : Then t = search in
+    let start : Start t = search in
+    omega (arith, ap length (decimal-one (start .args .x) (at-if1 .if1 .taken)), start .pre .1)
 
 put-digits-same-length : (t : ℕ) → put-digits-lts.Need-same-length (
   digit-reads.Asked,
@@ -62,7 +101,9 @@ put-digits-returns : (t : ℕ) → put-digits-lts.Need-returns (
   put-digits-below t,
   put-digits.Post,
 ) (put-digits-at t) put-digits.Post
-put-digits-returns t c = digits-one (c .before .if1 .taken) (c .digit .ensures)
+put-digits-returns t c =
+    let at-if1 : Then t = search in
+    digits-one (at-if1 .if1 .taken) (c .digit .ensures)
 
 put-digits-put-digits-requires : (t : ℕ) → put-digits-lts.Need-put-digits-requires (
   digit-reads.Asked,
@@ -70,7 +111,12 @@ put-digits-put-digits-requires : (t : ℕ) → put-digits-lts.Need-put-digits-re
   put-digits-below t,
   put-digits.Post,
 ) (put-digits-at t) put-digits.Post
-put-digits-put-digits-requires t c κs = (falls-to (c .before .before .before .pre .0) (c .before .if1 .left), omega (arith, more-long (c .before .before .before .args .x) (c .before .if1 .left), c .before .before .before .pre .1))
+put-digits-put-digits-requires t c κs =
+    let at-if1 : Else t = search in
+    let start : Start t = search in (
+      falls-to (start .pre .0) (at-if1 .if1 .left),
+      omega (arith, more-long (start .args .x) (at-if1 .if1 .left), start .pre .1),
+    )
 
 put-digits-digit-requires-2 : (t : ℕ) → put-digits-lts.Need-digit-requires-2 (
   digit-reads.Asked,
@@ -86,7 +132,15 @@ put-digits-slice-write-text-2 : (t : ℕ) → put-digits-lts.Need-slice-write-te
   put-digits-below t,
   put-digits.Post,
 ) (put-digits-at t) put-digits.Post
-put-digits-slice-write-text-2 t c = omega (arith, digits-behind (c .before .before .before .before .before .if1 .left) (c .before .before .before .before .before .before .before .pre .1) (c .before .before .before .put-digits .ensures), c .before .before .before .put-digits .kept)
+put-digits-slice-write-text-2 t c =
+    let at-put-digits : Called t = search in
+    let at-if1 : Else t = search in
+    let start : Start t = search in
+    omega (
+      arith,
+      digits-behind (at-if1 .if1 .left) (start .pre .1) (at-put-digits .put-digits .ensures),
+      at-put-digits .put-digits .kept,
+    )
 
 put-digits-add-result-2 : (t : ℕ) → put-digits-lts.Need-add-result-2 (
   digit-reads.Asked,
@@ -94,7 +148,15 @@ put-digits-add-result-2 : (t : ℕ) → put-digits-lts.Need-add-result-2 (
   put-digits-below t,
   put-digits.Post,
 ) (put-digits-at t) put-digits.Post
-put-digits-add-result-2 t c = omega (arith, digits-behind (c .before .before .before .before .before .if1 .left) (c .before .before .before .before .before .before .before .pre .1) (c .before .before .before .put-digits .ensures), c .before .before .before .put-digits .kept)
+put-digits-add-result-2 t c =
+    let at-put-digits : Called t = search in
+    let at-if1 : Else t = search in
+    let start : Start t = search in
+    omega (
+      arith,
+      digits-behind (at-if1 .if1 .left) (start .pre .1) (at-put-digits .put-digits .ensures),
+      at-put-digits .put-digits .kept,
+    )
 
 put-digits-same-length-2 : (t : ℕ) → put-digits-lts.Need-same-length-2 (
   digit-reads.Asked,
@@ -102,7 +164,9 @@ put-digits-same-length-2 : (t : ℕ) → put-digits-lts.Need-same-length-2 (
   put-digits-below t,
   put-digits.Post,
 ) (put-digits-at t) put-digits.Post
-put-digits-same-length-2 t c = simp length-set (omega (arith, c .before .before .before .put-digits .kept))
+put-digits-same-length-2 t c =
+    let at-put-digits : Called t = search in
+    simp length-set (omega (arith, at-put-digits .put-digits .kept))
 
 put-digits-returns-2 : (t : ℕ) → put-digits-lts.Need-returns-2 (
   digit-reads.Asked,
@@ -110,7 +174,10 @@ put-digits-returns-2 : (t : ℕ) → put-digits-lts.Need-returns-2 (
   put-digits-below t,
   put-digits.Post,
 ) (put-digits-at t) put-digits.Post
-put-digits-returns-2 t c = digits-more (c .before .before .before .before .before .if1 .left) (c .before .before .before .put-digits .ensures) (c .digit2 .ensures)
+put-digits-returns-2 t c =
+    let at-put-digits : Called t = search in
+    let at-if1 : Else t = search in
+    digits-more (at-if1 .if1 .left) (at-put-digits .put-digits .ensures) (c .digit2 .ensures)
 
 pub +put-digits-spec : {M : Type 1} → statement M
 +put-digits-spec = close μ-put-digits λ t. put-digits-lts.spec (

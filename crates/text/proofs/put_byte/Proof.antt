@@ -6,6 +6,18 @@ use borrow.Author.Needs.{needs}
 use Rattle.text.proofs.put_byte.Statement.{statement}
 use Rattle.text.proofs.put_byte.Tie as tie
 
+returns : tie.Need-returns
+returns c =
+    let at-is-letter : tie.After-is-letter = search in
+    put-letter _ (c .if1 .taken) (at-is-letter .is-letter .ensures)
+
+returns-2 : tie.Need-returns-2
+returns-2 c =
+    let at-digit : tie.After-digit = search in
+    let at-if1 : tie.Else1 = search in
+    let at-is-letter : tie.After-is-letter = search in
+    put-other _ (at-if1 .if1 .left) (at-is-letter .is-letter .ensures) (at-digit .digit .ensures) (c .digit2 .ensures)
+
 pub put-byte-spec : {M : Type 1} → statement M
 put-byte-spec =
     tie.close
@@ -14,7 +26,7 @@ put-byte-spec =
     (λ c. search needs)
     (λ c. search needs)
     (λ c. search needs)
-    (λ c. put-letter _ (c .if1 .taken) (c .before .is-letter .ensures))
+    returns
     (λ c. search needs)
     (λ c. search needs)
     (λ c. simp length-set (omega arith))
@@ -28,4 +40,4 @@ put-byte-spec =
     (λ c. simp length-set (omega arith))
     (λ c. search needs)
     (λ c. search needs)
-    (λ c. put-other _ (c .before .before .if1 .left) (c .before .before .before .is-letter .ensures) (c .before .digit .ensures) (c .digit2 .ensures)))
+    returns-2)

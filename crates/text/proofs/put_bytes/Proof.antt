@@ -14,6 +14,12 @@ Inv-loop text₀ at s i₀ text i = Growing (length s) (λ (k : ℕ). take k s) 
 abbrev μ-loop : tie.MeasureT-loop
 μ-loop text₀ at s i₀ text i = length s - i
 
+loop-again : tie.Need-loop-again Inv-loop μ-loop
+loop-again c =
+    let at-loop-test : tie.In-loop Inv-loop μ-loop = search in
+    let at-loop : tie.At-loop Inv-loop μ-loop = search in
+    bytes-more (at-loop .loop .inv) (at-loop-test .loop-test .taken)
+
 pub put-bytes-spec : {M : Type 1} → statement M
 put-bytes-spec =
     tie.close
@@ -23,10 +29,10 @@ put-bytes-spec =
     (λ c. growing-start refl)
     (λ c. omega arith)
     (λ c. omega arith)
-    (λ c. omega (arith, growing-len (c .before .before .loop .inv)))
+    (λ c. let at-loop : tie.At-loop Inv-loop μ-loop = search in omega (arith, growing-len (at-loop .loop .inv)))
     (λ c. omega arith)
     (λ c. omega arith)
-    (λ c. bytes-more (c .before .before .loop .inv) (c .before .loop-test .taken))
-    (λ c. omega (arith, c .before .loop .inv .high))
-    (λ c. growing-len (c .before .loop .inv))
-    (λ c. bytes-end (c .before .loop .inv) (c .loop-test .left)))
+    loop-again
+    (λ c. let at-loop : tie.At-loop Inv-loop μ-loop = search in omega (arith, at-loop .loop .inv .high))
+    (λ c. let at-loop : tie.At-loop Inv-loop μ-loop = search in growing-len (at-loop .loop .inv))
+    (λ c. let at-loop : tie.At-loop Inv-loop μ-loop = search in bytes-end (at-loop .loop .inv) (c .loop-test .left)))

@@ -4,9 +4,17 @@ use borrow.Author.Needs.{needs}
 use Rattle.text.proofs.put_field.Statement.{statement}
 use Rattle.text.proofs.put_field.Tie as tie
 
+returns : tie.Need-returns
+returns c =
+    let at-put-decimal : tie.After-put-decimal = search in
+    let at-put-bytes : tie.After-put-bytes = search in
+    put-then (at-put-bytes .put-bytes .ensures) (at-put-decimal .put-decimal .ensures)
+
 pub put-field-spec : {M : Type 1} → statement M
-put-field-spec = tie.close (tie.spec
+put-field-spec =
+    tie.close
+    (tie.spec
     (λ c κs. search needs)
     (λ c κs. search needs)
     (λ c. search needs)
-    (λ c. put-then (c .before .before .before .before .before .before .put-bytes .ensures) (c .before .before .put-decimal .ensures)))
+    returns)

@@ -5,7 +5,18 @@ use Rattle.text.proofs.put_sequence.Statement.{statement}
 use Rattle.text.proofs.put_sequence.Tie as tie
 
 returns : tie.Need-returns
-returns c = sequence-none (c .before .before .before .before .before .before .before .before .args .s .now) (c .before .before .before .before .before .if1 .taken) (c .before .before .put-bytes .ensures)
+returns c =
+    let at-put-bytes : tie.After-put-bytes = search in
+    let at-if1 : tie.Then1 = search in
+    let start : tie.Start = search in
+    sequence-none (start .args .s .now) (at-if1 .if1 .taken) (at-put-bytes .put-bytes .ensures)
+
+returns-2 : tie.Need-returns-2
+returns-2 c =
+    let at-put-each : tie.After-put-each = search in
+    let at-if1 : tie.Else1 = search in
+    let start : tie.Start = search in
+    sequence-some (start .args .s .now) (at-if1 .if1 .left) (at-put-each .put-each .ensures)
 
 pub put-sequence-spec : {M : Type 1} → statement M
 put-sequence-spec =
@@ -17,4 +28,4 @@ put-sequence-spec =
     returns
     (λ c κs. search needs)
     (λ c. search needs)
-    (λ c. sequence-some (c .before .before .before .before .before .before .before .args .s .now) (c .before .before .before .before .if1 .left) (c .before .before .put-each .ensures)))
+    returns-2)

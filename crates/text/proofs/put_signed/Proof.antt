@@ -7,10 +7,42 @@ use Rattle.text.proofs.put_signed.Statement.{statement}
 use Rattle.text.proofs.put_signed.Tie as tie
 
 returns : tie.Need-returns
-returns c = below-put (c .before .before .before .before .before .before .fits .x) (c .before .before .before .before .before .before .pre .1) (c .before .before .before .before .if1 .taken) (c .before .before .put-decimal .ensures)
+returns c =
+    let at-put-decimal : tie.After-put-decimal = search in
+    let at-if1 : tie.Then1 = search in
+    let start : tie.Start = search in
+    below-put (start .fits .x) (start .pre .1) (at-if1 .if1 .taken) (at-put-decimal .put-decimal .ensures)
 
 returns-2 : tie.Need-returns-2
-returns-2 c = same-put (c .before .before .before .before .before .before .fits .x) (c .before .before .before .before .before .before .pre .1) (c .before .before .before .before .if1 .left) (c .before .before .put-decimal2 .ensures)
+returns-2 c =
+    let at-put-decimal2 : tie.After-put-decimal2 = search in
+    let at-if1 : tie.Else1 = search in
+    let start : tie.Start = search in
+    same-put (start .fits .x) (start .pre .1) (at-if1 .if1 .left) (at-put-decimal2 .put-decimal2 .ensures)
+
+sub-put-decimal : tie.Need-sub-put-decimal
+sub-put-decimal c =
+    let at-if1 : tie.Then1 = search in
+    let start : tie.Start = search in
+    below-fits (start .fits .x) (start .pre .1) (at-if1 .if1 .taken)
+
+cast-put-decimal : tie.Need-cast-put-decimal
+cast-put-decimal c =
+    let at-if1 : tie.Then1 = search in
+    let start : tie.Start = search in
+    below-cast (start .fits .x) (start .pre .1) (at-if1 .if1 .taken)
+
+same-length : tie.Need-same-length
+same-length c = simp length-set at (at-put-decimal .put-decimal .kept .0)
+  where
+    at-put-decimal : tie.After-put-decimal
+    at-put-decimal = search
+
+cast-put-decimal-2 : tie.Need-cast-put-decimal-2
+cast-put-decimal-2 c =
+    let at-if1 : tie.Else1 = search in
+    let start : tie.Start = search in
+    same-fits (start .fits .x) (start .pre .1) (at-if1 .if1 .left)
 
 pub put-signed-spec : {M : Type 1} → statement M
 put-signed-spec =
@@ -18,12 +50,12 @@ put-signed-spec =
     (tie.spec
     (λ c. search needs)
     (λ c. search needs)
-    (λ c. below-fits (c .before .before .before .fits .x) (c .before .before .before .pre .1) (c .before .if1 .taken))
-    (λ c. below-cast (c .before .before .before .fits .x) (c .before .before .before .pre .1) (c .before .if1 .taken))
+    sub-put-decimal
+    cast-put-decimal
     (λ c κs. simp length-set (omega arith))
-    (λ c. simp length-set at (c .before .before .put-decimal .kept .0))
+    same-length
     returns
-    (λ c. same-fits (c .before .before .before .fits .x) (c .before .before .before .pre .1) (c .before .if1 .left))
+    cast-put-decimal-2
     (λ c κs. search needs)
     (λ c. search needs)
     returns-2)

@@ -4,48 +4,175 @@ use mathlib.Core.Path.{_≡_, refl, _∙_}
 use borrow.Author.Tests.{not-true, not-false}
 use lib.ListN.{length}
 use Rattle.memory.specs.Memory.{graphOf}
-use Rattle.until.proofs.UntilLaws.{measureOf, Doing, doing-start, doing-end, doing-countable, doing-less, doing-indexable, doing-more}
+use Rattle.until.proofs.UntilLaws.{
+  measureOf,
+  Doing,
+  doing-start,
+  doing-end,
+  doing-countable,
+  doing-less,
+  doing-indexable,
+  doing-more,
+}
 use Rattle.until.proofs.transform_until_complete.Statement.{statement}
 use Rattle.until.proofs.transform_until_complete.Tie as tie
 
 abbrev Inv-loop : tie.InvT-loop
-Inv-loop kind least es₀ vs₀ p₀ heads₀ nexts₀ nodes₀ map₀ w₀ es vs p heads nexts nodes map w = Doing kind least w₀ es₀ vs₀ p₀ heads₀ w es vs p heads nexts nodes map × ((length es ≡ length es₀) × ((length vs ≡ length vs₀) × ((length p ≡ length p₀) × ((length heads ≡ length heads₀) × ((length nexts ≡ length nexts₀) × ((length nodes ≡ length nodes₀) × (length map ≡ length map₀)))))))
+Inv-loop kind least es₀ vs₀ p₀ heads₀ nexts₀ nodes₀ map₀ w₀ es vs p heads nexts nodes map w =
+    Doing kind least w₀ es₀ vs₀ p₀ heads₀ w es vs p heads nexts nodes map
+    ×
+    ((length es ≡ length es₀) × ((length vs ≡ length vs₀) × ((length p ≡ length p₀) × ((length heads ≡ length heads₀) ×
+    ((length nexts ≡ length nexts₀) × ((length nodes ≡ length nodes₀) × (length map ≡ length map₀)))))))
 
 abbrev μ-loop : tie.MeasureT-loop
 μ-loop kind least es₀ vs₀ p₀ heads₀ nexts₀ nodes₀ map₀ w₀ es vs p heads nexts nodes map w = measureOf kind (graphOf (w .held) es vs p)
 
 same-length : tie.Need-same-length Inv-loop μ-loop
-same-length c = c .before .before .before .before .before .before .before .before .before .before .before .first-at .kept .1 .1 .1 .0 ∙ c .before .before .before .before .before .before .before .before .before .before .before .before .before .before .before .before .before .before .before .loop .inv .1 .0
+same-length c =
+    let at-first-at : tie.After-first-at Inv-loop μ-loop = search in
+    let at-loop : tie.At-loop Inv-loop μ-loop = search in
+    at-first-at .first-at .kept .1 .1 .1 .0 ∙ at-loop .loop .inv .1 .0
 
 same-length-2 : tie.Need-same-length-2 Inv-loop μ-loop
-same-length-2 c = c .before .before .before .before .before .before .before .before .before .before .before .first-at .kept .1 .1 .1 .1 .0 ∙ c .before .before .before .before .before .before .before .before .before .before .before .before .before .before .before .before .before .before .before .loop .inv .1 .1 .0
+same-length-2 c =
+    let at-first-at : tie.After-first-at Inv-loop μ-loop = search in
+    let at-loop : tie.At-loop Inv-loop μ-loop = search in
+    at-first-at .first-at .kept .1 .1 .1 .1 .0 ∙ at-loop .loop .inv .1 .1 .0
 
 same-length-3 : tie.Need-same-length-3 Inv-loop μ-loop
-same-length-3 c = c .before .before .before .before .before .before .before .before .before .before .before .first-at .kept .1 .1 .1 .1 .1 .0 ∙ c .before .before .before .before .before .before .before .before .before .before .before .before .before .before .before .before .before .before .before .loop .inv .1 .1 .1 .0
+same-length-3 c =
+    let at-first-at : tie.After-first-at Inv-loop μ-loop = search in
+    let at-loop : tie.At-loop Inv-loop μ-loop = search in
+    at-first-at .first-at .kept .1 .1 .1 .1 .1 .0 ∙ at-loop .loop .inv .1 .1 .1 .0
 
 same-length-5 : tie.Need-same-length-5 Inv-loop μ-loop
-same-length-5 c = c .before .before .before .before .before .before .before .before .before .before .before .before .before .before .before .before .before .before .before .loop .inv .1 .1 .1 .1 .1 .0
+same-length-5 c = at-loop .loop .inv .1 .1 .1 .1 .1 .0
+  where
+    at-loop : tie.At-loop Inv-loop μ-loop
+    at-loop = let c : tie.After-first-at Inv-loop μ-loop = search in search
 
 same-length-6 : tie.Need-same-length-6 Inv-loop μ-loop
-same-length-6 c = c .before .before .before .before .before .before .before .before .before .before .before .first-at .kept .1 .1 .1 .1 .1 .1 .1 .1 .0 ∙ c .before .before .before .before .before .before .before .before .before .before .before .before .before .before .before .before .before .before .before .loop .inv .1 .1 .1 .1 .1 .1 .0
+same-length-6 c =
+    let at-first-at : tie.After-first-at Inv-loop μ-loop = search in
+    let at-loop : tie.At-loop Inv-loop μ-loop = search in
+    at-first-at .first-at .kept .1 .1 .1 .1 .1 .1 .1 .1 .0 ∙ at-loop .loop .inv .1 .1 .1 .1 .1 .1 .0
 
 same-length-7 : tie.Need-same-length-7 Inv-loop μ-loop
-same-length-7 c = c .before .before .before .before .before .before .before .before .before .before .before .first-at .kept .1 .1 .1 .1 .1 .1 .1 .1 .1 .0 ∙ c .before .before .before .before .before .before .before .before .before .before .before .before .before .before .before .before .before .before .before .loop .inv .1 .1 .1 .1 .1 .1 .1
+same-length-7 c =
+    let at-first-at : tie.After-first-at Inv-loop μ-loop = search in
+    let at-loop : tie.At-loop Inv-loop μ-loop = search in
+    at-first-at .first-at .kept .1 .1 .1 .1 .1 .1 .1 .1 .1 .0 ∙ at-loop .loop .inv .1 .1 .1 .1 .1 .1 .1
 
 returns : tie.Need-returns Inv-loop μ-loop
-returns c = doing-end (c .before .before .before .before .before .before .before .before .before .before .before .before .before .before .before .before .before .before .before .loop .inv .0) (c .before .before .before .before .before .before .before .before .before .before .before .first-at .ensures) (not-true _ (c .if1 .taken)) (c .before .before .before .before .before .before .before .before .before .before .before .first-at .kept .1 .1 .1 .1 .1 .1 .1 .1 .0) (c .before .before .before .before .before .before .before .before .before .before .before .first-at .kept .1 .1 .1 .1 .1 .1 .1 .1 .1 .0)
+returns c =
+    let at-first-at : tie.After-first-at Inv-loop μ-loop = search in
+    let at-loop : tie.At-loop Inv-loop μ-loop = search in
+    doing-end
+    (at-loop .loop .inv .0)
+    (at-first-at .first-at .ensures)
+    (not-true _ (c .if1 .taken))
+    (at-first-at .first-at .kept .1 .1 .1 .1 .1 .1 .1 .1 .0)
+    (at-first-at .first-at .kept .1 .1 .1 .1 .1 .1 .1 .1 .1 .0)
 
 build-index-requires : tie.Need-build-index-requires Inv-loop μ-loop
-build-index-requires c κs = doing-indexable (c .before .before .before .before .before .before .before .before .before .before .before .before .before .before .before .before .before .before .before .before .before .before .before .loop .inv .0) (c .before .before .before .before .before .before .before .before .before .before .before .before .before .before .before .first-at .ensures) (not-false _ (c .before .before .before .before .if1 .left)) (c .before .before .before .before .before .before .before .before .before .before .before .before .before .before .before .first-at .kept .1 .1 .1 .0)
+build-index-requires c κs =
+    doing-indexable
+    (at-loop .loop .inv .0)
+    (at-first-at .first-at .ensures)
+    (not-false _ (at-if1 .if1 .left))
+    (at-first-at .first-at .kept .1 .1 .1 .0)
+  where
+    at-if1 : tie.Else1 Inv-loop μ-loop
+    at-if1 = search
+
+    at-first-at : tie.After-first-at Inv-loop μ-loop
+    at-first-at = let c = at-if1 in search
+
+    at-loop : tie.At-loop Inv-loop μ-loop
+    at-loop = let c = at-first-at in search
 
 add-t37 : tie.Need-add-t37 Inv-loop μ-loop
-add-t37 c = omega (arith, doing-countable (c .before .before .before .before .before .before .before .before .before .before .before .before .before .before .before .before .before .before .before .before .before .before .before .before .before .before .before .before .before .loop .inv .0) (c .before .before .before .before .before .before .before .before .before .before .before .before .before .before .before .before .before .before .before .before .before .first-at .ensures) (not-false _ (c .before .before .before .before .before .before .before .before .before .before .if1 .left)) (c .before .before .before .before .before .before .before .before .before .before .before .before .before .before .before .before .before .before .before .before .before .before .before .before .before .before .before .before .before .before .before .before .before .before .before .before .before .pre .1))
+add-t37 c =
+    omega (
+      arith,
+      doing-countable (at-loop .loop .inv .0) (at-first-at .first-at .ensures) (not-false _ (at-if1 .if1 .left))
+          (start .pre .1),
+    )
+  where
+    at-if1 : tie.Else1 Inv-loop μ-loop
+    at-if1 = search
+
+    at-first-at : tie.After-first-at Inv-loop μ-loop
+    at-first-at = let c = at-if1 in search
+
+    at-loop : tie.At-loop Inv-loop μ-loop
+    at-loop = let c = at-first-at in search
+
+    start : tie.Start Inv-loop μ-loop
+    start = let c = at-loop in search
 
 loop-less : tie.Need-loop-less Inv-loop μ-loop
-loop-less c = doing-less (c .before .before .before .before .before .before .before .before .before .before .before .before .before .before .before .before .before .before .before .before .before .before .before .before .before .before .before .before .before .loop .inv .0) (c .before .before .before .before .before .before .before .before .before .before .before .before .before .before .before .before .before .before .before .before .before .first-at .ensures) (not-false _ (c .before .before .before .before .before .before .before .before .before .before .if1 .left))
+loop-less c = doing-less (at-loop .loop .inv .0) (at-first-at .first-at .ensures) (not-false _ (at-if1 .if1 .left))
+  where
+    at-if1 : tie.Else1 Inv-loop μ-loop
+    at-if1 = search
+
+    at-first-at : tie.After-first-at Inv-loop μ-loop
+    at-first-at = let c = at-if1 in search
+
+    at-loop : tie.At-loop Inv-loop μ-loop
+    at-loop = let c = at-first-at in search
 
 loop-again : tie.Need-loop-again Inv-loop μ-loop
-loop-again c = (doing-more (c .before .before .before .before .before .before .before .before .before .before .before .before .before .before .before .before .before .before .before .before .before .before .before .before .before .before .before .before .before .loop .inv .0) (c .before .before .before .before .before .before .before .before .before .before .before .before .before .before .before .before .before .before .before .before .before .first-at .ensures) (not-false _ (c .before .before .before .before .before .before .before .before .before .before .if1 .left)) (c .before .before .before .before .before .build-index .ensures) (c .before .before .before .before .before .before .before .before .before .before .before .before .before .before .before .before .before .before .before .before .before .first-at .kept .1 .1 .1 .0) (c .before .before .before .before .before .before .before .before .before .before .before .before .before .before .before .before .before .before .before .before .before .first-at .kept .1 .1 .1 .1 .0) (c .before .before .before .before .before .before .before .before .before .before .before .before .before .before .before .before .before .before .before .before .before .first-at .kept .1 .1 .1 .1 .1 .0) (c .before .before .before .before .before .build-index .kept .1 .1 .1 .0) (c .before .before .before .before .before .build-index .kept .1 .1 .1 .1 .0) (c .before .before .before .before .before .before .before .before .before .before .before .before .before .before .before .before .before .before .before .before .before .first-at .kept .1 .1 .1 .1 .1 .1 .1 .1 .0) (c .before .before .before .before .before .before .before .before .before .before .before .before .before .before .before .before .before .before .before .before .before .first-at .kept .1 .1 .1 .1 .1 .1 .1 .1 .1 .0), (((c .before .before .before .before .before .before .before .before .before .before .before .before .before .before .before .before .before .before .before .before .before .first-at .kept .1 .1 .1 .0) ∙ c .before .before .before .before .before .before .before .before .before .before .before .before .before .before .before .before .before .before .before .before .before .before .before .before .before .before .before .before .before .loop .inv .1 .0), (((c .before .before .before .before .before .before .before .before .before .before .before .before .before .before .before .before .before .before .before .before .before .first-at .kept .1 .1 .1 .1 .0) ∙ c .before .before .before .before .before .before .before .before .before .before .before .before .before .before .before .before .before .before .before .before .before .before .before .before .before .before .before .before .before .loop .inv .1 .1 .0), (((c .before .before .before .before .before .before .before .before .before .before .before .before .before .before .before .before .before .before .before .before .before .first-at .kept .1 .1 .1 .1 .1 .0) ∙ c .before .before .before .before .before .before .before .before .before .before .before .before .before .before .before .before .before .before .before .before .before .before .before .before .before .before .before .before .before .loop .inv .1 .1 .1 .0), (((c .before .before .before .before .before .build-index .kept .1 .1 .1 .0) ∙ c .before .before .before .before .before .before .before .before .before .before .before .before .before .before .before .before .before .before .before .before .before .before .before .before .before .before .before .before .before .loop .inv .1 .1 .1 .1 .0), (((c .before .before .before .before .before .build-index .kept .1 .1 .1 .1 .0) ∙ c .before .before .before .before .before .before .before .before .before .before .before .before .before .before .before .before .before .before .before .before .before .before .before .before .before .before .before .before .before .loop .inv .1 .1 .1 .1 .1 .0), (((c .before .before .before .before .before .before .before .before .before .before .before .before .before .before .before .before .before .before .before .before .before .first-at .kept .1 .1 .1 .1 .1 .1 .1 .1 .0) ∙ c .before .before .before .before .before .before .before .before .before .before .before .before .before .before .before .before .before .before .before .before .before .before .before .before .before .before .before .before .before .loop .inv .1 .1 .1 .1 .1 .1 .0), ((c .before .before .before .before .before .before .before .before .before .before .before .before .before .before .before .before .before .before .before .before .before .first-at .kept .1 .1 .1 .1 .1 .1 .1 .1 .1 .0) ∙ c .before .before .before .before .before .before .before .before .before .before .before .before .before .before .before .before .before .before .before .before .before .before .before .before .before .before .before .before .before .loop .inv .1 .1 .1 .1 .1 .1 .1))))))))
+loop-again c = (
+  doing-more (at-loop .loop .inv .0) (at-first-at .first-at .ensures) (not-false _ (at-if1 .if1 .left))
+      (at-build-index .build-index .ensures) (at-first-at .first-at .kept .1 .1 .1 .0)
+      (at-first-at .first-at .kept .1 .1 .1 .1 .0) (at-first-at .first-at .kept .1 .1 .1 .1 .1 .0)
+      (at-build-index .build-index .kept .1 .1 .1 .0) (at-build-index .build-index .kept .1 .1 .1 .1 .0)
+      (at-first-at .first-at .kept .1 .1 .1 .1 .1 .1 .1 .1 .0) (at-first-at .first-at .kept .1 .1 .1 .1 .1 .1 .1 .1 .1 .0),
+  (
+    ((at-first-at .first-at .kept .1 .1 .1 .0) ∙ at-loop .loop .inv .1 .0),
+    (
+      ((at-first-at .first-at .kept .1 .1 .1 .1 .0) ∙ at-loop .loop .inv .1 .1 .0),
+      (
+        ((at-first-at .first-at .kept .1 .1 .1 .1 .1 .0) ∙ at-loop .loop .inv .1 .1 .1 .0),
+        (
+          ((at-build-index .build-index .kept .1 .1 .1 .0) ∙ at-loop .loop .inv .1 .1 .1 .1 .0),
+          (
+            ((at-build-index .build-index .kept .1 .1 .1 .1 .0) ∙ at-loop .loop .inv .1 .1 .1 .1 .1 .0),
+            (
+              ((at-first-at .first-at .kept .1 .1 .1 .1 .1 .1 .1 .1 .0) ∙ at-loop .loop .inv .1 .1 .1 .1 .1 .1 .0),
+              ((at-first-at .first-at .kept .1 .1 .1 .1 .1 .1 .1 .1 .1 .0) ∙ at-loop .loop .inv .1 .1 .1 .1 .1 .1 .1),
+            ),
+          ),
+        ),
+      ),
+    ),
+  ),
+)
+  where
+    at-build-index : tie.After-build-index Inv-loop μ-loop
+    at-build-index = search
+
+    at-if1 : tie.Else1 Inv-loop μ-loop
+    at-if1 = let c = at-build-index in search
+
+    at-first-at : tie.After-first-at Inv-loop μ-loop
+    at-first-at = let c = at-if1 in search
+
+    at-loop : tie.At-loop Inv-loop μ-loop
+    at-loop = let c = at-first-at in search
+
+loop-holds : tie.Need-loop-holds Inv-loop μ-loop
+loop-holds c =
+    let start : tie.Start Inv-loop μ-loop = search in
+    (doing-start (start .pre .0), (refl, (refl, (refl, (refl, (refl, (refl, refl)))))))
+
+same-length-4 : tie.Need-same-length-4 Inv-loop μ-loop
+same-length-4 c = at-loop .loop .inv .1 .1 .1 .1 .0
+  where
+    at-loop : tie.At-loop Inv-loop μ-loop
+    at-loop = let c : tie.After-first-at Inv-loop μ-loop = search in search
 
 pub transform-until-complete-spec : {M : Type 1} → statement M
 transform-until-complete-spec =
@@ -53,12 +180,12 @@ transform-until-complete-spec =
     (tie.spec
     Inv-loop
     μ-loop
-    (λ c. (doing-start (c .before .before .before .before .before .before .before .pre .0), (refl, (refl, (refl, (refl, (refl, (refl, refl))))))))
-    (λ c κs. c .before .before .before .before .before .before .before .loop .inv .0 .ready)
+    loop-holds
+    (λ c κs. let at-loop : tie.At-loop Inv-loop μ-loop = search in at-loop .loop .inv .0 .ready)
     same-length
     same-length-2
     same-length-3
-    (λ c. c .before .before .before .before .before .before .before .before .before .before .before .before .before .before .before .before .before .before .before .loop .inv .1 .1 .1 .1 .0)
+    same-length-4
     same-length-5
     same-length-6
     same-length-7

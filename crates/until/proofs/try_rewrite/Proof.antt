@@ -6,19 +6,50 @@ use Rattle.until.proofs.try_rewrite.Statement.{statement}
 use Rattle.until.proofs.try_rewrite.Tie as tie
 
 try-merge-tails-requires : tie.Need-try-merge-tails-requires
-try-merge-tails-requires c κs = ((c .before .before .before .before .before .before .before .before .before .before .before .before .before .pre .0 .room, c .before .before .before .before .before .before .before .before .before .before .before .before .before .pre .0 .holds), (c .before .before .before .before .before .before .before .before .before .before .before .before .before .pre .0 .least-is, (c .before .before .before .before .before .before .before .before .before .before .before .before .before .pre .1, c .before .before .before .before .before .before .before .before .before .before .before .before .before .pre .0 .indexed)))
+try-merge-tails-requires c κs =
+    let start : tie.Start = let c : tie.After-slice-known = search in search in
+    ((start .pre .0 .room, start .pre .0 .holds), (start .pre .0 .least-is, (start .pre .1, start .pre .0 .indexed)))
 
 try-merge-common-suffices-requires : tie.Need-try-merge-common-suffices-requires
-try-merge-common-suffices-requires c κs = (c .before .before .before .before .before .before .before .before .before .before .before .before .before .pre .0 .room, (c .before .before .before .before .before .before .before .before .before .before .before .before .before .pre .0 .holds, (c .before .before .before .before .before .before .before .before .before .before .before .before .before .pre .0 .indexed, c .before .before .before .before .before .before .before .before .before .before .before .before .before .pre .1)))
+try-merge-common-suffices-requires c κs =
+    let start : tie.Start = let c : tie.After-slice-known = search in search in
+    (start .pre .0 .room, (start .pre .0 .holds, (start .pre .0 .indexed, start .pre .1)))
 
 returns : tie.Need-returns
-returns c = rw (eq-eqb _ _ (c .before .before .before .before .before .before .before .before .before .before .before .before .before .before .match .keys1)) (c .before .before .before .before .before .before .before .before .try-merge-diamond .ensures)
+returns c = rw (eq-eqb _ _ (at-match .match .keys1)) (at-tmd .try-merge-diamond .ensures)
+  where
+    at-tmd : tie.After-try-merge-diamond
+    at-tmd = search
+
+    at-match : tie.At-match-keys1
+    at-match = let c = at-tmd in search
 
 returns-2 : tie.Need-returns-2
-returns-2 c = rw (ne-eqb (c .before .before .before .before .before .before .before .before .before .before .before .before .before .before .before .before .before .before .before .before .before .before .args .kind) 1 (λ q. omega (arith, q, c .before .before .before .before .before .before .before .before .before .before .before .before .before .before .match .keys2)), eq-eqb _ _ (c .before .before .before .before .before .before .before .before .before .before .before .before .before .before .match .keys2)) (c .before .before .before .before .before .before .before .before .try-merge-tails .ensures)
+returns-2 c =
+    rw
+    (ne-eqb (start .args .kind) 1 (λ q. omega (arith, q, at-match .match .keys2)), eq-eqb _ _ (at-match .match .keys2))
+    (at-try-merge-tails .try-merge-tails .ensures)
+  where
+    at-try-merge-tails : tie.After-try-merge-tails
+    at-try-merge-tails = search
+
+    at-match : tie.At-match-keys2
+    at-match = let c = at-try-merge-tails in search
+
+    start : tie.Start
+    start = let c = at-match in search
 
 returns-3 : tie.Need-returns-3
-returns-3 c = rw (ne-eqb _ _ (c .before .before .before .before .before .before .before .before .before .before .before .before .before .before .before .before .match .rest .0 .1), ne-eqb _ _ (c .before .before .before .before .before .before .before .before .before .before .before .before .before .before .before .before .match .rest .1)) (c .before .before .before .before .before .before .before .before .before .before .try-merge-common-suffices .ensures)
+returns-3 c =
+    rw
+    (ne-eqb _ _ (at-match .match .rest .0 .1), ne-eqb _ _ (at-match .match .rest .1))
+    (at-tmcs .try-merge-common-suffices .ensures)
+  where
+    at-tmcs : tie.After-try-merge-common-suffices
+    at-tmcs = search
+
+    at-match : tie.At-match-rest
+    at-match = let c = at-tmcs in search
 
 pub try-rewrite-spec : {M : Type 1} → statement M
 try-rewrite-spec =

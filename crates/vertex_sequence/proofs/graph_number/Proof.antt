@@ -9,57 +9,74 @@ use Rattle.vertex_sequence.proofs.graph_number.Lts as lts
 use Rattle.cycle.proofs.has_cycle.Reads as has-cycle-reads
 use Rattle.vertex_sequence.proofs.is_doubled.Reads as is-doubled-reads
 
--- src/lib.rt:60:8
 is-doubled-requires : tie.Need-is-doubled-requires
 is-doubled-requires c κs = search needs
 
--- src/lib.rt:61:9
 same-length : tie.Need-same-length
 same-length c = search needs
 
--- src/lib.rt:61:9
 same-length-2 : tie.Need-same-length-2
 same-length-2 c = search needs
 
--- src/lib.rt:61:9
 returns : tie.Need-returns
-returns c = checks-6 _ _ _ _ _ (c .before .before .before .before .before .is-doubled .ensures) (c .if1 .taken)
+returns c =
+    let at-is-doubled : tie.After-is-doubled = search in
+    checks-6 _ _ _ _ _ (at-is-doubled .is-doubled .ensures) (c .if1 .taken)
 
--- src/lib.rt:63:8
 has-cycle-requires : tie.Need-has-cycle-requires
-has-cycle-requires c κs = (c .before .before .before .before .before .before .before .before .before .before .before .before .before .before .before .before .before .before .pre .indexed, (c .before .before .before .before .before .before .before .before .before .before .before .before .before .before .before .before .before .before .pre .few, peelable-kept (c .before .before .before .before .before .before .before .before .before .before .before .before .before .before .before .before .before .before .pre .peelable) (c .before .before .before .before .before .before .before .is-doubled .kept .1 .1 .1 .1 .1 .1 .1 .1 .1 .0)))
+has-cycle-requires c κs = (
+  start .pre .indexed,
+  (
+    start .pre .few,
+    peelable-kept (start .pre .peelable) (at-is-doubled .is-doubled .kept .1 .1 .1 .1 .1 .1 .1 .1 .1 .0),
+  ),
+)
+  where
+    at-is-doubled : tie.After-is-doubled
+    at-is-doubled = search
 
--- src/lib.rt:64:9
+    start : tie.Start
+    start = let c = at-is-doubled in search
+
 same-length-3 : tie.Need-same-length-3
 same-length-3 c = search needs
 
--- src/lib.rt:64:9
 same-length-4 : tie.Need-same-length-4
 same-length-4 c = search needs
 
--- src/lib.rt:64:9
 same-length-5 : tie.Need-same-length-5
 same-length-5 c = search needs
 
--- src/lib.rt:64:9
 returns-2 : tie.Need-returns-2
-returns-2 c = checks-7 _ _ _ _ _ (c .before .before .before .before .before .before .before .before .before .before .before .before .before .is-doubled .ensures) (c .before .before .before .before .before .before .before .before .if1 .left) (c .before .before .before .before .before .has-cycle .ensures) (c .if2 .taken)
+returns-2 c =
+    let at-has-cycle : tie.After-has-cycle = search in
+    let at-if1 : tie.Else1 = search in
+    let at-is-doubled : tie.After-is-doubled = search in
+    checks-7 _ _ _ _ _
+    (at-is-doubled .is-doubled .ensures)
+    (at-if1 .if1 .left)
+    (at-has-cycle .has-cycle .ensures)
+    (c .if2 .taken)
 
--- src/lib.rt:44:1
 same-length-6 : tie.Need-same-length-6
 same-length-6 c = search needs
 
--- src/lib.rt:44:1
 same-length-7 : tie.Need-same-length-7
 same-length-7 c = search needs
 
--- src/lib.rt:44:1
 same-length-8 : tie.Need-same-length-8
 same-length-8 c = search needs
 
--- src/lib.rt:44:1
 returns-3 : tie.Need-returns-3
-returns-3 c = checks-0 _ _ _ _ _ (c .before .before .before .before .before .before .before .before .before .before .before .before .before .is-doubled .ensures) (c .before .before .before .before .before .before .before .before .if1 .left) (c .before .before .before .before .before .has-cycle .ensures) (c .if2 .left)
+returns-3 c =
+    let at-has-cycle : tie.After-has-cycle = search in
+    let at-if1 : tie.Else1 = search in
+    let at-is-doubled : tie.After-is-doubled = search in
+    checks-0 _ _ _ _ _
+    (at-is-doubled .is-doubled .ensures)
+    (at-if1 .if1 .left)
+    (at-has-cycle .has-cycle .ensures)
+    (c .if2 .left)
 
 pub graph-number-spec : {M : Type 1} → statement M
 graph-number-spec =

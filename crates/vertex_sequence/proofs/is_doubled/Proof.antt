@@ -9,33 +9,46 @@ use Rattle.vertex_sequence.proofs.is_doubled.Lts as lts
 use Rattle.doubled.proofs.doubled_edge.Reads as doubled-edge-reads
 use Rattle.read_kmers.proofs.is_doubled.Reads as is-doubled-reads
 
--- src/lib.rt:38:9
 is-doubled-requires : tie.Need-is-doubled-requires
 is-doubled-requires c κs = search needs
 
--- src/lib.rt:38:9
 same-length : tie.Need-same-length
 same-length c = search needs
 
--- src/lib.rt:38:9
 same-length-2 : tie.Need-same-length-2
 same-length-2 c = search needs
 
--- src/lib.rt:38:9
 returns : tie.Need-returns
-returns c = kmers-doubled _ _ _ _ _ (c .before .before .before .before .before .before .before .if1 .taken) (c .before .before .before .before .is-doubled .ensures)
+returns c =
+    let at-is-doubled : tie.After-is-doubled = search in
+    let at-if1 : tie.Then1 = search in
+    kmers-doubled _ _ _ _ _ (at-if1 .if1 .taken) (at-is-doubled .is-doubled .ensures)
 
--- src/lib.rt:40:5
 doubled-edge-requires : tie.Need-doubled-edge-requires
 doubled-edge-requires c κs = search needs
 
--- src/lib.rt:22:1
 same-length-3 : tie.Need-same-length-3
 same-length-3 c = search needs
 
--- src/lib.rt:22:1
 returns-2 : tie.Need-returns-2
-returns-2 c = edges-doubled (c .before .before .before .before .before .before .before .before .before .before .before .before .args .m) (c .before .before .before .before .before .before .before .before .before .before .before .before .args .n) (c .before .before .before .before .before .before .before .before .before .before .before .before .args .es .now) (c .before .before .before .before .before .before .before .before .before .before .before .before .args .vs .now) (c .before .before .before .before .before .before .before .before .before .before .before .before .args .p .now) (c .before .before .before .before .if1 .left) (c .before .before .doubled-edge .ensures)
+returns-2 c =
+    edges-doubled
+    (start .args .m)
+    (start .args .n)
+    (start .args .es .now)
+    (start .args .vs .now)
+    (start .args .p .now)
+    (at-if1 .if1 .left)
+    (at-doubled-edge .doubled-edge .ensures)
+  where
+    at-doubled-edge : tie.After-doubled-edge
+    at-doubled-edge = search
+
+    at-if1 : tie.Else1
+    at-if1 = let c = at-doubled-edge in search
+
+    start : tie.Start
+    start = let c = at-if1 in search
 
 pub is-doubled-spec : {M : Type 1} → statement M
 is-doubled-spec =

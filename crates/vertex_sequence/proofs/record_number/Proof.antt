@@ -1,7 +1,15 @@
 -- `vertex_sequence::record_number` meets its contract. Assumes nothing.
 use native.Mathlib.Omega.{arith}
 use mathlib.Core.Path.{refl}
-use Rattle.vertex_sequence.proofs.VertexLaws.{number-early, layout-zero, long-enough, number-loadable, number-indexable, number-checkable, number-late}
+use Rattle.vertex_sequence.proofs.VertexLaws.{
+  number-early,
+  layout-zero,
+  long-enough,
+  number-loadable,
+  number-indexable,
+  number-checkable,
+  number-late,
+}
 use borrow.Author.Needs.{needs}
 use Rattle.vertex_sequence.proofs.record_number.Statement.{statement}
 use Rattle.vertex_sequence.proofs.record_number.Tie as tie
@@ -12,65 +20,144 @@ use Rattle.load.proofs.load_graph.Reads as load-graph-reads
 use Rattle.record.proofs.layout_refusal.Reads as layout-refusal-reads
 use Rattle.vertex_sequence.proofs.graph_number.Reads as graph-number-reads
 
--- src/lib.rt:84:9
 layout-refusal-requires : tie.Need-layout-refusal-requires
 layout-refusal-requires c κs = search needs
 
--- src/lib.rt:86:9
 returns : tie.Need-returns
-returns c = number-early (c .before .before .before .before .before .before .before .before .before .before .before .args .rec .now) (c .before .layout-refusal .ensures) (c .if1 .taken)
+returns c = number-early (start .args .rec .now) (at-layout-refusal .layout-refusal .ensures) (c .if1 .taken)
+  where
+    at-layout-refusal : tie.After-layout-refusal
+    at-layout-refusal = search
 
--- src/lib.rt:88:9
+    start : tie.Start
+    start = let c = at-layout-refusal in search
+
 load-graph-requires : tie.Need-load-graph-requires
-load-graph-requires c κs = number-loadable (c .before .before .before .before .before .before .before .before .before .before .before .before .before .before .args .rec .now) (layout-zero (c .before .before .before .before .before .before .before .before .before .before .before .before .before .before .args .rec .now) (c .before .before .before .before .layout-refusal .ensures) (c .before .before .before .if1 .left)) (c .before .before .before .before .before .before .before .before .before .before .before .before .before .before .pre)
+load-graph-requires c κs =
+    number-loadable
+    (start .args .rec .now)
+    (layout-zero (start .args .rec .now) (at-layout-refusal .layout-refusal .ensures) (at-if1 .if1 .left))
+    (start .pre)
+  where
+    at-if1 : tie.Else1
+    at-if1 = search
 
--- src/lib.rt:89:5
+    at-layout-refusal : tie.After-layout-refusal
+    at-layout-refusal = let c = at-if1 in search
+
+    start : tie.Start
+    start = let c = at-layout-refusal in search
+
 build-index-requires : tie.Need-build-index-requires
-build-index-requires c κs = number-indexable (c .before .before .before .before .before .before .before .before .before .before .before .before .before .before .before .before .before .before .before .before .before .before .before .before .args .rec .now) (layout-zero (c .before .before .before .before .before .before .before .before .before .before .before .before .before .before .before .before .before .before .before .before .before .before .before .before .args .rec .now) (c .before .before .before .before .before .before .before .before .before .before .before .before .before .before .layout-refusal .ensures) (c .before .before .before .before .before .before .before .before .before .before .before .before .before .if1 .left)) (c .before .before .before .before .before .before .before .before .before .before .before .before .before .before .before .before .before .before .before .before .before .before .before .before .pre) (c .before .before .before .before .before .before .before .before .before .load-graph .ensures) (c .before .before .before .before .before .before .before .before .before .load-graph .kept .1 .0)
+build-index-requires c κs =
+    number-indexable
+    (start .args .rec .now)
+    (layout-zero (start .args .rec .now) (at-layout-refusal .layout-refusal .ensures) (at-if1 .if1 .left))
+    (start .pre)
+    (at-load-graph .load-graph .ensures)
+    (at-load-graph .load-graph .kept .1 .0)
+  where
+    at-load-graph : tie.After-load-graph
+    at-load-graph = search
 
--- src/lib.rt:91:9
+    at-if1 : tie.Else1
+    at-if1 = let c = at-load-graph in search
+
+    at-layout-refusal : tie.After-layout-refusal
+    at-layout-refusal = let c = at-if1 in search
+
+    start : tie.Start
+    start = let c = at-layout-refusal in search
+
 shared-slice-read-graph-number : tie.Need-shared-slice-read-graph-number
-shared-slice-read-graph-number c = omega (arith, long-enough (c .before .before .before .before .before .before .before .before .before .before .before .before .before .before .before .before .before .before .before .before .before .before .before .before .before .before .before .before .before .before .args .rec .now) (layout-zero (c .before .before .before .before .before .before .before .before .before .before .before .before .before .before .before .before .before .before .before .before .before .before .before .before .before .before .before .before .before .before .args .rec .now) (c .before .before .before .before .before .before .before .before .before .before .before .before .before .before .before .before .before .before .before .before .layout-refusal .ensures) (c .before .before .before .before .before .before .before .before .before .before .before .before .before .before .before .before .before .before .before .if1 .left)))
+shared-slice-read-graph-number c =
+    omega (
+      arith,
+      long-enough (start .args .rec .now)
+          (layout-zero (start .args .rec .now) (at-layout-refusal .layout-refusal .ensures) (at-if1 .if1 .left)),
+    )
+  where
+    at-if1 : tie.Else1
+    at-if1 = let c : tie.After-vs = search in search
 
--- src/lib.rt:90:5
+    at-layout-refusal : tie.After-layout-refusal
+    at-layout-refusal = let c = at-if1 in search
+
+    start : tie.Start
+    start = let c = at-layout-refusal in search
+
 graph-number-requires : tie.Need-graph-number-requires
-graph-number-requires c κs = number-checkable (c .before .before .before .before .before .before .before .before .before .before .before .before .before .before .before .before .before .before .before .before .before .before .before .before .before .before .before .before .before .before .before .before .before .before .before .before .before .before .args .rec .now) (layout-zero (c .before .before .before .before .before .before .before .before .before .before .before .before .before .before .before .before .before .before .before .before .before .before .before .before .before .before .before .before .before .before .before .before .before .before .before .before .before .before .args .rec .now) (c .before .before .before .before .before .before .before .before .before .before .before .before .before .before .before .before .before .before .before .before .before .before .before .before .before .before .before .before .layout-refusal .ensures) (c .before .before .before .before .before .before .before .before .before .before .before .before .before .before .before .before .before .before .before .before .before .before .before .before .before .before .before .if1 .left)) (c .before .before .before .before .before .before .before .before .before .before .before .before .before .before .before .before .before .before .before .before .before .before .before .before .before .before .before .before .before .before .before .before .before .before .before .before .before .before .pre) (c .before .before .before .before .before .before .before .before .before .before .before .before .before .before .before .before .before .before .before .before .before .before .before .load-graph .ensures) (c .before .before .before .before .before .before .before .before .before .before .before .before .before .before .before .before .before .before .before .before .before .before .before .load-graph .kept .1 .1 .0) (c .before .before .before .before .before .before .before .before .before .before .before .before .before .before .before .before .before .before .before .before .before .before .before .load-graph .kept .1 .1 .1 .0) (c .before .before .before .before .before .before .before .before .before .before .before .before .before .build-index .ensures)
+graph-number-requires c κs =
+    number-checkable
+    (start .args .rec .now)
+    (layout-zero (start .args .rec .now) (at-layout-refusal .layout-refusal .ensures) (at-if1 .if1 .left))
+    (start .pre)
+    (at-load-graph .load-graph .ensures)
+    (at-load-graph .load-graph .kept .1 .1 .0)
+    (at-load-graph .load-graph .kept .1 .1 .1 .0)
+    (at-build-index .build-index .ensures)
+  where
+    at-build-index : tie.After-build-index
+    at-build-index = let c : tie.After-heads = search in search
 
--- src/lib.rt:70:1
+    at-load-graph : tie.After-load-graph
+    at-load-graph = let c = at-build-index in search
+
+    at-if1 : tie.Else1
+    at-if1 = let c = at-load-graph in search
+
+    at-layout-refusal : tie.After-layout-refusal
+    at-layout-refusal = let c = at-if1 in search
+
+    start : tie.Start
+    start = let c = at-layout-refusal in search
+
 same-length : tie.Need-same-length
 same-length c = search needs
 
--- src/lib.rt:70:1
 same-length-2 : tie.Need-same-length-2
 same-length-2 c = search needs
 
--- src/lib.rt:70:1
 same-length-3 : tie.Need-same-length-3
 same-length-3 c = search needs
 
--- src/lib.rt:70:1
 same-length-4 : tie.Need-same-length-4
 same-length-4 c = search needs
 
--- src/lib.rt:70:1
 same-length-5 : tie.Need-same-length-5
 same-length-5 c = search needs
 
--- src/lib.rt:70:1
 same-length-6 : tie.Need-same-length-6
 same-length-6 c = search needs
 
--- src/lib.rt:70:1
 same-length-7 : tie.Need-same-length-7
 same-length-7 c = search needs
 
--- src/lib.rt:70:1
 same-length-8 : tie.Need-same-length-8
 same-length-8 c = search needs
 
--- src/lib.rt:70:1
 returns-2 : tie.Need-returns-2
-returns-2 c = number-late (c .before .before .before .before .before .before .before .before .before .before .before .before .before .before .before .before .before .before .before .before .before .before .before .before .before .before .before .before .before .before .before .before .before .before .before .before .before .before .before .before .before .before .before .before .before .args .rec .now) (layout-zero (c .before .before .before .before .before .before .before .before .before .before .before .before .before .before .before .before .before .before .before .before .before .before .before .before .before .before .before .before .before .before .before .before .before .before .before .before .before .before .before .before .before .before .before .before .before .args .rec .now) (c .before .before .before .before .before .before .before .before .before .before .before .before .before .before .before .before .before .before .before .before .before .before .before .before .before .before .before .before .before .before .before .before .before .before .before .layout-refusal .ensures) (c .before .before .before .before .before .before .before .before .before .before .before .before .before .before .before .before .before .before .before .before .before .before .before .before .before .before .before .before .before .before .before .before .before .before .if1 .left)) (c .before .before .before .before .before .before .before .before .before .before .before .before .before .before .before .before .before .before .before .before .before .before .before .before .before .before .before .before .before .before .load-graph .ensures) refl (c .before .before .before .before .before .before .graph-number .ensures)
+returns-2 c =
+    number-late
+    (start .args .rec .now)
+    (layout-zero (start .args .rec .now) (at-layout-refusal .layout-refusal .ensures) (at-if1 .if1 .left))
+    (at-load-graph .load-graph .ensures) refl
+    (at-graph-number .graph-number .ensures)
+  where
+    at-graph-number : tie.After-graph-number
+    at-graph-number = search
+
+    at-load-graph : tie.After-load-graph
+    at-load-graph = let c = at-graph-number in let c : tie.After-nexts = search in let c : tie.After-es = search in search
+
+    at-if1 : tie.Else1
+    at-if1 = let c = at-load-graph in search
+
+    at-layout-refusal : tie.After-layout-refusal
+    at-layout-refusal = let c = at-if1 in search
+
+    start : tie.Start
+    start = let c = at-layout-refusal in search
 
 pub record-number-spec : {M : Type 1} → statement M
 record-number-spec =

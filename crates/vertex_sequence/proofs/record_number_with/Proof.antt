@@ -9,11 +9,9 @@ use Rattle.vertex_sequence.proofs.record_number_with.Reads as reads
 use Rattle.vertex_sequence.proofs.record_number_with.Lts as lts
 use Rattle.vertex_sequence.proofs.record_number.Reads as record-number-reads
 
--- src/lib.rt:119:5
 record-number-requires : tie.Need-record-number-requires
 record-number-requires c κs = roomy _ (search needs)
 
--- src/lib.rt:106:1
 returns : tie.Need-returns
 returns c = search needs
 

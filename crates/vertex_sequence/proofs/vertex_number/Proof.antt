@@ -9,25 +9,57 @@ use Rattle.vertex_sequence.proofs.vertex_number.Lts as lts
 use Rattle.record.proofs.vertex_count.Reads as vertex-count-reads
 use Rattle.vertex_sequence.proofs.checked_record.Reads as checked-record-reads
 
--- src/lib.rt:150:9
 checked-record-requires : tie.Need-checked-record-requires
 checked-record-requires c κs = search needs
 
--- src/lib.rt:152:9
 returns : tie.Need-returns
-returns c = vertex-refused _ _ (c .before .checked-record .ensures) (c .if1 .taken)
+returns c =
+    let at-checked-record : tie.After-checked-record = search in
+    vertex-refused _ _ (at-checked-record .checked-record .ensures) (c .if1 .taken)
 
--- src/lib.rt:154:8
 vertex-count-requires : tie.Need-vertex-count-requires
-vertex-count-requires c κs = record-long _ (c .before .before .before .args .v) (record-zero _ (c .before .before .before .args .v) (c .before .checked-record .ensures) (c .if1 .left))
+vertex-count-requires c κs =
+    let at-checked-record : tie.After-checked-record = search in
+    let start : tie.Start = search in
+    record-long _
+    (start .args .v)
+    (record-zero _ (start .args .v) (at-checked-record .checked-record .ensures) (c .if1 .left))
 
--- src/lib.rt:155:9
 returns-2 : tie.Need-returns-2
-returns-2 c = vertex-9 _ _ (record-zero _ (c .before .before .before .before .before .args .v) (c .before .before .before .checked-record .ensures) (c .before .before .if1 .left)) (omega (arith, c .before .vertex-count .ensures .0, c .if2 .taken))
+returns-2 c =
+    vertex-9 _ _
+    (record-zero _ (start .args .v) (at-checked-record .checked-record .ensures) (at-if1 .if1 .left))
+    (omega (arith, at-vertex-count .vertex-count .ensures .0, c .if2 .taken))
+  where
+    at-vertex-count : tie.After-vertex-count
+    at-vertex-count = search
 
--- src/lib.rt:147:1
+    at-if1 : tie.Else1
+    at-if1 = let c = at-vertex-count in search
+
+    at-checked-record : tie.After-checked-record
+    at-checked-record = let c = at-if1 in search
+
+    start : tie.Start
+    start = let c = at-checked-record in search
+
 returns-3 : tie.Need-returns-3
-returns-3 c = vertex-0 _ _ (record-zero _ (c .before .before .before .before .before .args .v) (c .before .before .before .checked-record .ensures) (c .before .before .if1 .left)) (omega (arith, c .before .vertex-count .ensures .0, c .if2 .left))
+returns-3 c =
+    vertex-0 _ _
+    (record-zero _ (start .args .v) (at-checked-record .checked-record .ensures) (at-if1 .if1 .left))
+    (omega (arith, at-vertex-count .vertex-count .ensures .0, c .if2 .left))
+  where
+    at-vertex-count : tie.After-vertex-count
+    at-vertex-count = search
+
+    at-if1 : tie.Else1
+    at-if1 = let c = at-vertex-count in search
+
+    at-checked-record : tie.After-checked-record
+    at-checked-record = let c = at-if1 in search
+
+    start : tie.Start
+    start = let c = at-checked-record in search
 
 pub vertex-number-spec : {M : Type 1} → statement M
 vertex-number-spec =

@@ -11,33 +11,63 @@ use Rattle.record.proofs.length_at.Reads as length-at-reads
 use Rattle.sequence.proofs.sequence_start.Reads as sequence-start-reads
 use Rattle.vertex_sequence.proofs.vertex_number.Reads as vertex-number-reads
 
--- src/lib.rt:175:9
 vertex-number-requires : tie.Need-vertex-number-requires
 vertex-number-requires c κs = search needs
 
--- src/lib.rt:178:9
 returns : tie.Need-returns
-returns c = placed-none _ _ (c .before .vertex-number .ensures) (c .if1 .taken)
+returns c =
+    let at-vertex-number : tie.After-vertex-number = search in
+    placed-none _ _ (at-vertex-number .vertex-number .ensures) (c .if1 .taken)
 
--- src/lib.rt:183:9
 sequence-start-requires : tie.Need-sequence-start-requires
-sequence-start-requires c κs = known _ _ (c .before .vertex-number .ensures) (c .if1 .left)
+sequence-start-requires c κs =
+    let at-vertex-number : tie.After-vertex-number = search in
+    known _ _ (at-vertex-number .vertex-number .ensures) (c .if1 .left)
 
--- src/lib.rt:184:9
 length-at-requires : tie.Need-length-at-requires
-length-at-requires c κs = omega (arith, length-is _ ((known _ _ (c .before .before .vertex-number .ensures) (c .before .if1 .left)) .0), (known _ _ (c .before .before .vertex-number .ensures) (c .before .if1 .left)) .1)
+length-at-requires c κs =
+    omega (
+      arith,
+      length-is _ ((known _ _ (at-vertex-number .vertex-number .ensures) (at-if1 .if1 .left)) .0),
+      (known _ _ (at-vertex-number .vertex-number .ensures) (at-if1 .if1 .left)) .1,
+    )
+  where
+    at-if1 : tie.Else1
+    at-if1 = search
 
--- src/lib.rt:186:17
+    at-vertex-number : tie.After-vertex-number
+    at-vertex-number = let c = at-if1 in search
+
 cast-t9 : tie.Need-cast-t9
-cast-t9 c = omega (arith, placed-small _ _ (c .before .before .before .vertex-number .ensures) (c .before .before .if1 .left), c .before .sequence-start .ensures)
+cast-t9 c =
+    omega (
+      arith,
+      placed-small _ _ (at-vertex-number .vertex-number .ensures) (at-if1 .if1 .left),
+      at-sequence-start .sequence-start .ensures,
+    )
+  where
+    at-sequence-start : tie.After-sequence-start
+    at-sequence-start = search
 
--- src/lib.rt:187:17
+    at-if1 : tie.Else1
+    at-if1 = let c = at-sequence-start in search
+
+    at-vertex-number : tie.After-vertex-number
+    at-vertex-number = let c = at-if1 in search
+
 cast-t10 : tie.Need-cast-t10
 cast-t10 c = search needs
 
--- src/lib.rt:172:1
 returns-2 : tie.Need-returns-2
-returns-2 c = placed-part _ _ (c .before .before .before .vertex-number .ensures) (c .before .before .if1 .left) (c .before .sequence-start .ensures) (c .length-at .ensures .0)
+returns-2 c =
+    let at-sequence-start : tie.After-sequence-start = search in
+    let at-if1 : tie.Else1 = search in
+    let at-vertex-number : tie.After-vertex-number = search in
+    placed-part _ _
+    (at-vertex-number .vertex-number .ensures)
+    (at-if1 .if1 .left)
+    (at-sequence-start .sequence-start .ensures)
+    (c .length-at .ensures .0)
 
 pub vertex-sequence-place-spec : {M : Type 1} → statement M
 vertex-sequence-place-spec =

@@ -9,7 +9,23 @@ use Rattle.write_record.proofs.put_counts.Statement.{statement}
 use Rattle.write_record.proofs.put_counts.Tie as tie
 
 returns : tie.Need-returns
-returns c = counts-put (c .before .before .before .before .before .before .before .before .before .before .before .before .before .before .before .before .before .before .args .k .0) (c .before .before .before .before .before .before .before .before .before .before .before .before .before .before .before .before .before .before .args .n) (c .before .before .before .before .before .before .before .before .before .before .before .before .before .before .before .before .before .before .args .m) (c .before .before .before .before .before .before .before .before .before .before .before .before .before .before .before .before .before .before .args .b) (c .before .before .before .before .before .before .before .before .before .before .before .before .before .before .before .before .before .before .args .out .now) (c .before .before .before .before .before .before .before .before .before .before .before .before .before .before .put-u16 .ensures ∙ ap (λ (x : ℕ). sets (c .before .before .before .before .before .before .before .before .before .before .before .before .before .before .before .before .before .before .args .out .now) 6 (le16 x)) (c .before .before .before .before .before .before .before .before .before .before .before .before .before .before .before .value .ensures)) (c .before .before .before .before .before .before .before .before .before .before .put-u162 .ensures) (c .before .before .before .before .before .before .put-u163 .ensures) (c .before .before .put-u32 .ensures)
+returns c =
+    let at-put-u32 : tie.After-put-u32 = search in
+    let at-put-u163 : tie.After-put-u163 = search in
+    let at-put-u162 : tie.After-put-u162 = search in
+    let at-put-u16 : tie.After-put-u16 = search in
+    let at-value : tie.After-value = search in
+    let start : tie.Start = search in
+    counts-put
+    (start .args .k .0)
+    (start .args .n)
+    (start .args .m)
+    (start .args .b)
+    (start .args .out .now)
+    (at-put-u16 .put-u16 .ensures ∙ ap (λ (x : ℕ). sets (start .args .out .now) 6 (le16 x)) (at-value .value .ensures))
+    (at-put-u162 .put-u162 .ensures)
+    (at-put-u163 .put-u163 .ensures)
+    (at-put-u32 .put-u32 .ensures)
 
 pub put-counts-spec : {M : Type 1} → statement M
 put-counts-spec =

@@ -10,10 +10,55 @@ use Rattle.write_record.proofs.put_edge.Statement.{statement}
 use Rattle.write_record.proofs.put_edge.Tie as tie
 
 same-length : tie.Need-same-length
-same-length c = simp length-set (omega (arith, c .before .before .before .before .before .before .before .before .before .before .before .before .before .before .put-u16 .kept, c .before .before .before .before .before .before .before .before .before .put-u162 .kept, c .before .before .before .before .put-u32 .kept))
+same-length c =
+    simp length-set (omega (arith, at-put-u16 .put-u16 .kept, at-put-u162 .put-u162 .kept, at-put-u32 .put-u32 .kept))
+  where
+    at-put-u32 : tie.After-put-u32
+    at-put-u32 = search
+
+    at-put-u162 : tie.After-put-u162
+    at-put-u162 = let c = at-put-u32 in search
+
+    at-put-u16 : tie.After-put-u16
+    at-put-u16 = let c = at-put-u162 in search
 
 returns : tie.Need-returns
-returns c = edge-put (c .before .before .before .before .before .before .before .before .before .before .before .before .before .before .before .before .before .before .before .args .at) (c .before .before .before .before .before .before .before .before .before .before .before .before .before .before .before .before .before .before .before .args .out .now) (edgeIn (c .before .before .before .before .before .before .before .before .before .before .before .before .before .before .before .before .before .before .before .args .es .now) (c .before .before .before .before .before .before .before .before .before .before .before .before .before .before .before .before .before .before .before .args .i)) (c .before .before .before .before .before .before .before .before .before .before .before .before .before .before .before .edge-from .ensures) (c .before .before .before .before .before .before .before .before .before .before .edge-to .ensures) (c .before .before .before .before .before .edge-support .ensures) (c .flag-byte .ensures ∙ ap (λ x. bit (isSet x)) (c .before .edge-flag .ensures)) (c .before .before .before .before .before .before .before .before .before .before .before .before .before .before .put-u16 .ensures) (c .before .before .before .before .before .before .before .before .before .put-u162 .ensures) (c .before .before .before .before .put-u32 .ensures)
+returns c =
+    edge-put
+    (start .args .at)
+    (start .args .out .now)
+    (edgeIn (start .args .es .now) (start .args .i))
+    (at-edge-from .edge-from .ensures)
+    (at-edge-to .edge-to .ensures)
+    (at-edge-support .edge-support .ensures)
+    (c .flag-byte .ensures ∙ ap (λ x. bit (isSet x)) (at-edge-flag .edge-flag .ensures))
+    (at-put-u16 .put-u16 .ensures)
+    (at-put-u162 .put-u162 .ensures)
+    (at-put-u32 .put-u32 .ensures)
+  where
+    at-edge-flag : tie.After-edge-flag
+    at-edge-flag = search
+
+    at-put-u32 : tie.After-put-u32
+    at-put-u32 = let c = at-edge-flag in search
+
+    at-edge-support : tie.After-edge-support
+    at-edge-support = let c = at-put-u32 in search
+
+    at-put-u162 : tie.After-put-u162
+    at-put-u162 = let c = at-edge-support in search
+
+    at-edge-to : tie.After-edge-to
+    at-edge-to = let c = at-put-u162 in search
+
+    at-put-u16 : tie.After-put-u16
+    at-put-u16 = let c = at-edge-to in search
+
+    at-edge-from : tie.After-edge-from
+    at-edge-from = let c = at-put-u16 in search
+
+    start : tie.Start
+    start = let c = at-edge-from in search
 
 pub put-edge-spec : {M : Type 1} → statement M
 put-edge-spec =

@@ -3,7 +3,17 @@ use native.Mathlib.Omega.{arith}
 use Prim.Native.Nat.{ℕ, _-_}
 use Rattle.defs.specs.Record.{encodeEdge}
 use Rattle.store.specs.Store.{edgeIn}
-use Rattle.write_record.proofs.WriteLaws.{Growing, growing-start, growing-len, growing-more, growing-end, fields, fields-none, fields-more, edges-length}
+use Rattle.write_record.proofs.WriteLaws.{
+  Growing,
+  growing-start,
+  growing-len,
+  growing-more,
+  growing-end,
+  fields,
+  fields-none,
+  fields-more,
+  edges-length,
+}
 use Rattle.write_record.proofs.put_edges.Statement.{statement}
 use Rattle.write_record.proofs.put_edges.Tie as tie
 
@@ -14,10 +24,48 @@ abbrev μ-loop : tie.MeasureT-loop
 μ-loop out₀ at es m i₀ out i = m - i
 
 put-edge-requires : tie.Need-put-edge-requires Inv-loop μ-loop
-put-edge-requires c κs = record { es-room = omega (arith, c .before .before .before .before .before .pre .es-room); room = omega (arith, c .before .before .before .before .before .pre .room, growing-len (c .before .before .loop .inv)); from = c .before .before .before .before .before .pre .fits .at _ (c .before .loop-test .taken) .0; to = c .before .before .before .before .before .pre .fits .at _ (c .before .loop-test .taken) .1 }
+put-edge-requires c κs =
+    record {
+      es-room = omega (arith, start .pre .es-room);
+      room = omega (arith, start .pre .room, growing-len (at-loop .loop .inv));
+      from = start .pre .fits .at _ (at-loop-test .loop-test .taken) .0;
+      to = start .pre .fits .at _ (at-loop-test .loop-test .taken) .1;
+    }
+  where
+    at-loop-test : tie.In-loop Inv-loop μ-loop
+    at-loop-test = search
+
+    at-loop : tie.At-loop Inv-loop μ-loop
+    at-loop = let c = at-loop-test in search
+
+    start : tie.Start Inv-loop μ-loop
+    start = let c = at-loop in search
 
 loop-again : tie.Need-loop-again Inv-loop μ-loop
-loop-again c = growing-more _ _ (c .before .before .before .before .before .loop .inv) (c .before .before .before .before .loop-test .taken) (fields-more (λ (k : ℕ). encodeEdge (edgeIn (c .before .before .before .before .before .before .before .before .args .es .now) k)) (c .before .before .before .before .before .loop .i)) (omega (arith, edges-length (c .before .before .before .before .before .before .before .before .args .es .now) (c .before .before .before .before .before .loop .i))) (c .before .before .put-edge .ensures)
+loop-again c =
+    growing-more _ _
+    (at-loop .loop .inv)
+    (at-loop-test .loop-test .taken)
+    (fields-more (λ (k : ℕ). encodeEdge (edgeIn (start .args .es .now) k)) (at-loop .loop .i))
+    (omega (arith, edges-length (start .args .es .now) (at-loop .loop .i)))
+    (at-put-edge .put-edge .ensures)
+  where
+    at-put-edge : tie.After-put-edge Inv-loop μ-loop
+    at-put-edge = search
+
+    at-loop-test : tie.In-loop Inv-loop μ-loop
+    at-loop-test = let c = at-put-edge in search
+
+    at-loop : tie.At-loop Inv-loop μ-loop
+    at-loop = let c = at-loop-test in search
+
+    start : tie.Start Inv-loop μ-loop
+    start = let c = at-loop in search
+
+loop-holds : tie.Need-loop-holds Inv-loop μ-loop
+loop-holds c =
+    let start : tie.Start Inv-loop μ-loop = search in
+    growing-start (fields-none (λ (k : ℕ). encodeEdge (edgeIn (start .args .es .now) k)))
 
 pub put-edges-spec : {M : Type 1} → statement M
 put-edges-spec =
@@ -25,12 +73,12 @@ put-edges-spec =
     (tie.spec
     Inv-loop
     μ-loop
-    (λ c. growing-start (fields-none (λ (k : ℕ). encodeEdge (edgeIn (c .before .before .args .es .now) k))))
-    (λ c. omega (arith, c .before .before .before .before .before .pre .room))
-    (λ c. omega (arith, c .before .before .before .before .before .pre .room))
+    loop-holds
+    (λ c. let start : tie.Start Inv-loop μ-loop = search in omega (arith, start .pre .room))
+    (λ c. let start : tie.Start Inv-loop μ-loop = search in omega (arith, start .pre .room))
     put-edge-requires
     (λ c. omega arith)
     (λ c. omega arith)
     loop-again
-    (λ c. growing-len (c .before .loop .inv))
-    (λ c. growing-end (c .before .loop .inv) (c .loop-test .left)))
+    (λ c. let at-loop : tie.At-loop Inv-loop μ-loop = search in growing-len (at-loop .loop .inv))
+    (λ c. let at-loop : tie.At-loop Inv-loop μ-loop = search in growing-end (at-loop .loop .inv) (c .loop-test .left)))

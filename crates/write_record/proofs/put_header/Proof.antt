@@ -5,7 +5,21 @@ use Rattle.write_record.proofs.put_header.Statement.{statement}
 use Rattle.write_record.proofs.put_header.Tie as tie
 
 returns : tie.Need-returns
-returns c = header-put (c .before .before .before .before .before .before .before .before .before .before .before .before .before .args .status) (c .before .before .before .before .before .before .before .before .before .before .before .before .before .args .k .0) (c .before .before .before .before .before .before .before .before .before .before .before .before .before .args .n) (c .before .before .before .before .before .before .before .before .before .before .before .before .before .args .m) (c .before .before .before .before .before .before .before .before .before .before .before .before .before .args .b) (c .before .before .before .before .before .before .before .before .before .before .before .before .before .args .out .now) (c .before .before .before .before .before .before .before .before .before .before .put-mark .ensures) (c .before .before .before .before .before .before .put-counts .ensures) (c .before .before .put-offsets .ensures)
+returns c =
+    let at-put-offsets : tie.After-put-offsets = search in
+    let at-put-counts : tie.After-put-counts = search in
+    let at-put-mark : tie.After-put-mark = search in
+    let start : tie.Start = search in
+    header-put
+    (start .args .status)
+    (start .args .k .0)
+    (start .args .n)
+    (start .args .m)
+    (start .args .b)
+    (start .args .out .now)
+    (at-put-mark .put-mark .ensures)
+    (at-put-counts .put-counts .ensures)
+    (at-put-offsets .put-offsets .ensures)
 
 pub put-header-spec : {M : Type 1} → statement M
 put-header-spec =

@@ -5,7 +5,21 @@ use Rattle.write_record.proofs.put_offsets.Statement.{statement}
 use Rattle.write_record.proofs.put_offsets.Tie as tie
 
 returns : tie.Need-returns
-returns c = offsets-put (c .before .before .before .before .before .before .before .before .before .before .before .before .before .before .before .before .before .args .edges) (c .before .before .before .before .before .before .before .before .before .before .before .before .before .before .before .before .before .args .bytes) (c .before .before .before .before .before .before .before .before .before .before .before .before .before .before .before .before .before .args .whole) (c .before .before .before .before .before .before .before .before .before .before .before .before .before .before .before .before .before .args .out .now) (c .before .before .before .before .before .before .before .before .before .before .before .before .before .before .put-u32 .ensures) (c .before .before .before .before .before .before .before .before .before .before .put-u322 .ensures) (c .before .before .before .before .before .before .put-u323 .ensures) (c .before .before .put-u324 .ensures)
+returns c =
+    let at-put-u324 : tie.After-put-u324 = search in
+    let at-put-u323 : tie.After-put-u323 = search in
+    let at-put-u322 : tie.After-put-u322 = search in
+    let at-put-u32 : tie.After-put-u32 = search in
+    let start : tie.Start = search in
+    offsets-put
+    (start .args .edges)
+    (start .args .bytes)
+    (start .args .whole)
+    (start .args .out .now)
+    (at-put-u32 .put-u32 .ensures)
+    (at-put-u322 .put-u322 .ensures)
+    (at-put-u323 .put-u323 .ensures)
+    (at-put-u324 .put-u324 .ensures)
 
 pub put-offsets-spec : {M : Type 1} → statement M
 put-offsets-spec =

@@ -5,7 +5,17 @@ use mathlib.Core.Path.{_≡_}
 use Rattle.store.specs.Store.{seqIn}
 use Rattle.pool.specs.Pool.{bytesIn}
 use Rattle.pool.proofs.PoolLaws.{bytes-none, bytes-more, bytes-below}
-use Rattle.write_record.proofs.WriteLaws.{Growing, growing-start, growing-len, growing-more, growing-end, fields, fields-none, fields-more, seqs-before}
+use Rattle.write_record.proofs.WriteLaws.{
+  Growing,
+  growing-start,
+  growing-len,
+  growing-more,
+  growing-end,
+  fields,
+  fields-none,
+  fields-more,
+  seqs-before,
+}
 use Rattle.write_record.proofs.put_sequences.Statement.{statement}
 use Rattle.write_record.proofs.put_sequences.Tie as tie
 
@@ -16,16 +26,94 @@ abbrev μ-loop : tie.MeasureT-loop
 μ-loop out₀ at vs n p to₀ v₀ out to v = n - v
 
 loop-holds : tie.Need-loop-holds Inv-loop μ-loop
-loop-holds c = (omega (arith, bytes-none (c .before .before .before .args .vs .now)), growing-start (fields-none (seqIn (c .before .before .before .args .vs .now) (c .before .before .before .args .p .now))))
+loop-holds c = (
+  omega (arith, bytes-none (start .args .vs .now)),
+  growing-start (fields-none (seqIn (start .args .vs .now) (start .args .p .now))),
+)
+  where
+    start : tie.Start Inv-loop μ-loop
+    start = search
 
 put-sequence-requires : tie.Need-put-sequence-requires Inv-loop μ-loop
-put-sequence-requires c κs = (omega (arith, c .before .before .before .before .before .before .before .before .pre .room, c .before .before .before .before .loop .inv .0, growing-len (c .before .before .before .before .loop .inv .1), bytes-below (c .before .before .before .before .before .before .before .before .args .n) (c .before .before .before .before .loop .v) (c .before .before .before .before .before .before .before .before .args .vs .now) (c .before .before .before .loop-test .taken)), c .before .before .before .before .before .before .before .before .pre .within .at (c .before .before .before .before .loop .v) (c .before .before .before .loop-test .taken))
+put-sequence-requires c κs = (
+  omega (
+    arith,
+    start .pre .room,
+    at-loop .loop .inv .0,
+    growing-len (at-loop .loop .inv .1),
+    bytes-below (start .args .n) (at-loop .loop .v) (start .args .vs .now) (at-loop-test .loop-test .taken),
+  ),
+  start .pre .within .at (at-loop .loop .v) (at-loop-test .loop-test .taken),
+)
+  where
+    at-loop-test : tie.In-loop Inv-loop μ-loop
+    at-loop-test = search
+
+    at-loop : tie.At-loop Inv-loop μ-loop
+    at-loop = let c = at-loop-test in search
+
+    start : tie.Start Inv-loop μ-loop
+    start = let c = at-loop in search
 
 add-to : tie.Need-add-to Inv-loop μ-loop
-add-to c = omega (arith, c .before .before .before .before .before .before .before .before .before .before .before .pre .room, c .before .before .before .before .before .before .before .loop .inv .0, bytes-below (c .before .before .before .before .before .before .before .before .before .before .before .args .n) (c .before .before .before .before .before .before .before .loop .v) (c .before .before .before .before .before .before .before .before .before .before .before .args .vs .now) (c .before .before .before .before .before .before .loop-test .taken))
+add-to c =
+    omega (
+      arith,
+      start .pre .room,
+      at-loop .loop .inv .0,
+      bytes-below (start .args .n) (at-loop .loop .v) (start .args .vs .now) (at-loop-test .loop-test .taken),
+    )
+  where
+    at-loop-test : tie.In-loop Inv-loop μ-loop
+    at-loop-test = search
+
+    at-loop : tie.At-loop Inv-loop μ-loop
+    at-loop = let c = at-loop-test in search
+
+    start : tie.Start Inv-loop μ-loop
+    start = let c = at-loop in search
 
 loop-again : tie.Need-loop-again Inv-loop μ-loop
-loop-again c = (omega (arith, c .before .before .before .before .before .before .before .loop .inv .0, bytes-more (c .before .before .before .before .before .before .before .loop .v) (c .before .before .before .before .before .before .before .before .before .before .before .args .vs .now)), growing-more _ _ (c .before .before .before .before .before .before .before .loop .inv .1) (c .before .before .before .before .before .before .loop-test .taken) (fields-more (seqIn (c .before .before .before .before .before .before .before .before .before .before .before .args .vs .now) (c .before .before .before .before .before .before .before .before .before .before .before .args .p .now)) (c .before .before .before .before .before .before .before .loop .v)) (omega (arith, c .before .before .before .before .before .before .before .loop .inv .0, seqs-before (c .before .before .before .before .before .before .before .before .before .before .before .args .vs .now) (c .before .before .before .before .before .before .before .before .before .before .before .args .p .now) (c .before .before .before .before .before .before .before .loop .v) (c .before .before .before .before .before .before .before .before .before .before .before .pre .within) (c .before .before .before .before .before .before .before .loop .inv .1 .high))) (c .before .before .put-sequence .ensures))
+loop-again c = (
+  omega (arith, at-loop .loop .inv .0, bytes-more (at-loop .loop .v) (start .args .vs .now)),
+  growing-more _ _ (at-loop .loop .inv .1) (at-loop-test .loop-test .taken)
+      (fields-more (seqIn (start .args .vs .now) (start .args .p .now)) (at-loop .loop .v))
+      (omega (
+        arith,
+        at-loop .loop .inv .0,
+        seqs-before (start .args .vs .now) (start .args .p .now) (at-loop .loop .v) (start .pre .within)
+            (at-loop .loop .inv .1 .high),
+      )) (at-put-sequence .put-sequence .ensures),
+)
+  where
+    at-put-sequence : tie.After-put-sequence Inv-loop μ-loop
+    at-put-sequence = search
+
+    at-loop-test : tie.In-loop Inv-loop μ-loop
+    at-loop-test = let c = at-put-sequence in search
+
+    at-loop : tie.At-loop Inv-loop μ-loop
+    at-loop = let c = at-loop-test in search
+
+    start : tie.Start Inv-loop μ-loop
+    start = let c = at-loop in search
+
+cast-start : tie.Need-cast-start Inv-loop μ-loop
+cast-start c = omega (arith, c .shared-slice-known3 .given (2 * at-loop .loop .v))
+  where
+    at-loop : tie.At-loop Inv-loop μ-loop
+    at-loop = search
+
+cast-len : tie.Need-cast-len Inv-loop μ-loop
+cast-len c = omega (arith, c .shared-slice-known4 .given (2 * at-loop .loop .v + 1))
+  where
+    at-loop : tie.At-loop Inv-loop μ-loop
+    at-loop = search
+
+returns : tie.Need-returns Inv-loop μ-loop
+returns c =
+    let at-loop : tie.At-loop Inv-loop μ-loop = search in
+    growing-end (at-loop .loop .inv .1) (c .loop-test .left)
 
 pub put-sequences-spec : {M : Type 1} → statement M
 put-sequences-spec =
@@ -34,19 +122,19 @@ put-sequences-spec =
     Inv-loop
     μ-loop
     loop-holds
-    (λ c. omega (arith, c .before .before .before .before .before .pre .vs-room))
-    (λ c. omega (arith, c .before .before .before .before .before .pre .vs-room))
-    (λ c. omega (arith, c .before .before .before .before .before .before .pre .vs-room))
-    (λ c. omega (arith, c .shared-slice-known3 .given (2 * c .before .before .loop .v)))
-    (λ c. omega (arith, c .before .before .before .before .before .before .pre .vs-room))
-    (λ c. omega (arith, c .before .before .before .before .before .before .pre .vs-room))
-    (λ c. omega (arith, c .before .before .before .before .before .before .pre .vs-room))
-    (λ c. omega (arith, c .before .before .before .before .before .before .before .pre .vs-room))
-    (λ c. omega (arith, c .shared-slice-known4 .given (2 * c .before .before .before .loop .v + 1)))
+    (λ c. let start : tie.Start Inv-loop μ-loop = search in omega (arith, start .pre .vs-room))
+    (λ c. let start : tie.Start Inv-loop μ-loop = search in omega (arith, start .pre .vs-room))
+    (λ c. let start : tie.Start Inv-loop μ-loop = search in omega (arith, start .pre .vs-room))
+    cast-start
+    (λ c. let start : tie.Start Inv-loop μ-loop = search in omega (arith, start .pre .vs-room))
+    (λ c. let start : tie.Start Inv-loop μ-loop = search in omega (arith, start .pre .vs-room))
+    (λ c. let start : tie.Start Inv-loop μ-loop = search in omega (arith, start .pre .vs-room))
+    (λ c. let start : tie.Start Inv-loop μ-loop = search in omega (arith, start .pre .vs-room))
+    cast-len
     put-sequence-requires
     add-to
     (λ c. omega arith)
     (λ c. omega arith)
     loop-again
-    (λ c. growing-len (c .before .loop .inv .1))
-    (λ c. growing-end (c .before .loop .inv .1) (c .loop-test .left)))
+    (λ c. let at-loop : tie.At-loop Inv-loop μ-loop = search in growing-len (at-loop .loop .inv .1))
+    returns)

@@ -13,6 +13,45 @@ Inv-loop vs n total₀ v₀ total v = (v ≤ n) × (total ≡ bytesIn v vs)
 abbrev μ-loop : tie.MeasureT-loop
 μ-loop vs n total₀ v₀ total v = n - v
 
+cast-total : tie.Need-cast-total Inv-loop μ-loop
+cast-total c = omega (arith, c .shared-slice-known .given (2 * at-loop .loop .v + 1))
+  where
+    at-loop : tie.At-loop Inv-loop μ-loop
+    at-loop = search
+
+add-total-2 : tie.Need-add-total-2 Inv-loop μ-loop
+add-total-2 c =
+    omega
+    (arith, bytes-below (start .args .n) (at-loop .loop .v) (start .args .vs .now) (at-loop-test .loop-test .taken))
+  where
+    at-loop-test : tie.In-loop Inv-loop μ-loop
+    at-loop-test = search
+
+    at-loop : tie.At-loop Inv-loop μ-loop
+    at-loop = let c = at-loop-test in search
+
+    start : tie.Start Inv-loop μ-loop
+    start = let c = at-loop in search
+
+loop-again : tie.Need-loop-again Inv-loop μ-loop
+loop-again c = (omega arith, omega (arith, bytes-more (at-loop .loop .v) (start .args .vs .now)))
+  where
+    at-loop : tie.At-loop Inv-loop μ-loop
+    at-loop = search
+
+    start : tie.Start Inv-loop μ-loop
+    start = let c = at-loop in search
+
+returns : tie.Need-returns Inv-loop μ-loop
+returns c =
+    at-loop .loop .inv .1 ∙ ap (λ (x : ℕ). bytesIn x (start .args .vs .now)) (omega (arith, at-loop .loop .inv .0))
+  where
+    at-loop : tie.At-loop Inv-loop μ-loop
+    at-loop = search
+
+    start : tie.Start Inv-loop μ-loop
+    start = let c = at-loop in search
+
 pub sequence-bytes-spec : {M : Type 1} → statement M
 sequence-bytes-spec =
     tie.close
@@ -24,9 +63,9 @@ sequence-bytes-spec =
     (λ c. omega arith)
     (λ c. omega arith)
     (λ c. omega arith)
-    (λ c. omega (arith, c .shared-slice-known .given (2 * c .before .before .loop .v + 1)))
-    (λ c. omega (arith, bytes-below (c .before .before .before .args .n) (c .before .before .loop .v) (c .before .before .before .args .vs .now) (c .before .loop-test .taken)))
+    cast-total
+    add-total-2
     (λ c. omega arith)
     (λ c. omega arith)
-    (λ c. (omega arith, omega (arith, bytes-more (c .before .before .loop .v) (c .before .before .before .args .vs .now))))
-    (λ c. c .before .loop .inv .1 ∙ ap (λ (x : ℕ). bytesIn x (c .before .before .args .vs .now)) (omega (arith, c .before .loop .inv .0))))
+    loop-again
+    returns)

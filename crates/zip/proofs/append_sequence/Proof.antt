@@ -6,7 +6,24 @@ use Rattle.zip.proofs.append_sequence.Statement.{statement}
 use Rattle.zip.proofs.append_sequence.Tie as tie
 
 returns : tie.Need-returns
-returns c = copied (c .before .before .before .before .before .before .before .before .pre) (c .before .before .before .before .before .vertex-start .ensures) (c .before .before .before .before .vertex-len .ensures) (c .before .before .copy-within .ensures) (c .before .before .copy-within .kept .0)
+returns c =
+    let at-copy-within : tie.After-copy-within = search in
+    let at-vertex-len : tie.After-vertex-len = search in
+    let at-vertex-start : tie.After-vertex-start = search in
+    let start : tie.Start = search in
+    copied
+    (start .pre)
+    (at-vertex-start .vertex-start .ensures)
+    (at-vertex-len .vertex-len .ensures)
+    (at-copy-within .copy-within .ensures)
+    (at-copy-within .copy-within .kept .0)
+
+copy-within-requires : tie.Need-copy-within-requires
+copy-within-requires c κs =
+    let at-vertex-len : tie.After-vertex-len = search in
+    let at-vertex-start : tie.After-vertex-start = search in
+    let start : tie.Start = search in
+    copy-apart (start .pre) (at-vertex-start .vertex-start .ensures) (at-vertex-len .vertex-len .ensures)
 
 pub append-sequence-spec : {M : Type 1} → statement M
 append-sequence-spec =
@@ -14,7 +31,7 @@ append-sequence-spec =
     (tie.spec
     (λ c κs. search needs)
     (λ c κs. search needs)
-    (λ c κs. copy-apart (c .before .before .before .before .before .pre) (c .before .before .vertex-start .ensures) (c .before .vertex-len .ensures))
+    copy-within-requires
     (λ c. search needs)
     (λ c. search needs)
     returns)

@@ -13,6 +13,49 @@ Inv-loop es₀ m n heads nexts last start e₀ es e = Moving m es₀ es last sta
 abbrev μ-loop : tie.MeasureT-loop
 μ-loop es₀ m n heads nexts last start e₀ es e = m - e
 
+cast-e : tie.Need-cast-e Inv-loop μ-loop
+cast-e c = omega (arith, c .shared-slice-known .given (2 * start .args .last))
+  where
+    start : tie.Start Inv-loop μ-loop
+    start = search
+
+slice-write-es : tie.Need-slice-write-es Inv-loop μ-loop
+slice-write-es c = omega (arith, start .pre .1 .room, at-loop .loop .inv .len)
+  where
+    at-loop : tie.At-loop Inv-loop μ-loop
+    at-loop = search
+
+    start : tie.Start Inv-loop μ-loop
+    start = let c = at-loop in search
+
+cast-e-2 : tie.Need-cast-e-2 Inv-loop μ-loop
+cast-e-2 c = omega (arith, c .shared-slice-known2 .given (2 * at-loop .loop .e))
+  where
+    at-loop : tie.At-loop Inv-loop μ-loop
+    at-loop = search
+
+loop-less : tie.Need-loop-less Inv-loop μ-loop
+loop-less c = omega (arith, later (start .pre .1) _ (at-loop-test .loop-test .taken))
+  where
+    at-loop-test : tie.In-loop Inv-loop μ-loop
+    at-loop-test = search
+
+    start : tie.Start Inv-loop μ-loop
+    start = let c = at-loop-test in search
+
+loop-again : tie.Need-loop-again Inv-loop μ-loop
+loop-again c =
+    let at-loop-test : tie.In-loop Inv-loop μ-loop = search in
+    let at-loop : tie.At-loop Inv-loop μ-loop = search in
+    let start : tie.Start Inv-loop μ-loop = search in
+    moving-more (start .pre .1) (at-loop .loop .inv) (at-loop-test .loop-test .taken) _ refl
+
+returns : tie.Need-returns Inv-loop μ-loop
+returns c =
+    let at-loop : tie.At-loop Inv-loop μ-loop = search in
+    let start : tie.Start Inv-loop μ-loop = search in
+    moving-end (start .pre .1) (at-loop .loop .inv) (c .loop-test .left)
+
 pub move-edges-spec : {M : Type 1} → statement M
 move-edges-spec =
     tie.close
@@ -21,17 +64,17 @@ move-edges-spec =
     μ-loop
     (λ c. omega (arith, c .pre .1 .heads-room))
     (λ c. omega (arith, c .pre .1 .heads-room))
-    (λ c. omega (arith, c .before .pre .1 .heads-room))
-    (λ c. omega (arith, c .shared-slice-known .given (2 * c .before .args .last)))
-    (λ c. moving-start (c .before .pre .1) _ (c .before .pre .0) refl)
-    (λ c. omega (arith, c .before .before .before .pre .1 .room))
-    (λ c. omega (arith, c .before .before .before .pre .1 .room))
-    (λ c. omega (arith, c .before .before .before .pre .1 .room, c .before .loop .inv .len))
-    (λ c. omega (arith, c .before .before .before .pre .1 .nexts-room))
-    (λ c. omega (arith, c .before .before .before .pre .1 .nexts-room))
-    (λ c. omega (arith, c .before .before .before .before .pre .1 .nexts-room))
-    (λ c. omega (arith, c .shared-slice-known2 .given (2 * c .before .before .loop .e)))
-    (λ c. omega (arith, later (c .before .before .before .before .pre .1) _ (c .before .loop-test .taken)))
-    (λ c. moving-more (c .before .before .before .before .pre .1) (c .before .before .loop .inv) (c .before .loop-test .taken) _ refl)
+    (λ c. let start : tie.Start Inv-loop μ-loop = search in omega (arith, start .pre .1 .heads-room))
+    cast-e
+    (λ c. let start : tie.Start Inv-loop μ-loop = search in moving-start (start .pre .1) _ (start .pre .0) refl)
+    (λ c. let start : tie.Start Inv-loop μ-loop = search in omega (arith, start .pre .1 .room))
+    (λ c. let start : tie.Start Inv-loop μ-loop = search in omega (arith, start .pre .1 .room))
+    slice-write-es
+    (λ c. let start : tie.Start Inv-loop μ-loop = search in omega (arith, start .pre .1 .nexts-room))
+    (λ c. let start : tie.Start Inv-loop μ-loop = search in omega (arith, start .pre .1 .nexts-room))
+    (λ c. let start : tie.Start Inv-loop μ-loop = search in omega (arith, start .pre .1 .nexts-room))
+    cast-e-2
+    loop-less
+    loop-again
     (λ c. omega arith)
-    (λ c. moving-end (c .before .before .before .pre .1) (c .before .loop .inv) (c .loop-test .left)))
+    returns)

@@ -2,7 +2,14 @@
 use native.Mathlib.Omega.{arith}
 use mathlib.Core.Path.{refl}
 use Prim.Native.Nat.{_-_}
-use Rattle.zip.proofs.RemapLaws.{Remapping, remapping-start, remap-below, remapping-yes, remapping-no, remapping-end}
+use Rattle.zip.proofs.RemapLaws.{
+  Remapping,
+  remapping-start,
+  remap-below,
+  remapping-yes,
+  remapping-no,
+  remapping-end,
+}
 use Rattle.zip.proofs.remap_numbers.Statement.{statement}
 use Rattle.zip.proofs.remap_numbers.Tie as tie
 
@@ -13,7 +20,76 @@ abbrev μ-loop : tie.MeasureT-loop
 μ-loop starts₀ i count map n j₀ t₀ starts j t = count - t
 
 shared-slice-read-new : tie.Need-shared-slice-read-new Inv-loop μ-loop
-shared-slice-read-new c = omega (arith, remap-below (c .before .before .before .before .pre) (c .before .before .before .loop .inv) (c .before .before .loop-test .taken) refl, c .before .before .before .before .pre .mp-room)
+shared-slice-read-new c =
+    omega
+    (arith, remap-below (start .pre) (at-loop .loop .inv) (at-loop-test .loop-test .taken) refl, start .pre .mp-room)
+  where
+    at-loop-test : tie.In-loop Inv-loop μ-loop
+    at-loop-test = search
+
+    at-loop : tie.At-loop Inv-loop μ-loop
+    at-loop = let c = at-loop-test in search
+
+    start : tie.Start Inv-loop μ-loop
+    start = let c = at-loop in search
+
+slice-read-v : tie.Need-slice-read-v Inv-loop μ-loop
+slice-read-v c = omega (arith, at-loop .loop .inv .len, start .pre .room)
+  where
+    at-loop : tie.At-loop Inv-loop μ-loop
+    at-loop = search
+
+    start : tie.Start Inv-loop μ-loop
+    start = let c = at-loop in search
+
+cast-v : tie.Need-cast-v Inv-loop μ-loop
+cast-v c = omega (arith, c .slice-known .given (at-loop .loop .t))
+  where
+    at-loop : tie.At-loop Inv-loop μ-loop
+    at-loop = search
+
+mul-new : tie.Need-mul-new Inv-loop μ-loop
+mul-new c =
+    omega
+    (arith, remap-below (start .pre) (at-loop .loop .inv) (at-loop-test .loop-test .taken) refl, start .pre .mp-room)
+  where
+    at-loop-test : tie.In-loop Inv-loop μ-loop
+    at-loop-test = search
+
+    at-loop : tie.At-loop Inv-loop μ-loop
+    at-loop = let c = at-loop-test in search
+
+    start : tie.Start Inv-loop μ-loop
+    start = let c = at-loop in search
+
+slice-write-starts : tie.Need-slice-write-starts Inv-loop μ-loop
+slice-write-starts c = omega (arith, at-loop .loop .inv .len, at-loop .loop .inv .mid, start .pre .room)
+  where
+    at-loop : tie.At-loop Inv-loop μ-loop
+    at-loop = search
+
+    start : tie.Start Inv-loop μ-loop
+    start = let c = at-loop in search
+
+loop-again : tie.Need-loop-again Inv-loop μ-loop
+loop-again c =
+    let at-loop-test : tie.In-loop Inv-loop μ-loop = search in
+    let at-loop : tie.At-loop Inv-loop μ-loop = search in
+    let start : tie.Start Inv-loop μ-loop = search in
+    remapping-yes (start .pre) (at-loop .loop .inv) (at-loop-test .loop-test .taken) refl refl (c .if1 .taken)
+
+loop-again-2 : tie.Need-loop-again-2 Inv-loop μ-loop
+loop-again-2 c =
+    let at-loop-test : tie.In-loop Inv-loop μ-loop = search in
+    let at-loop : tie.At-loop Inv-loop μ-loop = search in
+    let start : tie.Start Inv-loop μ-loop = search in
+    remapping-no (start .pre) (at-loop .loop .inv) (at-loop-test .loop-test .taken) refl refl (c .if1 .left)
+
+returns : tie.Need-returns Inv-loop μ-loop
+returns c =
+    let at-loop : tie.At-loop Inv-loop μ-loop = search in
+    let start : tie.Start Inv-loop μ-loop = search in
+    remapping-end (start .pre) (at-loop .loop .inv) (c .loop-test .left)
 
 pub remap-numbers-spec : {M : Type 1} → statement M
 remap-numbers-spec =
@@ -23,18 +99,18 @@ remap-numbers-spec =
     μ-loop
     (λ c. remapping-start (c .pre))
     (λ c. omega arith)
-    (λ c. omega (arith, c .before .before .loop .inv .len, c .before .before .before .pre .room))
-    (λ c. omega (arith, c .slice-known .given (c .before .before .loop .t)))
+    slice-read-v
+    cast-v
     (λ c. omega arith)
-    (λ c. omega (arith, remap-below (c .before .before .before .pre) (c .before .before .loop .inv) (c .before .loop-test .taken) refl, c .before .before .before .pre .mp-room))
+    mul-new
     shared-slice-read-new
     (λ c. omega arith)
     (λ c. omega arith)
-    (λ c. omega (arith, c .before .before .before .before .loop .inv .len, c .before .before .before .before .loop .inv .mid, c .before .before .before .before .before .pre .room))
+    slice-write-starts
     (λ c. omega arith)
     (λ c. omega arith)
-    (λ c. remapping-yes (c .before .before .before .before .before .pre) (c .before .before .before .before .loop .inv) (c .before .before .before .loop-test .taken) refl refl (c .if1 .taken))
+    loop-again
     (λ c. omega arith)
-    (λ c. remapping-no (c .before .before .before .before .before .pre) (c .before .before .before .before .loop .inv) (c .before .before .before .loop-test .taken) refl refl (c .if1 .left))
+    loop-again-2
     (λ c. omega arith)
-    (λ c. remapping-end (c .before .before .pre) (c .before .loop .inv) (c .loop-test .left)))
+    returns)

@@ -13,7 +13,6 @@ Inv-loop out expected i₀ i = (i ≤ length expected) × (length expected ≤ l
 abbrev μ-loop : tie.MeasureT-loop
 μ-loop out expected i₀ i = length expected - i
 
--- src/main.rt:113:9
 returns : tie.Need-returns Inv-loop μ-loop
 returns c = tt
 
