@@ -30,14 +30,16 @@ use Rattle.accept.specs.Accept.{RoomFor, Roomy, ReadAs}
 use Rattle.accept.specs.declared.Read.{Read}
 
 module _ (bs : List ℕ) {heads nexts : List ℕ} where
-  pub read-refused : {i : ℕ} {r : Read} {es vs p : List ℕ} → i ≡ refusalOf (take 5 (recordCauses sequenceOnly bs)) → (i ≡ 0 → ⊥) → r .number ≡ i → ReadAs bs heads nexts r es vs p
+  pub read-refused : {i : ℕ} {r : Read} {es vs p : List ℕ} → i ≡ refusalOf (take 5 (recordCauses sequenceOnly bs)) → (i ≡ 0 → ⊥) → r .number
+      ≡ i → ReadAs bs heads nexts r es vs p
   read-refused {i} e o q = record {
     number = q ∙ sym (refused-early sequenceOnly bs (sym e) (Rattle.laws.proofs.ListLaws.byOrder 1 i (λ b. b) (λ b. absurd (o (omega arith)))));
     is = λ z. absurd (o (sym q ∙ z));
     holds = λ z. absurd (o (sym q ∙ z));
   }
 
-  module _ (layout : refusalOf (take 5 (recordCauses sequenceOnly bs)) ≡ 0) {es vs p nodes mp : List ℕ} (R : Room es vs p heads nexts nodes mp) (Y : Roomy bs heads nexts) where
+  module _ (layout : refusalOf (take 5 (recordCauses sequenceOnly bs)) ≡ 0) {es vs p nodes mp : List ℕ} (R :
+      Room es vs p heads nexts nodes mp) (Y : Roomy bs heads nexts) where
     formed : WellFormed bs
     formed = well-formed sequenceOnly bs layout
 
@@ -76,30 +78,52 @@ module _ (bs : List ℕ) {heads nexts : List ℕ} where
       read-markable = record { room = omega (arith, n-room, R .map-room); small = omega (arith, n-room, m-room, R .small) }
 
       pub read-peelable : {mp′ : List ℕ} → length mp′ ≡ length mp → Peelable (h .n) mp′ nodes
-      read-peelable l = record { degrees-room = omega (arith, l, n-room, R .map-room); queue-room = omega (arith, n-room, m-room, R .nodes-room); small = omega (arith, n-room, m-room, R .small) }
+      read-peelable l = record {
+        degrees-room = omega (arith, l, n-room, R .map-room);
+        queue-room =
+            omega (arith, n-room, m-room, R .nodes-room);
+        small = omega (arith, n-room, m-room, R .small);
+      }
 
       doubled-is : doubled bs ≡ doubledEdge (edgesIn (h .m) es′)
       unfolding doubled
-      doubled-is = (λ j. doubledEdge ((sym (L .is) j) .edges) || (eqb (kindOf bs) 0 && equalKmers (decode bs .verts))) ∙ rw (ne-eqb (kindOf bs) 0 (λ q. omega (arith, sequence-kind bs layout))) (or-false _)
+      doubled-is = (λ j. doubledEdge ((sym (L .is) j) .edges) || (eqb (kindOf bs) 0 && equalKmers (decode bs .verts)))
+          ∙ rw (ne-eqb (kindOf bs) 0 (λ q. omega (arith, sequence-kind bs layout))) (or-false _)
         where
           or-false : (b : Bool) → b || false ≡ b
           or-false true = refl
           or-false false = refl
 
-      pub read-6 : {d : Bool} {r : Read} → d ≡ doubledEdge (edgesIn (h .m) es′) → d ≡ true → r .number ≡ 6 → {es₂ vs₂ p₂ : List ℕ} → ReadAs bs heads nexts r es₂ vs₂ p₂
-      read-6 a t q = record { number = q ∙ sym (refused-6 sequenceOnly bs layout (doubled-is ∙ sym a ∙ t)); is = λ y. absurd (omega arith); holds = λ y. absurd (omega arith) }
+      pub read-6 : {d : Bool} {r : Read} → d ≡ doubledEdge (edgesIn (h .m) es′) → d ≡ true → r .number ≡ 6 → {es₂ vs₂ p₂ : List ℕ}
+          → ReadAs bs heads nexts r es₂ vs₂ p₂
+      read-6 a t q = record {
+        number = q ∙ sym (refused-6 sequenceOnly bs layout (doubled-is ∙ sym a ∙ t));
+        is = λ y. absurd (omega arith);
+        holds = λ y. absurd (omega arith);
+      }
 
       module _ {d : Bool} (a : d ≡ doubledEdge (edgesIn (h .m) es′)) (t : d ≡ false) {c : Bool} (C : HasCycle (h .m) (h .n) es′ c) where
         cycle-is : hasCycle (decode bs) ≡ c
         cycle-is = ap hasCycle (sym (L .is)) ∙ sym (C .is (h .k .0) vs′ p′)
 
         pub read-7 : {r : Read} → c ≡ true → r .number ≡ 7 → {es₂ vs₂ p₂ : List ℕ} → ReadAs bs heads nexts r es₂ vs₂ p₂
-        read-7 s q = record { number = q ∙ sym (refused-7 sequenceOnly bs layout (doubled-is ∙ sym a ∙ t) (cycle-is ∙ s)); is = λ y. absurd (omega arith); holds = λ y. absurd (omega arith) }
+        read-7 s q = record {
+          number = q ∙ sym (refused-7 sequenceOnly bs layout (doubled-is ∙ sym a ∙ t) (cycle-is ∙ s));
+          is = λ y.
+              absurd (omega arith);
+          holds = λ y. absurd (omega arith);
+        }
 
         pub read-0 : c ≡ false → ReadAs bs heads nexts record { number = 0; held = h } es′ vs′ p′
         read-0 s =
             let g = read-good bs formed (doubled-is ∙ sym a ∙ t) (cycle-is ∙ s) in
-            let fit : Fit (decode bs) heads nexts = record { good = g; light = omega (arith, read-light bs formed (enough .vertices) (enough .weight)); surplus = omega (arith, load-is, enough .edges) } in
+            let fit : Fit (decode bs) heads nexts = record {
+              good = g;
+              light =
+                  omega (arith, read-light bs formed (enough .vertices) (enough .weight));
+              surplus = omega (arith, load-is, enough .edges);
+            }
+            in
             record {
               number = sym (accepted sequenceOnly bs layout (doubled-is ∙ sym a ∙ t) (cycle-is ∙ s));
               is = λ _. L .is;

@@ -11,7 +11,9 @@ use Rattle.defs.specs.Lists.{keepIf}
 use Rattle.defs.specs.SeqGraph.{Edge, Graph, nodeCount}
 use Rattle.defs.specs.Zip.{Work, zipLinearChains}
 use Rattle.defs.specs.Simplify.{sequenceBytes, simplifyGraphFull}
-use Rattle.defs.specs.Cleanup.{referenceSourceVertex, referenceSinkVertex, removeSingletonOrphanVertices, removeVerticesNotConnectedToRef, removePathsNotConnectedToRef, withDummyVertex, beforeChoice, choiceGraph, afterChoice, cleanupSeqGraph, withoutNonRefEdges, cleanBetween, cleanNonRefPaths}
+use Rattle.defs.specs.Cleanup.{referenceSourceVertex, referenceSinkVertex, removeSingletonOrphanVertices, removeVerticesNotConnectedToRef}
+use Rattle.defs.specs.Cleanup.{removePathsNotConnectedToRef, withDummyVertex, beforeChoice, choiceGraph, afterChoice, cleanupSeqGraph}
+use Rattle.defs.specs.Cleanup.{withoutNonRefEdges, cleanBetween, cleanNonRefPaths}
 use Rattle.defs.specs.Record.{RecordKind, sequenceGraph, kOf, encode, decode}
 use Rattle.defs.specs.Refusals.{sequenceOnly, recordRefusal}
 use Rattle.laws.proofs.Fuel.{Good}
@@ -47,7 +49,8 @@ module _ {k : ℕ} where
       let w : Work = record { graph = g; rewrites = 0 } in
       let g₁ = (zipLinearChains w) .graph in
       let g₂ = removeSingletonOrphanVertices g₁ in
-      simplify-fields (removeVerticesNotConnectedToRef g₂) (connected-keeps (Fields k) compact-fields g₂ (orphans-keep (Fields k) compact-fields (suc (nodeCount g₁)) g₁ (zip-kept (Fields k) (fields-kept k) w F)))
+      simplify-fields (removeVerticesNotConnectedToRef g₂) (connected-keeps (Fields k) compact-fields g₂
+      (orphans-keep (Fields k) compact-fields (suc (nodeCount g₁)) g₁ (zip-kept (Fields k) (fields-kept k) w F)))
 
   dummy-fields : (g : Graph) → Fields k g → Fields k (withDummyVertex g)
   dummy-fields g F = byList (g .verts)
@@ -63,7 +66,8 @@ module _ {k : ℕ} where
   unfolding afterChoice removePathsNotConnectedToRef
   after-fields w none t F = F
   after-fields w (some s) none F = F
-  after-fields w (some s) (some t) F = dummy-fields ((simplifyGraphFull 10 (removePathsNotConnectedToRef (w .graph) s t)) .graph) (simplify-fields (removePathsNotConnectedToRef (w .graph) s t) (compact-fields _ (w .graph) F))
+  after-fields w (some s) (some t) F = dummy-fields ((simplifyGraphFull 10 (removePathsNotConnectedToRef (w .graph) s t)) .graph)
+      (simplify-fields (removePathsNotConnectedToRef (w .graph) s t) (compact-fields _ (w .graph) F))
 
   cleanup-fields : (g : Graph) → Fields k g → Fields k ((cleanupSeqGraph g) .graph)
   unfolding cleanupSeqGraph choiceGraph
@@ -107,7 +111,8 @@ module _ (bs : List ℕ) (small : Bytes bs) (ok : recordRefusal sequenceOnly bs 
   decoded-fields = record { k-is = refl; supports = λ e m. (decoded-encodable bs small (accepted-layout sequenceOnly bs ok)) .each e m .support }
 
   pub decoded-narrow : Narrow (decode bs)
-  decoded-narrow = limits-narrow (decode bs) (accepted-good sequenceOnly bs ok) (accepted-limits sequenceOnly bs ok (sequence-kind bs (accepted-early sequenceOnly bs ok)))
+  decoded-narrow = limits-narrow (decode bs) (accepted-good sequenceOnly bs ok)
+      (accepted-limits sequenceOnly bs ok (sequence-kind bs (accepted-early sequenceOnly bs ok)))
 
   k-small : kOf bs ≤ 128
   k-small = (accepted-layout sequenceOnly bs ok) .k-most
@@ -115,7 +120,8 @@ module _ (bs : List ℕ) (small : Bytes bs) (ok : recordRefusal sequenceOnly bs 
   simplified-fields : Fields (kOf bs) ((simplifyGraphFull 10 (decode bs)) .graph)
   simplified-fields = simplify-fields (decode bs) decoded-fields
 
-  pub simplify-read-back : (status : ℕ) → decode (encode sequenceGraph status ((simplifyGraphFull 10 (decode bs)) .graph)) ≡ (simplifyGraphFull 10 (decode bs)) .graph
+  pub simplify-read-back : (status : ℕ) → decode (encode sequenceGraph status ((simplifyGraphFull 10 (decode bs)) .graph))
+      ≡ (simplifyGraphFull 10 (decode bs)) .graph
   simplify-read-back status =
       let N = simplify-narrow (decode bs) decoded-narrow in
       decode-encode sequenceGraph status _ (fields-encodable _ k-small simplified-fields (narrow-fits _ N) (N .few))
@@ -125,10 +131,12 @@ module _ (bs : List ℕ) (small : Bytes bs) (ok : recordRefusal sequenceOnly bs 
 
   pub cleanup-read-back : (status : ℕ) → decode (encode sequenceGraph status ((cleanupSeqGraph (decode bs)) .graph)) ≡ (cleanupSeqGraph (decode bs)) .graph
   cleanup-read-back status =
-      decode-encode sequenceGraph status _ (fields-encodable _ k-small cleaned-fields (cleanup-fits (decode bs) decoded-narrow) (cleanup-bytes (decode bs) decoded-narrow))
+      decode-encode sequenceGraph status _ (fields-encodable _ k-small cleaned-fields (cleanup-fits (decode bs) decoded-narrow)
+      (cleanup-bytes (decode bs) decoded-narrow))
 
   clean-paths-fields : Fields (kOf bs) (cleanNonRefPaths (decode bs))
   clean-paths-fields = clean-fields (decode bs) decoded-fields
 
-  pub clean-paths-read-back : Narrow (cleanNonRefPaths (decode bs)) → (status : ℕ) → decode (encode sequenceGraph status (cleanNonRefPaths (decode bs))) ≡ cleanNonRefPaths (decode bs)
+  pub clean-paths-read-back : Narrow (cleanNonRefPaths (decode bs)) → (status : ℕ)
+      → decode (encode sequenceGraph status (cleanNonRefPaths (decode bs))) ≡ cleanNonRefPaths (decode bs)
   clean-paths-read-back N status = decode-encode sequenceGraph status _ (fields-encodable _ k-small clean-paths-fields (narrow-fits _ N) (N .few))

@@ -8,12 +8,16 @@ use lib.ListN.{length}
 use Rattle.defs.specs.Lists.{keepIf, upFrom, elemOf}
 use Rattle.defs.specs.SeqGraph.{Graph, nodeCount, remapNumbers, Change, applyChange}
 use Rattle.defs.specs.Zip.{Work, isLinearChainStart, linearChain, mergeLinearChain, zipStarts, zipLinearChains}
-use Rattle.defs.specs.Rewrites.{mergesDiamond, diamondChange, tryMergeDiamond, mergesTails, tailsChange, tryMergeTails, splitsSuffix, splitChange, trySplitCommonSuffix, mergesSuffices, mergeChange, tryMergeCommonSuffices}
+use Rattle.defs.specs.Rewrites.{mergesDiamond, diamondChange, tryMergeDiamond, mergesTails, tailsChange, tryMergeTails, splitsSuffix}
+use Rattle.defs.specs.Rewrites.{splitChange, trySplitCommonSuffix, mergesSuffices, mergeChange, tryMergeCommonSuffices}
 use Rattle.defs.specs.SeqGraph.{incomingNodes}
-use Rattle.defs.specs.Simplify.{firstAt, transformUntilComplete, Split, firstSplit, splitUntilComplete, simplifyGraphOnce, roundsFrom, simplifyGraphFull, fuelFor}
+use Rattle.defs.specs.Simplify.{firstAt, transformUntilComplete, Split, firstSplit, splitUntilComplete, simplifyGraphOnce, roundsFrom}
+use Rattle.defs.specs.Simplify.{simplifyGraphFull, fuelFor}
 use Rattle.laws.proofs.Walks.{byTest}
 use Rattle.laws.proofs.ListLaws.{given-some}
-use Rattle.laws.proofs.Whole.{byOption, byList, again, firstAt-some, until-zero, until-none, until-some, firstSplit-zero, firstSplit-tried, firstSplit-none, firstSplit-some, no-some, splitAll-zero, splitAll-none, splitAll-some, zip-nil, zip-cons, zip-zero, zip-empty, rounds-end, rounds-turn}
+use Rattle.laws.proofs.Whole.{byOption, byList, again, firstAt-some, until-zero, until-none, until-some, firstSplit-zero, firstSplit-tried}
+use Rattle.laws.proofs.Whole.{firstSplit-none, firstSplit-some, no-some, splitAll-zero, splitAll-none, splitAll-some, zip-nil, zip-cons}
+use Rattle.laws.proofs.Whole.{zip-zero, zip-empty, rounds-end, rounds-turn}
 
 -- kept by the change of each of the four rewrites, and by a chain that is joined
 pub record KeptByEach (P : Graph → Type 0) : Type 0 where
@@ -41,7 +45,8 @@ module _ (P : Graph → Type 0) (each : KeptByEach P) where
   merge-at g g′ v h t = rw ((given-some (mergesSuffices g v) (applyChange g (mergeChange g v (incomingNodes g v))) g′ t) .1) at (each .merge g v h)
 
   module _ (f : Graph → ℕ → Option Graph) (one : (g g′ : Graph) (v : ℕ) → P g → f g v ≡ some g′ → P g′) where
-    until-turn : (fuel : ℕ) (w : Work) → P (w .graph) → ((a : Graph) → P a → P ((transformUntilComplete f fuel (again w a)) .graph)) → P ((transformUntilComplete f (suc fuel) w) .graph)
+    until-turn : (fuel : ℕ) (w : Work) → P (w .graph) → ((a : Graph) → P a → P ((transformUntilComplete f fuel (again w a)) .graph))
+        → P ((transformUntilComplete f (suc fuel) w) .graph)
     until-turn fuel w h ih = byOption (firstAt (f (w .graph)) 0 (nodeCount (w .graph)))
         (λ t. rw (until-none f fuel w t) h)
         (λ a t. let i = firstAt-some (f (w .graph)) 0 (nodeCount (w .graph)) a t in
@@ -62,7 +67,9 @@ module _ (P : Graph → Type 0) (each : KeptByEach P) where
       (λ y. firstSplit-kept g (v ∷ tried) (suc v) n s h (sym (firstSplit-none g tried v n t y) ∙ e))
       (λ a y. split-at g (s .graph) v h (y ∙ ap some (ap (λ (s : Split). s .graph) (Option·some-injective _ s (sym (firstSplit-some g tried v n a t y) ∙ e))))))
 
-  splits-turn : (fuel : ℕ) (tried : List ℕ) (w : Work) → P (w .graph) → ((l : List ℕ) (a : Graph) → P a → P ((splitUntilComplete fuel l (again w a)) .graph)) → P ((splitUntilComplete (suc fuel) tried w) .graph)
+  splits-turn : (fuel : ℕ) (tried : List ℕ) (w : Work) → P (w .graph)
+      → ((l : List ℕ) (a : Graph) → P a → P ((splitUntilComplete fuel l (again w a)) .graph))
+      → P ((splitUntilComplete (suc fuel) tried w) .graph)
   splits-turn fuel tried w h ih = byOption (firstSplit (w .graph) tried 0 (nodeCount (w .graph)))
       (λ t. rw (splitAll-none fuel tried w t) h)
       (λ s t. rw (splitAll-some fuel tried w s t) (ih (s .tried) (s .graph) (firstSplit-kept (w .graph) tried 0 (nodeCount (w .graph)) s h t)))
@@ -74,7 +81,8 @@ module _ (P : Graph → Type 0) (each : KeptByEach P) where
   splits-kept zero tried w h = splits-end tried w h
   splits-kept (suc fuel) tried w h = splits-turn fuel tried w h (λ l a s. splits-kept fuel l (again w a) s)
 
-  starts-turn : (fuel : ℕ) (s : ℕ) (ss : List ℕ) (w : Work) → P (w .graph) → P ((zipStarts fuel ss w) .graph) → ((l : List ℕ) (a : Graph) → P a → P ((zipStarts fuel l (again w a)) .graph))
+  starts-turn : (fuel : ℕ) (s : ℕ) (ss : List ℕ) (w : Work) → P (w .graph) → P ((zipStarts fuel ss w) .graph)
+      → ((l : List ℕ) (a : Graph) → P a → P ((zipStarts fuel l (again w a)) .graph))
       → P ((zipStarts (suc fuel) (s ∷ ss) w) .graph)
   starts-turn fuel s ss w h i₁ i₂ = byList (linearChain (w .graph) s)
       (λ t. rw (zip-nil fuel s ss w t) i₁)
@@ -93,7 +101,8 @@ module _ (P : Graph → Type 0) (each : KeptByEach P) where
 
   pub zip-kept : (w : Work) → P (w .graph) → P ((zipLinearChains w) .graph)
   unfolding zipLinearChains
-  zip-kept w h = starts-kept (length (keepIf (isLinearChainStart (w .graph)) (upFrom 0 (nodeCount (w .graph))))) (keepIf (isLinearChainStart (w .graph)) (upFrom 0 (nodeCount (w .graph)))) w h
+  zip-kept w h = starts-kept (length (keepIf (isLinearChainStart (w .graph)) (upFrom 0 (nodeCount (w .graph)))))
+      (keepIf (isLinearChainStart (w .graph)) (upFrom 0 (nodeCount (w .graph)))) w h
 
   round-kept : (least : ℕ) (w : Work) → P (w .graph) → P ((simplifyGraphOnce least w) .graph)
   unfolding simplifyGraphOnce

@@ -9,10 +9,14 @@ use mathlib.Core.List.{List, [], _∷_, _++_, map, List·Memᴰ, List·Memᴰ·h
 use mathlib.Core.Logic.{⊎-elim}
 use lib.ListN.{length}
 use Rattle.defs.specs.Lists.{keepIf, concat, anyOf}
-use Rattle.defs.specs.SeqGraph.{Edge, Graph, nodeCount, edgesFrom, edgesInto, incomingNodes, saturatingAdd, hasEnds, addOrUpdateEdge, addOrUpdateEdges, remapEdge, compactVertices, keeps, removeVerticesById, Change, withAdditions, applyChange}
+use Rattle.defs.specs.SeqGraph.{Edge, Graph, nodeCount, edgesFrom, edgesInto, incomingNodes, saturatingAdd, hasEnds, addOrUpdateEdge}
+use Rattle.defs.specs.SeqGraph.{addOrUpdateEdges, remapEdge, compactVertices, keeps, removeVerticesById, Change, withAdditions, applyChange}
 use Rattle.defs.specs.Zip.{lastOf, moveFrom, mergeLinearChain}
 use Rattle.defs.specs.Rewrites as W
-use Rattle.defs.specs.Rewrites.{EdgeData, edgeData, newEdge, processEdge, MidPlan, midPlan, hasRemaining, joinedData, prefixToSuffixFrom, prefixToSuffix, newEdgeIf, edgesToMiddles, edgesFromMiddles, onlyIf, splitAndUpdateWith, splitAndUpdate, diamondChange, tailsChange, redirectedTo, redirectedFrom, suffixAndPrefixEdges, suffixAndPrefix, withoutSuffix, splitEdges, splitChange, mergeChange}
+use Rattle.defs.specs.Rewrites.{EdgeData, edgeData, newEdge, processEdge, MidPlan, midPlan, hasRemaining, joinedData, prefixToSuffixFrom}
+use Rattle.defs.specs.Rewrites.{prefixToSuffix, newEdgeIf, edgesToMiddles, edgesFromMiddles, onlyIf, splitAndUpdateWith, splitAndUpdate}
+use Rattle.defs.specs.Rewrites.{diamondChange, tailsChange, redirectedTo, redirectedFrom, suffixAndPrefixEdges, suffixAndPrefix}
+use Rattle.defs.specs.Rewrites.{withoutSuffix, splitEdges, splitChange, mergeChange}
 use Rattle.laws.proofs.Walks.{byTest}
 use Rattle.laws.proofs.ListLaws.{of-keepIf}
 use Rattle.answers.proofs.Kept.{KeptByEach}
@@ -54,7 +58,8 @@ add-yes : (u v s : ℕ) (r : Bool) (e : Edge) (es : List Edge) → hasEnds u v e
 unfolding addOrUpdateEdge
 add-yes u v s r e es t h = rw (t, addOrUpdateEdge) (cons-small (saturating-small (e .support) s) h)
 
-add-no : (u v s : ℕ) (r : Bool) (e : Edge) (es : List Edge) → hasEnds u v e ≡ false → Counts (e .support) → SmallSupports (addOrUpdateEdge u v s r es) → SmallSupports (addOrUpdateEdge u v s r (e ∷ es))
+add-no : (u v s : ℕ) (r : Bool) (e : Edge) (es : List Edge) → hasEnds u v e ≡ false → Counts (e .support)
+    → SmallSupports (addOrUpdateEdge u v s r es) → SmallSupports (addOrUpdateEdge u v s r (e ∷ es))
 unfolding addOrUpdateEdge
 add-no u v s r e es t c h = rw (t, addOrUpdateEdge) (cons-small c h)
 
@@ -71,7 +76,8 @@ add-small u v s r (e ∷ es) c h = byTest (hasEnds u v e)
 adds-small : (ns es : List Edge) → SmallSupports ns → SmallSupports es → SmallSupports (addOrUpdateEdges ns es)
 unfolding addOrUpdateEdges
 adds-small [] es n h = h
-adds-small (x ∷ ns) es n h = adds-small ns (addOrUpdateEdge (x .from) (x .to) (x .support) (x .isRef) es) (tail-small n) (add-small (x .from) (x .to) (x .support) (x .isRef) es (head-small n) h)
+adds-small (x ∷ ns) es n h = adds-small ns (addOrUpdateEdge (x .from) (x .to) (x .support) (x .isRef) es) (tail-small n)
+    (add-small (x .from) (x .to) (x .support) (x .isRef) es (head-small n) h)
 
 -- what is kept: k, and small supports
 pub record Fields (k : ℕ) (g : Graph) : Type 0 where
@@ -82,12 +88,17 @@ pub compact-fields : {k : ℕ} (p : ℕ → Bool) (g : Graph) → Fields k g →
 unfolding compactVertices remapEdge
 compact-fields p g F = record {
   k-is = F .k-is;
-  supports = map-small (remapEdge p) (λ e. refl) (keepIf (λ e. p (e .from) && p (e .to)) (g .edges)) (keepIf-small (λ e. p (e .from) && p (e .to)) (g .edges) (F .supports));
+  supports = map-small (remapEdge p) (λ e. refl) (keepIf (λ e. p (e .from) && p (e .to)) (g .edges))
+      (keepIf-small (λ e. p (e .from) && p (e .to)) (g .edges) (F .supports));
 }
 
 pub change-fields : {k : ℕ} (g : Graph) (c : Change) → SmallSupports (c .edges) → Fields k g → Fields k (applyChange g c)
 unfolding applyChange removeVerticesById withAdditions
-change-fields g c h F = compact-fields (keeps (c .gone)) (withAdditions c g) record { k-is = F .k-is; supports = adds-small (c .edges) (g .edges) h (F .supports) }
+change-fields g c h F = compact-fields (keeps (c .gone)) (withAdditions c g) record {
+  k-is = F .k-is;
+  supports =
+      adds-small (c .edges) (g .edges) h (F .supports);
+}
 
 -- a middle's two edges
 record SmallPlan (m : MidPlan) : Type 0 where
@@ -171,11 +182,13 @@ module _ (g : Graph) (h : SmallSupports (g .edges)) where
   plans-small p s [] m x = absurd (List·Memᴰ·not-nil x)
   plans-small p s (v ∷ vs) m x = ⊎-elim (λ (i : m ≡ midPlan g p s v). rw i (plan-small p s v)) (λ n. plans-small p s vs m n) (List·Memᴰ·cases-cons x)
 
-  split-and-update-small : (top : ℕ) (bottom : Option ℕ) (middles prefix suffix : List ℕ) → SmallSupports ((splitAndUpdate g top bottom middles prefix suffix) .edges)
+  split-and-update-small : (top : ℕ) (bottom : Option ℕ) (middles prefix suffix : List ℕ)
+      → SmallSupports ((splitAndUpdate g top bottom middles prefix suffix) .edges)
   unfolding splitAndUpdate
   split-and-update-small top bottom middles prefix suffix =
       let ps = map (midPlan g (length prefix) (length suffix)) middles in
-      update-small (W.nonEmpty prefix) (W.nonEmpty suffix) (nodeCount g) top bottom (keepIf hasRemaining ps) (keepIf (λ m. not (hasRemaining m)) ps) prefix suffix middles
+      update-small (W.nonEmpty prefix) (W.nonEmpty suffix) (nodeCount g) top bottom (keepIf hasRemaining ps)
+      (keepIf (λ m. not (hasRemaining m)) ps) prefix suffix middles
       (keepIf-plans hasRemaining ps (plans-small (length prefix) (length suffix) middles))
 
   diamond-small : (v : ℕ) → SmallSupports ((diamondChange g v) .edges)
@@ -195,7 +208,8 @@ module _ (g : Graph) (h : SmallSupports (g .edges)) where
   unfolding redirectedFrom newEdge edgeData
   redirected-from v es s = map-small (redirectedFrom v) (λ e. refl) es s
 
-  suffix-and-prefix-small : (bottom sv : ℕ) (prefix : List ℕ) (incoming : List Edge) (out : EdgeData) → SmallSupports incoming → Counts (out .support) → SmallSupports (suffixAndPrefixEdges bottom sv prefix incoming out)
+  suffix-and-prefix-small : (bottom sv : ℕ) (prefix : List ℕ) (incoming : List Edge) (out : EdgeData) → SmallSupports incoming
+      → Counts (out .support) → SmallSupports (suffixAndPrefixEdges bottom sv prefix incoming out)
   unfolding suffixAndPrefixEdges newEdge
   suffix-and-prefix-small bottom sv [] incoming out s c = cons-small c (redirected-to sv incoming s)
   suffix-and-prefix-small bottom sv (x ∷ xs) incoming out s c = cons-small (omega arith) (cons-small c (redirected-to (suc sv) incoming s))
@@ -204,7 +218,8 @@ module _ (g : Graph) (h : SmallSupports (g .edges)) where
   unfolding splitEdges
   split-edges-small bottom suffix n [] = none-small
   split-edges-small bottom suffix n (p ∷ ps) =
-      append-small _ (suffix-and-prefix-small bottom n (withoutSuffix g (length suffix) p) (edgesInto g p) (processEdge g p (edgesFrom g p)) (into-small p) (process-small p (edgesFrom g p) (from-small p)))
+      append-small _ (suffix-and-prefix-small bottom n (withoutSuffix g (length suffix) p) (edgesInto g p) (processEdge g p (edgesFrom g p))
+      (into-small p) (process-small p (edgesFrom g p) (from-small p)))
       (split-edges-small bottom suffix (length (suffixAndPrefix suffix (withoutSuffix g (length suffix) p)) + n) ps)
 
   split-small : (v : ℕ) → SmallSupports ((splitChange g v) .edges)

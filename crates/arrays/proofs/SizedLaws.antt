@@ -7,11 +7,10 @@ use lib.ListN.{length}
 use Rattle.defs.specs.Record.{kindOf, verticesOf, edgesOf, bytesOf}
 use Rattle.record.specs.Layout.{WellFormed}
 use Rattle.record.proofs.Sequences.{length-is}
-use Rattle.memory.specs.Memory.{Room, Holds}
+use Rattle.memory.specs.Memory.{Room, Holds, Scratch, Countable, Simplifiable}
 use Rattle.memory.specs.declared.Held.{Held}
 use Rattle.memory.proofs.RoomLaws.{room-kept, holds-kept}
 use Rattle.accept.specs.Accept.{Roomy}
-use Rattle.rounds.specs.Rounds.{Scratch, Countable, Simplifiable}
 use Rattle.calls.specs.Sending.{Sendable}
 use Rattle.calls.proofs.SendLaws.{held-sendable}
 use Rattle.arrays.specs.Sized.{LentGraph, LentMarks, Lent, SizedGraph, SizedMarks, Sized}
@@ -72,10 +71,12 @@ module _ {v e : ℕ} {bs : List ℕ} (S : Enough v e bs) where
     edges-most = omega (arith, Z .nexts-is, S .few-edges);
   }
 
-  marks-lent : {es vs p heads nexts nodes mp tried : List ℕ} → SizedMarks v e es vs p heads nexts nodes mp tried → LentMarks bs es vs p heads nexts nodes mp tried
+  marks-lent : {es vs p heads nexts nodes mp tried : List ℕ} → SizedMarks v e es vs p heads nexts nodes mp tried
+      → LentMarks bs es vs p heads nexts nodes mp tried
   marks-lent Z = record { graph = graph-lent (Z .graph); tried-room = omega (arith, Z .graph .heads-is, Z .tried-is) }
 
-  lent : {es vs p heads nexts nodes mp starts tried sig : List ℕ} → Sized v e es vs p heads nexts nodes mp starts tried sig → Lent bs es vs p heads nexts nodes mp starts tried sig
+  lent : {es vs p heads nexts nodes mp starts tried sig : List ℕ} → Sized v e es vs p heads nexts nodes mp starts tried sig
+      → Lent bs es vs p heads nexts nodes mp starts tried sig
   lent Z = record {
     graph = graph-lent (Z .graph);
     scratch = record { starts-room = omega (arith, Z .graph .heads-is, Z .starts-is); tried-room = omega (arith, Z .graph .heads-is, Z .tried-is) };
@@ -110,10 +111,12 @@ module _ {bs es vs p heads nexts nodes mp : List ℕ} (Z : LentGraph bs es vs p 
   lent-read = (Z .room, Z .roomy)
 
   -- the record of what is held can be written where it fits
-  pub lent-sendable : (status : ℕ) → status < 256 → {h : Held} {es′ vs′ p′ : List ℕ} → Holds h es′ vs′ p′ heads nexts → length es′ ≡ length es → length vs′ ≡ length vs → length p′ ≡ length p
+  pub lent-sendable : (status : ℕ) → status < 256 → {h : Held} {es′ vs′ p′ : List ℕ} → Holds h es′ vs′ p′ heads nexts → length es′
+      ≡ length es → length vs′ ≡ length vs → length p′ ≡ length p
       → Sendable status h es′ vs′ p′
   lent-sendable status s H a b c =
-      held-sendable status s (omega (arith, Z .vertices-most)) (omega (arith, Z .edges-most)) (room-kept {heads′ = heads} {nexts′ = nexts} {nodes′ = nodes} {mp′ = mp} (Z .room) a b c refl refl refl refl) H
+      held-sendable status s (omega (arith, Z .vertices-most)) (omega (arith, Z .edges-most))
+      (room-kept {heads′ = heads} {nexts′ = nexts} {nodes′ = nodes} {mp′ = mp} (Z .room) a b c refl refl refl refl) H
 
 module _ {bs es vs p heads nexts nodes mp starts tried sig : List ℕ} (Z : Lent bs es vs p heads nexts nodes mp starts tried sig) where
   pub lent-scratch : {heads′ : List ℕ} → length heads′ ≡ length heads → Scratch heads′ starts tried
@@ -123,7 +126,8 @@ module _ {bs es vs p heads nexts nodes mp starts tried sig : List ℕ} (Z : Lent
   lent-countable d = record { small = omega (arith, d, Z .graph .vertices-most) }
 
   pub lent-simplifiable : {h : Held} {es′ vs′ p′ heads′ nexts′ nodes′ mp′ : List ℕ} → Holds h es′ vs′ p′ heads nexts
-      → length es′ ≡ length es → length vs′ ≡ length vs → length p′ ≡ length p → length heads′ ≡ length heads → length nexts′ ≡ length nexts → length nodes′ ≡ length nodes → length mp′ ≡ length mp
+      → length es′ ≡ length es → length vs′ ≡ length vs → length p′ ≡ length p → length heads′ ≡ length heads → length nexts′ ≡ length nexts
+      → length nodes′ ≡ length nodes → length mp′ ≡ length mp
       → Simplifiable 10 h es′ vs′ p′ heads′ nexts′ nodes′ mp′ starts tried sig
   lent-simplifiable H la lb lc ld le lf lg = record {
     least-is = omega arith;

@@ -3,9 +3,8 @@ use mathlib.Core.Path.{_≡_}
 use mathlib.Core.List.{List}
 use Prim.Native.Nat.{ℕ, _+_, _*_, _≤_}
 use lib.ListN.{length}
-use Rattle.memory.specs.Memory.{vertexRoom, edgeRoom, Room}
+use Rattle.memory.specs.Memory.{vertexRoom, edgeRoom, Room, Scratch}
 use Rattle.accept.specs.Accept.{Roomy}
-use Rattle.rounds.specs.Rounds.{Scratch}
 
 -- Slices lent for the record bs: room to read it and for every rewrite of its graph; and no more vertices and edges than an answer may have.
 pub record LentGraph (bs es vs p heads nexts nodes mp : List ℕ) : Type 0 where

@@ -13,7 +13,8 @@ use Rattle.defs.specs.Calls.{Response, refused, accepted, numberOf, lengthOf, f
 use Rattle.defs.specs.Simplify.{Simplified, endNumber}
 use Rattle.defs.specs.Cleanup.{Cleaned, statusNumber}
 use Rattle.defs.specs.Refusals.{Cause, refusalOf}
-use Rattle.calls.specs.Answers.{tallyOf, TalliesRefused, TalliesAnswered, Refuses, Accepts, Responds, RefusesSimplify, AcceptsSimplify, RefusesCleanup, AcceptsCleanup}
+use Rattle.calls.specs.Answers.{tallyOf, TalliesRefused, TalliesAnswered, Refuses, Accepts, Responds, RefusesSimplify}
+use Rattle.calls.specs.Answers.{AcceptsSimplify, RefusesCleanup, AcceptsCleanup}
 use Rattle.calls.specs.declared.Tally.{Tally}
 use Rattle.calls.specs.declared.Answer.{Answer}
 
@@ -22,7 +23,8 @@ module _ {t r : Tally} where
   unfolding tallied
   tally-refused-is a b c = record { is = λ number rewrites. λ i. record { answered = a i; refused = b i; rewrites = c i } }
 
-  pub tally-answered-is : {rewrites : ℕ} → r .answered ≡ saturatingAdd (t .answered) 1 → r .refused ≡ t .refused → r .rewrites ≡ saturatingAdd (t .rewrites) rewrites → TalliesAnswered rewrites t r
+  pub tally-answered-is : {rewrites : ℕ} → r .answered ≡ saturatingAdd (t .answered) 1 → r .refused ≡ t .refused → r .rewrites
+      ≡ saturatingAdd (t .rewrites) rewrites → TalliesAnswered rewrites t r
   unfolding tallied
   tally-answered-is a b c = record { is = λ bytes. λ i. record { answered = a i; refused = b i; rewrites = c i } }
 
@@ -33,7 +35,17 @@ module _ {t r : Tally} where
 
     pub refuse-simplify-is : RefusesSimplify number t record { number = number; length = 0; rewrites = 0; rounds = 0; end = 0; tally = r }
     unfolding numberOf lengthOf fieldOf
-    refuse-simplify-is = record { is = λ s. λ i. record { number = number; length = 0; rewrites = 0; rounds = 0; end = 0; tally = T .is number (s .rewrites) i } }
+    refuse-simplify-is = record {
+      is = λ s. λ i. record {
+        number = number;
+        length = 0;
+        rewrites = 0;
+        rounds = 0;
+        end = 0;
+        tally =
+            T .is number (s .rewrites) i;
+      };
+    }
 
     pub refuse-cleanup-is : RefusesCleanup number t record { number = number; length = 0; status = 0; tally = r }
     unfolding numberOf lengthOf fieldOf
@@ -47,10 +59,25 @@ module _ {t r : Tally} where
     tally-as : (n : ℕ) (bytes : List ℕ) → n ≡ rewrites → tallyOf r ≡ tallied (accepted bytes) n (tallyOf t)
     tally-as n bytes q = rw q (T .is bytes)
 
-    pub accept-simplify-is : (size rounds end : ℕ) → AcceptsSimplify size rewrites rounds end t record { number = 0; length = size; rewrites = rewrites; rounds = rounds; end = end; tally = r }
+    pub accept-simplify-is : (size rounds end : ℕ) → AcceptsSimplify size rewrites rounds end t record {
+      number = 0;
+      length = size;
+      rewrites = rewrites;
+      rounds = rounds;
+      end = end;
+      tally = r;
+    }
     unfolding numberOf lengthOf fieldOf
     accept-simplify-is size rounds end = record {
-      is = λ bytes s l a b c. λ i. record { number = 0; length = sym l i; rewrites = sym a i; rounds = sym b i; end = sym c i; tally = tally-as (s .rewrites) bytes a i };
+      is = λ bytes s l a b c. λ i. record {
+        number = 0;
+        length = sym l i;
+        rewrites = sym a i;
+        rounds = sym b i;
+        end = sym c i;
+        tally =
+            tally-as (s .rewrites) bytes a i;
+      };
     }
 
     pub accept-cleanup-is : (size status : ℕ) → AcceptsCleanup size status rewrites t record { number = 0; length = size; status = status; tally = r }
@@ -81,8 +108,16 @@ respond-fits causes room result e = rw (e, respond)
 module _ {x : Response} {out out′ : List ℕ} {t : Tally} {r : Answer} where
   pub responds-refused : {n : ℕ} → x ≡ refused n → Refuses n t r → out′ ≡ out → Responds x out t r out′
   unfolding writtenOf
-  responds-refused e R q = record { answer = R .is ∙ ap (λ (y : Response). D.answer y (tallyOf t)) (sym e); written = q ∙ ap (λ (y : Response). writtenOf y out) (sym e) }
+  responds-refused e R q = record {
+    answer = R .is ∙ ap (λ (y : Response). D.answer y (tallyOf t)) (sym e);
+    written = q
+        ∙ ap (λ (y : Response). writtenOf y out) (sym e);
+  }
 
-  pub responds-accepted : {bytes : List ℕ} {n : ℕ} → x ≡ accepted bytes → n ≡ length bytes → Accepts n t r → out′ ≡ bytes ++ drop (length bytes) out → Responds x out t r out′
+  pub responds-accepted : {bytes : List ℕ} {n : ℕ} → x ≡ accepted bytes → n ≡ length bytes → Accepts n t r → out′ ≡ bytes
+      ++ drop (length bytes) out → Responds x out t r out′
   unfolding writtenOf
-  responds-accepted {bytes} e l A q = record { answer = A .is bytes (sym l) ∙ ap (λ (y : Response). D.answer y (tallyOf t)) (sym e); written = q ∙ ap (λ (y : Response). writtenOf y out) (sym e) }
+  responds-accepted {bytes} e l A q = record {
+    answer = A .is bytes (sym l) ∙ ap (λ (y : Response). D.answer y (tallyOf t)) (sym e);
+    written = q ∙ ap (λ (y : Response). writtenOf y out) (sym e);
+  }

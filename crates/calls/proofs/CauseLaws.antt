@@ -9,7 +9,10 @@ use Rattle.defs.specs.Refusals.{Cause, refusalOf, Takes, recordCauses, recordRe
 use Rattle.sound.proofs.Causes.{Numbered, refusal-later, refusal-earlier}
 
 numbered-more : (n : ℕ) (b : Bool) (cs : List Cause) → 0 < n → Numbered cs → Numbered (record { number = n; present = b } ∷ cs)
-numbered-more n b cs l N = record { at = λ c m. ⊎-elim (λ (e : c ≡ record { number = n; present = b }). rw e l) (λ (k : List·Memᴰ c cs). N .at c k) (List·Memᴰ·cases-cons m) }
+numbered-more n b cs l N = record {
+  at = λ c m. ⊎-elim (λ (e : c ≡ record { number = n; present = b }). rw e l) (λ (k : List·Memᴰ c cs).
+      N .at c k) (List·Memᴰ·cases-cons m);
+}
 
 record-numbered : (t : Takes) (bs : List ℕ) → Numbered (recordCauses t bs)
 unfolding recordCauses

@@ -19,7 +19,8 @@ use Rattle.write_record.proofs.WriteLaws.{bytes-are, encode-length}
 use Rattle.calls.specs.declared.Sent.{Sent}
 
 -- a held graph whose counts fit 16 bits
-pub held-sendable : {h : Held} {es vs p heads nexts nodes mp : List ℕ} (status : ℕ) → status < 256 → vertexRoom heads < 65536 → edgeRoom nexts < 65536 → Room es vs p heads nexts nodes mp → Holds h es vs p heads nexts
+pub held-sendable : {h : Held} {es vs p heads nexts nodes mp : List ℕ} (status : ℕ) → status < 256 → vertexRoom heads < 65536
+    → edgeRoom nexts < 65536 → Room es vs p heads nexts nodes mp → Holds h es vs p heads nexts
     → Sendable status h es vs p
 held-sendable {h} {es} {vs} {p} {heads} {nexts} status s v e R H = record {
   measured = measured;
@@ -46,14 +47,16 @@ held-sendable {h} {es} {vs} {p} {heads} {nexts} status s v e R H = record {
     measured : Measured h vs
     measured = record { vs-room = omega (arith, held-vertices H, R .vs-room); small = omega (arith, held-vertices H, held-edges H, few, v, e) }
 
-module _ {status : ℕ} {h : Held} {es vs p : List ℕ} (S : Sendable status h es vs p) (out : List ℕ) {size : ℕ} (q : size ≡ 32 + 2 * h .n + 9 * h .m + bytesIn (h .n) vs) where
+module _ {status : ℕ} {h : Held} {es vs p : List ℕ} (S : Sendable status h es vs p) (out : List ℕ) {size : ℕ} (q : size ≡ 32 + 2 * h .n
+    + 9 * h .m + bytesIn (h .n) vs) where
   abbrev result : List ℕ
   result = encode sequenceGraph status (graphOf h es vs p)
 
   long : length result ≡ size
   long = encode-length status (h .k .0) (h .n) (h .m) es vs p (S .within) ∙ sym q
 
-  as-fits : {x : Response} → fits (length out) result ≡ x → {r : Sent} {out′ : List ℕ} → r .number ≡ numberOf x → r .length ≡ lengthOf x → out′ ≡ writtenOf x out → Sends result out r out′
+  as-fits : {x : Response} → fits (length out) result ≡ x → {r : Sent} {out′ : List ℕ} → r .number ≡ numberOf x → r .length ≡ lengthOf x
+      → out′ ≡ writtenOf x out → Sends result out r out′
   as-fits e a b c = record { number = a ∙ ap numberOf (sym e); size = b ∙ ap lengthOf (sym e); written = c ∙ ap (λ (x : Response). writtenOf x out) (sym e) }
 
   pub send-short : length out < size → Sends result out record { number = 11; length = 0 } out

@@ -155,7 +155,8 @@ pub fn send_record(
     p: &[u8],
 ) -> Sent
     requires { ⌜ Sendable status held (now es) (now vs) (now p) ⌝ }
-    ensures { λ r. ⌜ Sends (encode sequenceGraph status (graphOf held (now (es .entry)) (now (vs .entry)) (now (p .entry)))) (now (out .entry)) r (now (out .exit)) ⌝ }
+    ensures { λ r. ⌜ Sends (encode sequenceGraph status (graphOf held (now (es .entry)) (now (vs .entry)) (now (p .entry))))
+        (now (out .entry)) r (now (out .exit)) ⌝ }
 {
     let length = write_record::record_length(held, vs);
     if out.len() < length {

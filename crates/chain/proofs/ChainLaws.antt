@@ -24,7 +24,8 @@ use Rattle.refs.specs.Refs.{RefNode}
 use Rattle.chain.specs.Chain.{ChainStart, GoesOn, Traced, Starts}
 
 -- one edge at v: it is the head
-pub one-head : {m n : ℕ} {es heads nexts : List ℕ} (off : ℕ) → off ≤ 1 → Indexed m n es heads nexts → (v : ℕ) → v < n → true ≡ eqb (length (edgesAt (endOf off es) m v)) 1 → pairAt off heads v < m
+pub one-head : {m n : ℕ} {es heads nexts : List ℕ} (off : ℕ) → off ≤ 1 → Indexed m n es heads nexts → (v : ℕ) → v < n → true
+    ≡ eqb (length (edgesAt (endOf off es) m v)) 1 → pairAt off heads v < m
 one-head {m} {n} {es} {heads} {nexts} off b I v h t = Rattle.laws.proofs.ListLaws.byOrder m (pairAt off heads v)
     (λ c. absurd (omega (arith, eqb-true (length (edgesAt (endOf off es) m v)) 1 (sym t), ap length (at-none (I .index off b) h (pairAt off heads v) refl c))))
     (λ c. c)
@@ -33,14 +34,18 @@ one-head {m} {n} {es} {heads} {nexts} off b I v h t = Rattle.laws.proofs.ListLa
 pub head-zero : (heads : List ℕ) (v : ℕ) → getD heads (2 * v) 0 ≡ pairAt 0 heads v
 head-zero heads v = ap (λ (x : ℕ). getD heads x 0) (sym (add-zero (2 * v)))
 
-pub one-out : {m n : ℕ} {es heads nexts : List ℕ} → Indexed m n es heads nexts → (v : ℕ) → v < n → true ≡ eqb (length (edgesAt (endOf 0 es) m v)) 1 → getD heads (2 * v) 0 < m
+pub one-out : {m n : ℕ} {es heads nexts : List ℕ} → Indexed m n es heads nexts → (v : ℕ) → v < n → true
+    ≡ eqb (length (edgesAt (endOf 0 es) m v)) 1 → getD heads (2 * v) 0 < m
 one-out {m} {n} {es} {heads} I v h t = omega (arith, one-head 0 (omega arith) I v h t, head-zero heads v)
 
 module _ {m n : ℕ} {es heads nexts : List ℕ} (I : Indexed m n es heads nexts) (v : ℕ) (h : v < n) where
   start-of : (k : ℕ) (vs p : List ℕ) → isLinearChainStart (graphIn k n m es vs p) v
-      ≡ eqb (length (edgesAt (endOf 0 es) m v)) 1 && (not (eqb (length (edgesAt (endOf 1 es) m v)) 1) || ltb 1 (length (edgesAt (endOf 0 es) m (headOr 0 (incomingNodes (graphIn k n m es vs p) v)))))
+      ≡ eqb (length (edgesAt (endOf 0 es) m v)) 1 && (not (eqb (length (edgesAt (endOf 1 es) m v)) 1)
+      || ltb 1 (length (edgesAt (endOf 0 es) m (headOr 0 (incomingNodes (graphIn k n m es vs p) v)))))
   unfolding isLinearChainStart
-  start-of k vs p = λ i. eqb (out-degree-is k n m es vs p v i) 1 && (not (eqb (in-degree-is k n m es vs p v i) 1) || ltb 1 (out-degree-is k n m es vs p (headOr 0 (incomingNodes (graphIn k n m es vs p) v)) i))
+  start-of k vs p = λ i. eqb (out-degree-is k n m es vs p v i) 1
+      && (not (eqb (in-degree-is k n m es vs p v i) 1) || ltb 1
+      (out-degree-is k n m es vs p (headOr 0 (incomingNodes (graphIn k n m es vs p) v)) i))
 
   pub start-no : false ≡ eqb (length (edgesAt (endOf 0 es) m v)) 1 → ChainStart m n es v false
   start-no t = record { is = λ k vs p. sym (start-of k vs p ∙ rw (← t)) }
@@ -48,19 +53,26 @@ module _ {m n : ℕ} {es heads nexts : List ℕ} (I : Indexed m n es heads nexts
   pub start-yes : true ≡ eqb (length (edgesAt (endOf 0 es) m v)) 1 → false ≡ eqb (length (edgesAt (endOf 1 es) m v)) 1 → ChainStart m n es v true
   start-yes t s = record { is = λ k vs p. sym (start-of k vs p ∙ rw (← t, ← s)) }
 
-  head-in : (k : ℕ) (vs p : List ℕ) (u : ℕ) → pairAt 1 heads v < m → u ≡ getD es (4 * pairAt 1 heads v) 0 → headOr 0 (incomingNodes (graphIn k n m es vs p) v) ≡ u
+  head-in : (k : ℕ) (vs p : List ℕ) (u : ℕ) → pairAt 1 heads v < m → u ≡ getD es (4 * pairAt 1 heads v) 0
+      → headOr 0 (incomingNodes (graphIn k n m es vs p) v) ≡ u
   unfolding headOr
-  head-in k vs p u b q = ap (headOr 0) (incoming-is k n m es vs p v ∙ ap (map (λ (e : ℕ). getD es (4 * e) 0)) (at-first (I .index 1 (omega arith)) h (pairAt 1 heads v) refl b)) ∙ sym q
+  head-in k vs p u b q = ap (headOr 0) (incoming-is k n m es vs p v
+      ∙ ap (map (λ (e : ℕ). getD es (4 * e) 0)) (at-first (I .index 1 (omega arith)) h (pairAt 1 heads v) refl b)) ∙ sym q
 
-  pub start-by : {r : Bool} (u : ℕ) → true ≡ eqb (length (edgesAt (endOf 0 es) m v)) 1 → true ≡ eqb (length (edgesAt (endOf 1 es) m v)) 1 → u ≡ getD es (4 * pairAt 1 heads v) 0
+  pub start-by : {r : Bool} (u : ℕ) → true ≡ eqb (length (edgesAt (endOf 0 es) m v)) 1 → true ≡ eqb (length (edgesAt (endOf 1 es) m v)) 1
+      → u ≡ getD es (4 * pairAt 1 heads v) 0
       → r ≡ ltb 1 (length (edgesAt (endOf 0 es) m u)) → ChainStart m n es v r
   start-by u t s q e = record { is = λ k vs p. e ∙ sym (start-of k vs p ∙ rw (← t, ← s, head-in k vs p u (one-head 1 (omega arith) I v h s) q)) }
 
 module _ (m n : ℕ) (es : List ℕ) (last next : ℕ) where
   goes-of : (k : ℕ) (vs p : List ℕ) → chainGoesOn (graphIn k n m es vs p) last next
-      ≡ eqb (length (edgesAt (endOf 0 es) m last)) 1 && (eqb (length (edgesAt (endOf 1 es) m next)) 1 && (not (eqb last next) && Bool·beq (isReferenceNode (graphIn k n m es vs p) last) (isReferenceNode (graphIn k n m es vs p) next)))
+      ≡ eqb (length (edgesAt (endOf 0 es) m last)) 1 && (eqb (length (edgesAt (endOf 1 es) m next)) 1
+      && (not (eqb last next) && Bool·beq (isReferenceNode (graphIn k n m es vs p) last)
+      (isReferenceNode (graphIn k n m es vs p) next)))
   unfolding chainGoesOn
-  goes-of k vs p = λ i. eqb (out-degree-is k n m es vs p last i) 1 && (eqb (in-degree-is k n m es vs p next i) 1 && (not (eqb last next) && Bool·beq (isReferenceNode (graphIn k n m es vs p) last) (isReferenceNode (graphIn k n m es vs p) next)))
+  goes-of k vs p = λ i. eqb (out-degree-is k n m es vs p last i) 1
+      && (eqb (in-degree-is k n m es vs p next i) 1 && (not (eqb last next)
+      && Bool·beq (isReferenceNode (graphIn k n m es vs p) last) (isReferenceNode (graphIn k n m es vs p) next)))
 
   pub goes-no₁ : false ≡ eqb (length (edgesAt (endOf 0 es) m last)) 1 → GoesOn m n es last next false
   goes-no₁ t = record { is = λ k vs p. sym (goes-of k vs p ∙ rw (← t)) }
@@ -68,12 +80,16 @@ module _ (m n : ℕ) (es : List ℕ) (last next : ℕ) where
   pub goes-no₂ : true ≡ eqb (length (edgesAt (endOf 0 es) m last)) 1 → false ≡ eqb (length (edgesAt (endOf 1 es) m next)) 1 → GoesOn m n es last next false
   goes-no₂ t s = record { is = λ k vs p. sym (goes-of k vs p ∙ rw (← t, ← s)) }
 
-  pub goes-no₃ : true ≡ eqb (length (edgesAt (endOf 0 es) m last)) 1 → true ≡ eqb (length (edgesAt (endOf 1 es) m next)) 1 → last ≡ next → GoesOn m n es last next false
+  pub goes-no₃ : true ≡ eqb (length (edgesAt (endOf 0 es) m last)) 1 → true ≡ eqb (length (edgesAt (endOf 1 es) m next)) 1 → last ≡ next
+      → GoesOn m n es last next false
   goes-no₃ t s q = record { is = λ k vs p. sym (goes-of k vs p ∙ rw (← t, ← s, eq-eqb last next q)) }
 
   pub goes-by : {a b r : Bool} → true ≡ eqb (length (edgesAt (endOf 0 es) m last)) 1 → true ≡ eqb (length (edgesAt (endOf 1 es) m next)) 1 → (last ≡ next → ⊥)
       → RefNode m n es last a → RefNode m n es next b → r ≡ Bool·beq a b → GoesOn m n es last next r
-  goes-by t s o A B q = record { is = λ k vs p. q ∙ (λ i. Bool·beq (A .is k vs p i) (B .is k vs p i)) ∙ sym (goes-of k vs p ∙ rw (← t, ← s, ne-eqb last next o)) }
+  goes-by t s o A B q = record {
+    is = λ k vs p. q ∙ (λ i. Bool·beq (A .is k vs p i) (B .is k vs p i))
+        ∙ sym (goes-of k vs p ∙ rw (← t, ← s, ne-eqb last next o));
+  }
 
 -- equal flags
 pub beq-yes : (a b : Bool) → a ≡ true → b ≡ Bool·beq a b
@@ -90,7 +106,8 @@ trace-stop : (fuel : ℕ) (g : Graph) (last : ℕ) → chainGoesOn g last (headO
 unfolding traceLinearChain
 trace-stop fuel g last t = rw (t, traceLinearChain)
 
-trace-on : (fuel : ℕ) (g : Graph) (last next : ℕ) → next ≡ headOr 0 (outgoingNodes g last) → chainGoesOn g last next ≡ true → traceLinearChain (suc fuel) g last ≡ next ∷ traceLinearChain fuel g next
+trace-on : (fuel : ℕ) (g : Graph) (last next : ℕ) → next ≡ headOr 0 (outgoingNodes g last) → chainGoesOn g last next ≡ true
+    → traceLinearChain (suc fuel) g last ≡ next ∷ traceLinearChain fuel g next
 unfolding traceLinearChain
 trace-on fuel g last next q t = let s : chainGoesOn g last (headOr 0 (outgoingNodes g last)) ≡ true = rw q at t in rw (s, traceLinearChain) (rw (← q))
 
@@ -107,33 +124,48 @@ pub record Tracing (m n : ℕ) (es : List ℕ) (start : ℕ) (out₀ out : List 
 
 module _ {m n : ℕ} {es heads nexts : List ℕ} (I : Indexed m n es heads nexts) {start : ℕ} {out₀ : List ℕ} where
   pub tracing-start : start < n → Tracing m n es start out₀ out₀ start 0
-  tracing-start h = record { high = omega arith; last-below = h; len = refl; below = λ j b. absurd (omega arith); is = λ k vs p. rw (tab-zero (λ (i : ℕ). getD out₀ i 0)) (ap (λ (x : ℕ). traceLinearChain x (graphIn k n m es vs p) start) (omega arith)) }
+  tracing-start h = record {
+    high = omega arith;
+    last-below = h;
+    len = refl;
+    below = λ j b. absurd (omega arith);
+    is = λ k vs p.
+        rw (tab-zero (λ (i : ℕ). getD out₀ i 0)) (ap (λ (x : ℕ). traceLinearChain x (graphIn k n m es vs p) start) (omega arith));
+  }
 
   module _ {out : List ℕ} {last c : ℕ} (T : Tracing m n es start out₀ out last c) (b : c < n) where
     fuel-is : n - c ≡ suc (n - (c + 1))
     fuel-is = omega arith
 
-    head-out : (k : ℕ) (vs p : List ℕ) (next : ℕ) → pairAt 0 heads last < m → next ≡ getD es (4 * pairAt 0 heads last + 1) 0 → next ≡ headOr 0 (outgoingNodes (graphIn k n m es vs p) last)
+    head-out : (k : ℕ) (vs p : List ℕ) (next : ℕ) → pairAt 0 heads last < m → next ≡ getD es (4 * pairAt 0 heads last + 1) 0 → next
+        ≡ headOr 0 (outgoingNodes (graphIn k n m es vs p) last)
     unfolding headOr
-    head-out k vs p next d q = q ∙ sym (ap (headOr 0) (outgoing-is k n m es vs p last ∙ ap (map (endOf 1 es)) (at-first (I .index 0 (omega arith)) (T .last-below) (pairAt 0 heads last) refl d)))
+    head-out k vs p next d q = q ∙ sym (ap (headOr 0) (outgoing-is k n m es vs p last
+        ∙ ap (map (endOf 1 es)) (at-first (I .index 0 (omega arith)) (T .last-below) (pairAt 0 heads last) refl d)))
 
     place : (e : ℕ) → e ≡ getD heads (2 * last) 0 → getD es (4 * e + 1) 0 ≡ getD es (4 * pairAt 0 heads last + 1) 0
     place e z = ap (λ (x : ℕ). getD es (4 * x + 1) 0) (z ∙ head-zero heads last)
 
-    ended : ((k : ℕ) (vs p : List ℕ) → chainGoesOn (graphIn k n m es vs p) last (headOr 0 (outgoingNodes (graphIn k n m es vs p) last)) ≡ false) → Traced m n es start c out
+    ended : ((k : ℕ) (vs p : List ℕ) → chainGoesOn (graphIn k n m es vs p) last (headOr 0 (outgoingNodes (graphIn k n m es vs p) last))
+        ≡ false) → Traced m n es start c out
     ended f = record {
       most = T .high;
       below = T .below;
-      is = λ k vs p. sym (T .is k vs p ∙ ap (λ (l : List ℕ). numsIn c out ++ l) (ap (λ (x : ℕ). traceLinearChain x (graphIn k n m es vs p) last) fuel-is ∙ trace-stop (n - (c + 1)) (graphIn k n m es vs p) last (f k vs p)) ∙ append-nil _);
+      is = λ k vs p. sym (T .is k vs p ∙ ap (λ (l : List ℕ). numsIn c out
+          ++ l) (ap (λ (x : ℕ). traceLinearChain x (graphIn k n m es vs p) last) fuel-is
+          ∙ trace-stop (n - (c + 1)) (graphIn k n m es vs p) last (f k vs p)) ∙ append-nil _);
     }
 
     pub tracing-none : false ≡ eqb (length (edgesAt (endOf 0 es) m last)) 1 → Traced m n es start c out
     tracing-none t = ended (λ k vs p. sym (goes-no₁ m n es last (headOr 0 (outgoingNodes (graphIn k n m es vs p) last)) t .is k vs p))
 
-    pub tracing-stop : {next e : ℕ} {r : Bool} → e < m → e ≡ getD heads (2 * last) 0 → next ≡ getD es (4 * e + 1) 0 → GoesOn m n es last next r → r ≡ false → Traced m n es start c out
-    tracing-stop {next} {e} d z q G t = ended (λ k vs p. rw (← head-out k vs p next (omega (arith, z, head-zero heads last)) (q ∙ place e z)) (sym (G .is k vs p) ∙ t))
+    pub tracing-stop : {next e : ℕ} {r : Bool} → e < m → e ≡ getD heads (2 * last) 0 → next ≡ getD es (4 * e + 1) 0
+        → GoesOn m n es last next r → r ≡ false → Traced m n es start c out
+    tracing-stop {next} {e} d z q G t = ended (λ k vs p. rw (← head-out k vs p next (omega (arith, z, head-zero heads last)) (q
+        ∙ place e z)) (sym (G .is k vs p) ∙ t))
 
-    pub tracing-more : {next e : ℕ} {r : Bool} → n ≤ length out₀ → e < m → e ≡ getD heads (2 * last) 0 → next ≡ getD es (4 * e + 1) 0 → GoesOn m n es last next r → r ≡ true → Tracing m n es start out₀ (set out c next) next (c + 1)
+    pub tracing-more : {next e : ℕ} {r : Bool} → n ≤ length out₀ → e < m → e ≡ getD heads (2 * last) 0 → next ≡ getD es (4 * e + 1) 0
+        → GoesOn m n es last next r → r ≡ true → Tracing m n es start out₀ (set out c next) next (c + 1)
     tracing-more {next} {e} room d z q G t = record {
       high = omega arith;
       last-below = omega (arith, I .ends .at e d .1);
@@ -142,15 +174,21 @@ module _ {m n : ℕ} {es heads nexts : List ℕ} (I : Indexed m n es heads nexts
         | yes y ↦ rw (y, getD-set-same out c next 0 (omega (arith, T .len))) (omega (arith, I .ends .at e d .1))
         | no ne ↦ rw (getD-set-other out c j next 0 ne) (T .below j (omega arith))
       ];
-      is = λ k vs p. T .is k vs p ∙ ap (λ (l : List ℕ). numsIn c out ++ l) (ap (λ (x : ℕ). traceLinearChain x (graphIn k n m es vs p) last) fuel-is ∙ trace-on (n - (c + 1)) (graphIn k n m es vs p) last next (head-out k vs p next (omega (arith, z, head-zero heads last)) (q ∙ place e z)) (sym (G .is k vs p) ∙ t))
-          ∙ sym (append-assoc (numsIn c out) (next ∷ []) _) ∙ ap (λ (l : List ℕ). l ++ traceLinearChain (n - (c + 1)) (graphIn k n m es vs p) next) (sym (nums-push c next out (omega (arith, T .len))));
+      is = λ k vs p. T .is k vs p ∙ ap (λ (l : List ℕ). numsIn c out
+          ++ l) (ap (λ (x : ℕ). traceLinearChain x (graphIn k n m es vs p) last) fuel-is
+          ∙ trace-on (n - (c + 1)) (graphIn k n m es vs p) last next (head-out k vs p next (omega (arith, z, head-zero heads last)) (q
+          ∙ place e z)) (sym (G .is k vs p) ∙ t))
+          ∙ sym (append-assoc (numsIn c out) (next ∷ []) _) ∙ ap (λ (l : List ℕ). l ++ traceLinearChain
+          (n - (c + 1)) (graphIn k n m es vs p) next) (sym (nums-push c next out (omega (arith, T .len))));
     }
 
   pub tracing-end : {out : List ℕ} {last c : ℕ} → Tracing m n es start out₀ out last c → n ≤ c → Traced m n es start c out
   tracing-end {out} {last} {c} T b = record {
     most = T .high;
     below = T .below;
-    is = λ k vs p. sym (T .is k vs p ∙ ap (λ (l : List ℕ). numsIn c out ++ l) (ap (λ (x : ℕ). traceLinearChain x (graphIn k n m es vs p) last) (omega (arith, T .high)) ∙ trace-out (graphIn k n m es vs p) last) ∙ append-nil _);
+    is = λ k vs p. sym (T .is k vs p ∙ ap (λ (l : List ℕ). numsIn c out
+        ++ l) (ap (λ (x : ℕ). traceLinearChain x (graphIn k n m es vs p) last) (omega (arith, T .high))
+        ∙ trace-out (graphIn k n m es vs p) last) ∙ append-nil _);
   }
 
 -- ---- the starts
@@ -175,7 +213,8 @@ module _ {m n : ℕ} {es out₀ : List ℕ} where
   unfolding keepIf upFrom
   starting-start = record { high = omega arith; low = omega arith; len = refl; below = λ j b. absurd (omega arith); is = λ k vs p. tab-zero _ }
 
-  pub starting-yes : {out : List ℕ} {c v : ℕ} {r : Bool} → Starting m n es out₀ out c v → v < n → n ≤ length out₀ → ChainStart m n es v r → r ≡ true → Starting m n es out₀ (set out c v) (c + 1) (v + 1)
+  pub starting-yes : {out : List ℕ} {c v : ℕ} {r : Bool} → Starting m n es out₀ out c v → v < n → n ≤ length out₀ → ChainStart m n es v r
+      → r ≡ true → Starting m n es out₀ (set out c v) (c + 1) (v + 1)
   unfolding keepIf
   starting-yes {out} {c} {v} S h room C e = record {
     high = omega arith;
@@ -187,10 +226,12 @@ module _ {m n : ℕ} {es out₀ : List ℕ} where
     ];
     is = λ k vs p. let t : isLinearChainStart (graphIn k n m es vs p) v ≡ true = sym (C .is k vs p) ∙ e in
         nums-push c v out (omega (arith, S .len, S .low)) ∙ ap (λ (l : List ℕ). l ++ (v ∷ [])) (S .is k vs p)
-        ∙ sym (ap (keepIf (isLinearChainStart (graphIn k n m es vs p))) (up-more v) ∙ keepIf-append (isLinearChainStart (graphIn k n m es vs p)) (upFrom 0 v) (v ∷ []) ∙ rw t);
+        ∙ sym (ap (keepIf (isLinearChainStart (graphIn k n m es vs p))) (up-more v)
+        ∙ keepIf-append (isLinearChainStart (graphIn k n m es vs p)) (upFrom 0 v) (v ∷ []) ∙ rw t);
   }
 
-  pub starting-no : {out : List ℕ} {c v : ℕ} {r : Bool} → Starting m n es out₀ out c v → v < n → ChainStart m n es v r → r ≡ false → Starting m n es out₀ out c (v + 1)
+  pub starting-no : {out : List ℕ} {c v : ℕ} {r : Bool} → Starting m n es out₀ out c v → v < n → ChainStart m n es v r → r ≡ false
+      → Starting m n es out₀ out c (v + 1)
   unfolding keepIf
   starting-no {out} {c} {v} S h C e = record {
     high = omega arith;
@@ -198,7 +239,8 @@ module _ {m n : ℕ} {es out₀ : List ℕ} where
     len = S .len;
     below = S .below;
     is = λ k vs p. let t : isLinearChainStart (graphIn k n m es vs p) v ≡ false = sym (C .is k vs p) ∙ e in
-        S .is k vs p ∙ sym (ap (keepIf (isLinearChainStart (graphIn k n m es vs p))) (up-more v) ∙ keepIf-append (isLinearChainStart (graphIn k n m es vs p)) (upFrom 0 v) (v ∷ []) ∙ rw (t, append-nil));
+        S .is k vs p ∙ sym (ap (keepIf (isLinearChainStart (graphIn k n m es vs p))) (up-more v)
+        ∙ keepIf-append (isLinearChainStart (graphIn k n m es vs p)) (upFrom 0 v) (v ∷ []) ∙ rw (t, append-nil));
   }
 
   pub starting-end : {out : List ℕ} {c v : ℕ} → Starting m n es out₀ out c v → n ≤ v → Starts m n es c out

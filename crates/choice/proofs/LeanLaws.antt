@@ -29,7 +29,8 @@ lean-tame L t = record { good = t .good; light = omega (arith, L .light, t .ligh
 pub lean-as : {g g′ : Graph} {heads nexts : List ℕ} → g ≡ g′ → Lean g′ heads nexts → Lean g heads nexts
 lean-as q L = rw q L
 
-pub lean-kept : {g : Graph} {heads nexts heads′ nexts′ : List ℕ} → Lean g heads nexts → length heads′ ≡ length heads → length nexts′ ≡ length nexts → Lean g heads′ nexts′
+pub lean-kept : {g : Graph} {heads nexts heads′ nexts′ : List ℕ} → Lean g heads nexts → length heads′ ≡ length heads → length nexts′
+    ≡ length nexts → Lean g heads′ nexts′
 lean-kept L d e = record { good = L .good; light = rw d (L .light); narrow = rw (d, e) (L .narrow) }
 
 -- ---- vertices go

@@ -10,10 +10,9 @@ use Rattle.laws.proofs.Fuel.{Good}
 use Rattle.laws.proofs.Measures.{weight}
 use Rattle.laws.proofs.Branching.{branching}
 use Rattle.store.specs.Store.{Within}
-use Rattle.memory.specs.Memory.{graphOf, workOf, vertexRoom, edgeRoom, Room, Holds}
+use Rattle.memory.specs.Memory.{graphOf, workOf, vertexRoom, edgeRoom, Room, Holds, Scratch, Countable}
 use Rattle.memory.specs.declared.Held.{Held}
 use Rattle.memory.specs.declared.Work.{Work}
-use Rattle.rounds.specs.Rounds.{Scratch, Countable}
 
 -- no rewrite made yet
 abbrev pub fresh : Held → Work

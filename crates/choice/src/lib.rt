@@ -25,7 +25,8 @@ fn zip_all(
     starts: &mut [u32],
 ) -> Work
     requires { ⌜ Zippable held (now es) (now vs) (now p) (now heads) (now nexts) (now nodes) (now map) (now starts) ⌝ }
-    ensures { λ r. ⌜ ZippedAll (fresh held) (now (es .entry)) (now (vs .entry)) (now (p .entry)) r (now (es .exit)) (now (vs .exit)) (now (p .exit)) (now (heads .exit)) (now (nexts .exit)) (now (nodes .exit)) (now (map .exit)) ⌝ }
+    ensures { λ r. ⌜ ZippedAll (fresh held) (now (es .entry)) (now (vs .entry)) (now (p .entry)) r (now (es .exit)) (now (vs .exit))
+        (now (p .exit)) (now (heads .exit)) (now (nexts .exit)) (now (nodes .exit)) (now (map .exit)) ⌝ }
 {
     index::build_index(es, held.m, held.n, heads, nexts);
     let work = Work {
@@ -46,8 +47,11 @@ fn keep_connected(
     map: &mut [u32],
     tried: &mut [u64],
 ) -> Held
-    requires { ⌜ Compactable (held .n) (held .m) (now es) (now vs) (now map) × (Indexed (held .m) (held .n) (now es) (now heads) (now nexts) × (Walkable (held .n) (now tried) (now nodes) × (held .m < 4294967296))) ⌝ }
-    ensures { λ r. ⌜ Reduced (λ (g : Graph). removeVerticesNotConnectedToRef (removeSingletonOrphanVertices g)) held (now (es .entry)) (now (vs .entry)) r (now (es .exit)) (now (vs .exit)) ⌝ }
+    requires { ⌜ Compactable (held .n) (held .m) (now es) (now vs) (now map)
+        × (Indexed (held .m) (held .n) (now es) (now heads) (now nexts)
+        × (Walkable (held .n) (now tried) (now nodes) × (held .m < 4294967296))) ⌝ }
+    ensures { λ r. ⌜ Reduced (λ (g : Graph). removeVerticesNotConnectedToRef (removeSingletonOrphanVertices g)) held (now (es .entry))
+        (now (vs .entry)) r (now (es .exit)) (now (vs .exit)) ⌝ }
 {
     let a = orphans::remove_singleton_orphan_vertices(held, es, vs, heads, nexts, map);
     index::build_index(es, a.m, a.n, heads, nexts);
@@ -69,7 +73,8 @@ pub fn before_choice(
     sig: &mut [u32],
 ) -> Work
     requires { ⌜ Cleanable held (now es) (now vs) (now p) (now heads) (now nexts) (now nodes) (now map) (now starts) (now tried) (now sig) ⌝ }
-    ensures { λ r. ⌜ Before held (now (es .entry)) (now (vs .entry)) (now (p .entry)) (now (heads .entry)) (now (nexts .entry)) r (now (es .exit)) (now (vs .exit)) (now (p .exit)) ⌝ }
+    ensures { λ r. ⌜ Before held (now (es .entry)) (now (vs .entry)) (now (p .entry)) (now (heads .entry)) (now (nexts .entry)) r
+        (now (es .exit)) (now (vs .exit)) (now (p .exit)) ⌝ }
 {
     let z = zip_all(held, es, vs, p, heads, nexts, nodes, map, starts);
     let zipped = z.held;

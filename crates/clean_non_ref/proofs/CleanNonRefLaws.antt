@@ -7,7 +7,8 @@ use native.Mathlib.Omega.{arith}
 use lib.ListN.{length}
 use Rattle.defs.specs.Lists.{keepIf, anyOf, elemOf, upFrom}
 use Rattle.defs.specs.SeqGraph.{Edge, Graph, nodeCount}
-use Rattle.defs.specs.Cleanup.{forward, grow, reached, leadsToSource, leadsFromSink, withoutNonRefEdges, cleanBetween, cleanNonRefPaths, removeSingletonOrphanVertices}
+use Rattle.defs.specs.Cleanup.{forward, grow, reached, leadsToSource, leadsFromSink, withoutNonRefEdges, cleanBetween, cleanNonRefPaths}
+use Rattle.defs.specs.Cleanup.{removeSingletonOrphanVertices}
 use Rattle.laws.proofs.Walks.{byTest}
 use Rattle.laws.proofs.ListLaws.{keepIf-yes, keepIf-no}
 use Rattle.store.specs.Store.{edgesIn, graphIn, EndsBelow}
@@ -27,7 +28,8 @@ keepIf-same : {A : Type 0} (p q : A → Bool) (l : List A) → ((x : A) → List
 unfolding keepIf
 keepIf-same p q [] h = refl
 keepIf-same p q (x ∷ l) h = byTest (p x)
-    (λ t. keepIf-yes p x l t ∙ ap (λ r. x ∷ r) (keepIf-same p q l (λ y m. h y (List·Memᴰ·tail m))) ∙ sym (keepIf-yes q x l (sym (h x (List·Memᴰ·head refl)) ∙ t)))
+    (λ t. keepIf-yes p x l t ∙ ap (λ r. x ∷ r) (keepIf-same p q l (λ y m. h y (List·Memᴰ·tail m)))
+    ∙ sym (keepIf-yes q x l (sym (h x (List·Memᴰ·head refl)) ∙ t)))
     (λ t. keepIf-no p x l t ∙ keepIf-same p q l (λ y m. h y (List·Memᴰ·tail m)) ∙ sym (keepIf-no q x l (sym (h x (List·Memᴰ·head refl)) ∙ t)))
 
 end-below : (off n m : ℕ) (es : List ℕ) → EndsBelow n m es → (e : Edge) → List·Memᴰ e (edgesIn m es) → endAt off e < n
@@ -35,14 +37,27 @@ unfolding endAt
 end-below zero n m es E e k = ends-mem E e k .0
 end-below (suc off) n m es E e k = ends-mem E e k .1
 
-pub dropped : {kind m n : ℕ} {es : List ℕ} {s : ℕ} {marks : List ℕ} {r : ℕ} {es′ : List ℕ} → EndsBelow n m es → Reached true kind m n es s marks → EdgesKept kind n m es marks r es′ → EdgesDropped kind m n es s r es′
-dropped {kind} {m} {n} {es} {s} {marks} E R K = record { most = K .most; is = λ k vs p. K .is ∙ keepIf-same (staysBy kind marks) (λ (e : Edge). not (leads kind (graphIn k n m es vs p) s e)) (edgesIn m es) (same k vs p) }
+pub dropped : {kind m n : ℕ} {es : List ℕ} {s : ℕ} {marks : List ℕ} {r : ℕ} {es′ : List ℕ} → EndsBelow n m es
+    → Reached true kind m n es s marks → EdgesKept kind n m es marks r es′ → EdgesDropped kind m n es s r es′
+dropped {kind} {m} {n} {es} {s} {marks} E R K = record {
+  most = K .most;
+  is = λ k vs p. K .is
+      ∙ keepIf-same (staysBy kind marks) (λ (e : Edge). not (leads kind (graphIn k n m es vs p) s e)) (edgesIn m es) (same k vs p);
+}
   where
     same : (k : ℕ) (vs p : List ℕ) (e : Edge) → List·Memᴰ e (edgesIn m es) → staysBy kind marks e ≡ not (leads kind (graphIn k n m es vs p) s e)
     same k vs p e i = unfold staysBy leads in (ap (λ (b : Bool). not (not (e .isRef) && b)) (R .at k vs p (endAt kind e) (end-below kind n m es E e i)))
 
-pub kept-indexable : {off m n : ℕ} {es marks : List ℕ} {r : ℕ} {es′ heads nexts : List ℕ} → Indexed m n es heads nexts → m < 4294967296 → EdgesKept off n m es marks r es′ → length es′ ≡ length es → Indexable r n es′ heads nexts
-kept-indexable X s K a = record { room = omega (arith, K .most, X .room); heads-room = X .heads-room; nexts-room = omega (arith, K .most, X .nexts-room); small = omega (arith, K .most); ends = K .ends }
+pub kept-indexable : {off m n : ℕ} {es marks : List ℕ} {r : ℕ} {es′ heads nexts : List ℕ} → Indexed m n es heads nexts → m < 4294967296
+    → EdgesKept off n m es marks r es′ → length es′ ≡ length es → Indexable r n es′ heads nexts
+kept-indexable X s K a = record {
+  room = omega (arith, K .most, X .room);
+  heads-room = X .heads-room;
+  nexts-room =
+      omega (arith, K .most, X .nexts-room);
+  small = omega (arith, K .most);
+  ends = K .ends;
+}
 
 -- ---- a walk in what is left of the edges
 
@@ -93,7 +108,8 @@ module _ (q : Edge → Bool) (step step′ : Edge → ℕ → ℕ → Bool) (is 
         found : (v : ℕ) → anyOf (λ e. anyOf (λ u. step e u v) seen) (g′ .edges) ≡ anyOf (λ e. anyOf (λ u. step′ e u v) seen) (g .edges)
         found v = ap (anyOf (λ e. anyOf (λ u. step e u v) seen)) edges-kept ∙ any-kept v seen (g .edges)
 
-        more : keepIf (λ v. elemOf v seen || anyOf (λ e. anyOf (λ u. step e u v) seen) (g′ .edges)) (upFrom 0 (nodeCount g′)) ≡ keepIf (λ v. elemOf v seen || anyOf (λ e. anyOf (λ u. step′ e u v) seen) (g .edges)) (upFrom 0 (nodeCount g))
+        more : keepIf (λ v. elemOf v seen || anyOf (λ e. anyOf (λ u. step e u v) seen) (g′ .edges)) (upFrom 0 (nodeCount g′))
+            ≡ keepIf (λ v. elemOf v seen || anyOf (λ e. anyOf (λ u. step′ e u v) seen) (g .edges)) (upFrom 0 (nodeCount g))
         more = λ i. keepIf (λ v. elemOf v seen || found v i) (upFrom 0 (count-same i))
 
     pub reached-kept : (s : ℕ) → reached step g′ s ≡ reached step′ g s
@@ -117,19 +133,23 @@ module _ (g g₁ : Graph) (s t : ℕ) (verts-same : g₁ .verts ≡ g .verts) (e
   to-source e = refl
 
   sink-walk : reached (walkStep true 0) g₁ t ≡ reached (λ (d : Edge) (u v : ℕ). not (d .isRef) && (not (leadsToSource g s d) && forward d u v)) g t
-  sink-walk = reached-kept (λ (e : Edge). not (leads 1 g s e)) (walkStep true 0) (λ (d : Edge) (u v : ℕ). not (d .isRef) && (not (leadsToSource g s d) && forward d u v)) steps g g₁ verts-same edges-kept t
+  sink-walk = reached-kept (λ (e : Edge). not (leads 1 g s e)) (walkStep true 0) (λ (d : Edge) (u v : ℕ). not (d .isRef)
+      && (not (leadsToSource g s d) && forward d u v)) steps g g₁ verts-same edges-kept t
     where
       steps : (e : Edge) (u v : ℕ) → (not (e .isRef) && (not (leadsToSource g s e) && forward e u v)) ≡ (not (leads 1 g s e) && walkStep true 0 e u v)
-      steps e u v = unfold walkStep stepOf in (swap (not (e .isRef)) (leadsToSource g s e) (forward e u v) ∙ ap (λ (b : Bool). not b && (not (e .isRef) && forward e u v)) (sym (to-source e)))
+      steps e u v = unfold walkStep stepOf in (swap (not (e .isRef)) (leadsToSource g s e) (forward e u v)
+          ∙ ap (λ (b : Bool). not b && (not (e .isRef) && forward e u v)) (sym (to-source e)))
 
   stays-both : (e : Edge) → (not (leads 1 g s e) && not (leads 0 g₁ t e)) ≡ not (leadsToSource g s e || leadsFromSink g s t e)
   unfolding leadsFromSink leads endAt
   stays-both e =
       ap (λ (b : Bool). not b && not (leads 0 g₁ t e)) (to-source e)
       ∙ ap (λ (l : List ℕ). not (leadsToSource g s e) && not (not (e .isRef) && elemOf (e .from) l)) sink-walk
-      ∙ both (leadsToSource g s e) (not (e .isRef)) (elemOf (e .from) (reached (λ (d : Edge) (u v : ℕ). not (d .isRef) && (not (leadsToSource g s d) && forward d u v)) g t))
+      ∙ both (leadsToSource g s e) (not (e .isRef)) (elemOf (e .from)
+      (reached (λ (d : Edge) (u v : ℕ). not (d .isRef) && (not (leadsToSource g s d) && forward d u v)) g t))
 
-  pub both-walks : keepIf (λ (e : Edge). not (leads 0 g₁ t e)) (g₁ .edges) ≡ keepIf (λ (e : Edge). not (leadsToSource g s e || leadsFromSink g s t e)) (g .edges)
+  pub both-walks : keepIf (λ (e : Edge). not (leads 0 g₁ t e)) (g₁ .edges)
+      ≡ keepIf (λ (e : Edge). not (leadsToSource g s e || leadsFromSink g s t e)) (g .edges)
   both-walks =
       ap (keepIf (λ (e : Edge). not (leads 0 g₁ t e))) edges-kept
       ∙ keepIf-keepIf (λ (e : Edge). not (leads 1 g s e)) (λ (e : Edge). not (leads 0 g₁ t e)) (g .edges)
@@ -149,8 +169,15 @@ module _ (h : Held) (s t : ℕ) {es es₁ es₂ : List ℕ} {a b : ℕ} (A : Edg
     edges = (B .is (h .k .0) vs p ∙ both-walks (graphOf h es vs p) (graphIn (h .k .0) (h .n) a es₁ vs p) s t refl (A .is (h .k .0) vs p)) i;
   }
 
-  pub left-compactable : {vs mp : List ℕ} → Compactable (h .n) (h .m) es vs mp → length es₂ ≡ length es → EndsBelow (h .n) b es₂ → Compactable (h .n) b es₂ vs mp
-  left-compactable C q E = record { es-room = omega (arith, A .most, B .most, C .es-room); vs-room = C .vs-room; mp-room = C .mp-room; small = C .small; ends = E }
+  pub left-compactable : {vs mp : List ℕ} → Compactable (h .n) (h .m) es vs mp → length es₂ ≡ length es → EndsBelow (h .n) b es₂
+      → Compactable (h .n) b es₂ vs mp
+  left-compactable C q E = record {
+    es-room = omega (arith, A .most, B .most, C .es-room);
+    vs-room = C .vs-room;
+    mp-room = C .mp-room;
+    small = C .small;
+    ends = E;
+  }
 
   pub between-reduced : {vs : List ℕ} {r : Held} {es₃ vs₃ : List ℕ} {l : Held} → l ≡ left → Reduced removeSingletonOrphanVertices l es₂ vs r es₃ vs₃
       → Reduced (λ (g : Graph). removeSingletonOrphanVertices (withoutNonRefEdges g s t)) h es vs r es₃ vs₃
@@ -165,7 +192,8 @@ module _ (h : Held) (s t : ℕ) {es es₁ es₂ : List ℕ} {a b : ℕ} (A : Edg
 
 -- ---- the choice
 
-pub untouched : (h : Held) {es vs : List ℕ} → EndsBelow (h .n) (h .m) es → ((p : List ℕ) → cleanNonRefPaths (graphOf h es vs p) ≡ graphOf h es vs p) → Reduced cleanNonRefPaths h es vs h es vs
+pub untouched : (h : Held) {es vs : List ℕ} → EndsBelow (h .n) (h .m) es
+    → ((p : List ℕ) → cleanNonRefPaths (graphOf h es vs p) ≡ graphOf h es vs p) → Reduced cleanNonRefPaths h es vs h es vs
 untouched h E same = record { is = λ p. sym (same p); most-n = omega arith; most-m = omega arith; ends = E; within = λ used W. W; used-is = refl }
 
 module _ (h : Held) (es vs : List ℕ) {s : ℕ} (F : FirstSource (h .m) (h .n) es s) where

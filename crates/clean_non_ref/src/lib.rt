@@ -80,8 +80,11 @@ fn clean_between(
     map: &mut [u32],
     tried: &mut [u64],
 ) -> Held
-    requires { ⌜ (s < held .n) × ((t < held .n) × ((held .m < 4294967296) × (Compactable (held .n) (held .m) (now es) (now vs) (now map) × (Indexed (held .m) (held .n) (now es) (now heads) (now nexts) × Walkable (held .n) (now tried) (now nodes))))) ⌝ }
-    ensures { λ r. ⌜ Reduced (λ (g : Graph). removeSingletonOrphanVertices (withoutNonRefEdges g s t)) held (now (es .entry)) (now (vs .entry)) r (now (es .exit)) (now (vs .exit)) ⌝ }
+    requires { ⌜ (s < held .n) × ((t < held .n) × ((held .m < 4294967296)
+        × (Compactable (held .n) (held .m) (now es) (now vs) (now map)
+        × (Indexed (held .m) (held .n) (now es) (now heads) (now nexts) × Walkable (held .n) (now tried) (now nodes))))) ⌝ }
+    ensures { λ r. ⌜ Reduced (λ (g : Graph). removeSingletonOrphanVertices (withoutNonRefEdges g s t)) held (now (es .entry))
+        (now (vs .entry)) r (now (es .exit)) (now (vs .exit)) ⌝ }
 {
     let n = held.n;
     let a = drop_edges(es, held.m, n, heads, nexts, 1, s, nodes, tried);
@@ -107,7 +110,8 @@ pub fn clean_non_ref_paths(
     map: &mut [u32],
     tried: &mut [u64],
 ) -> Held
-    requires { ⌜ Compactable (held .n) (held .m) (now es) (now vs) (now map) × (Indexable (held .m) (held .n) (now es) (now heads) (now nexts) × Walkable (held .n) (now tried) (now nodes)) ⌝ }
+    requires { ⌜ Compactable (held .n) (held .m) (now es) (now vs) (now map)
+        × (Indexable (held .m) (held .n) (now es) (now heads) (now nexts) × Walkable (held .n) (now tried) (now nodes)) ⌝ }
     ensures { λ r. ⌜ Reduced cleanNonRefPaths held (now (es .entry)) (now (vs .entry)) r (now (es .exit)) (now (vs .exit)) ⌝ }
 {
     let n = held.n;

@@ -40,7 +40,8 @@ use Rattle.clean_non_ref_paths.specs.CleansPaths.{CleansPaths}
 -- what is lent is room enough to clean what was read
 module _ {bs es vs p heads nexts nodes mp tried : List ℕ} (Z : LentMarks bs es vs p heads nexts nodes mp tried) where
   pub lent-walkable : {r : Read} {es′ vs′ p′ heads′ nexts′ nodes′ mp′ : List ℕ} → ReadAs bs heads nexts r es′ vs′ p′ → r .number ≡ 0
-      → length es′ ≡ length es → length vs′ ≡ length vs → length p′ ≡ length p → length heads′ ≡ length heads → length nexts′ ≡ length nexts → length nodes′ ≡ length nodes → length mp′ ≡ length mp
+      → length es′ ≡ length es → length vs′ ≡ length vs → length p′ ≡ length p → length heads′ ≡ length heads → length nexts′ ≡ length nexts
+      → length nodes′ ≡ length nodes → length mp′ ≡ length mp
       → Compactable (r .held .n) (r .held .m) es′ vs′ mp′ × (Indexable (r .held .m) (r .held .n) es′ heads′ nexts′ × Walkable (r .held .n) tried nodes′)
   lent-walkable A ok la lb lc ld le lf lg =
       let R = room-kept (Z .graph .room) la lb lc ld le lf lg in
@@ -52,7 +53,8 @@ module _ {bs heads nexts : List ℕ} {r : Read} {es vs p : List ℕ} (A : ReadAs
   pub made-refused : (r .number ≡ 0 → ⊥) → MadeOf bs heads nexts r es vs p
   made-refused o = record { number = A .number; is = λ z. absurd (o z); holds = λ z. absurd (o z) }
 
-  pub made-whole : Roomy bs heads nexts → r .number ≡ 0 → {c : Held} {es′ vs′ : List ℕ} → Reduced cleanNonRefPaths (r .held) es vs c es′ vs′ → MadeOf bs heads nexts record { number = 0; held = c } es′ vs′ p
+  pub made-whole : Roomy bs heads nexts → r .number ≡ 0 → {c : Held} {es′ vs′ : List ℕ} → Reduced cleanNonRefPaths (r .held) es vs c es′ vs′
+      → MadeOf bs heads nexts record { number = 0; held = c } es′ vs′ p
   made-whole Y ok R =
       let H = read-lean A Y ok in
       record {
@@ -66,7 +68,8 @@ module _ (bs out : List ℕ) (t : Tally) where
   abbrev result : List ℕ
   result = encode sequenceGraph 0 (cleanNonRefPaths (decode bs))
 
-  refused-with : (n : ℕ) → (n ≡ 0 → ⊥) → cleanNonRefPathsResponse bs (length out) ≡ refused n → {a : Answer} {out′ : List ℕ} → Refuses n t a → out′ ≡ out → CleansPaths bs out t a out′
+  refused-with : (n : ℕ) → (n ≡ 0 → ⊥) → cleanNonRefPathsResponse bs (length out) ≡ refused n → {a : Answer} {out′ : List ℕ} → Refuses n t a
+      → out′ ≡ out → CleansPaths bs out t a out′
   unfolding cleanNonRefPathsAnswer D.answer numberOf
   refused-with n o e {a} R q =
       let P = responds-refused e R q in
@@ -85,7 +88,8 @@ module _ (bs out : List ℕ) (t : Tally) where
   stopped n e o = respond-refused (recordCauses sequenceOnly bs) (length out) result n e o
 
   module _ (small : Bytes bs) (ok : recordRefusal sequenceOnly bs ≡ 0) where
-    accepted-with : {n : ℕ} {a : Answer} {out′ : List ℕ} → cleanNonRefPathsResponse bs (length out) ≡ accepted result → n ≡ length result → Accepts n t a → out′ ≡ result ++ drop (length result) out → CleansPaths bs out t a out′
+    accepted-with : {n : ℕ} {a : Answer} {out′ : List ℕ} → cleanNonRefPathsResponse bs (length out) ≡ accepted result → n ≡ length result
+        → Accepts n t a → out′ ≡ result ++ drop (length result) out → CleansPaths bs out t a out′
     unfolding cleanNonRefPathsAnswer D.answer lengthOf
     accepted-with {n} {a} {out′} e l A w =
         let P = responds-accepted e l A w in
@@ -105,7 +109,8 @@ module _ (bs out : List ℕ) (t : Tally) where
 
         written-is : decode (take (a .length) out′) ≡ cleanNonRefPaths (decode bs)
         written-is =
-            ap decode (ap (λ (k : ℕ). take k out′) (ap (λ (x : D.Answer). x .length) (A .is result (sym l))) ∙ ap (take (length result)) w ∙ take-append-seam result (drop (length result) out))
+            ap decode (ap (λ (k : ℕ). take k out′) (ap (λ (x : D.Answer). x .length) (A .is result (sym l))) ∙ ap (take (length result)) w
+            ∙ take-append-seam result (drop (length result) out))
             ∙ clean-paths-read-back bs small ok narrow 0
 
 -- the whole call

@@ -7,7 +7,8 @@ use lib.Dec.{eqb}
 use lib.ListN.{length}
 use Rattle.defs.specs.Lists.{keepIf}
 use Rattle.defs.specs.SeqGraph.{Edge, Graph, nodeCount, edgesFrom, outDegree, compactVertices}
-use Rattle.defs.specs.Cleanup.{referenceSourceVertex, referenceSinkVertex, removeSingletonOrphanVertices, leadsToSource, leadsFromSink, withoutNonRefEdges, cleanBetween, cleanNonRefPaths}
+use Rattle.defs.specs.Cleanup.{referenceSourceVertex, referenceSinkVertex, removeSingletonOrphanVertices, leadsToSource, leadsFromSink}
+use Rattle.defs.specs.Cleanup.{withoutNonRefEdges, cleanBetween, cleanNonRefPaths}
 use Rattle.laws.proofs.Walks.{byTest}
 use Rattle.laws.proofs.ListLaws.{of-keepIf, keepIf-yes, keepIf-no}
 use Rattle.laws.proofs.Counts.{Single}
@@ -57,7 +58,8 @@ module _ (q : Edge → Bool) (g : Graph) where
 
   thinned-branching : branching thinned ≤ branching g
   unfolding branching outDegree edgesFrom nodeCount
-  thinned-branching = sum-le (λ v. outDegree thinned v - 1) (λ v. outDegree g v - 1) (length (g .verts)) (λ v l. omega (arith, fewer (λ (e : Edge). eqb (e .from) v) q (g .edges)))
+  thinned-branching = sum-le (λ v. outDegree thinned v - 1) (λ v. outDegree g v - 1) (length (g .verts)) (λ v l.
+      omega (arith, fewer (λ (e : Edge). eqb (e .from) v) q (g .edges)))
 
   pub thinned-lean : {heads nexts : List ℕ} → Lean g heads nexts → Lean thinned heads nexts
   unfolding weight
@@ -70,10 +72,12 @@ module _ (q : Edge → Bool) (g : Graph) where
 -- ---- the call
 
 -- what the removal of edges and of vertices keeps
-module _ (P : Graph → Type 0) (thin : (q : Edge → Bool) (g : Graph) → P g → P (thinned q g)) (restrict : (p : ℕ → Bool) (g : Graph) → P g → P (compactVertices p g)) where
+module _ (P : Graph → Type 0) (thin : (q : Edge → Bool) (g : Graph) → P g → P (thinned q g)) (restrict : (p : ℕ → Bool) (g : Graph) → P g
+    → P (compactVertices p g)) where
   between-keeps : (g : Graph) (s t : ℕ) → P g → P (removeSingletonOrphanVertices (withoutNonRefEdges g s t))
   unfolding removeSingletonOrphanVertices withoutNonRefEdges
-  between-keeps g s t h = orphans-keep P restrict (suc (nodeCount (withoutNonRefEdges g s t))) (withoutNonRefEdges g s t) (thin (λ (e : Edge). not (leadsToSource g s e || leadsFromSink g s t e)) g h)
+  between-keeps g s t h = orphans-keep P restrict (suc (nodeCount (withoutNonRefEdges g s t))) (withoutNonRefEdges g s t) (thin
+      (λ (e : Edge). not (leadsToSource g s e || leadsFromSink g s t e)) g h)
 
   clean-keeps : (g : Graph) → P g → P (cleanNonRefPaths g)
   unfolding cleanNonRefPaths cleanBetween

@@ -14,7 +14,8 @@ use Rattle.choice.specs.Choice.{Lean, HoldsLean}
 use Rattle.choice.proofs.LeanLaws.{lean-as}
 use Rattle.choice.proofs.ChoiceLaws.{holds-lean}
 
-pub read-lean : {bs heads nexts : List ℕ} {r : Read} {es vs p : List ℕ} → ReadAs bs heads nexts r es vs p → Roomy bs heads nexts → r .number ≡ 0 → HoldsLean (r .held) es vs p heads nexts
+pub read-lean : {bs heads nexts : List ℕ} {r : Read} {es vs p : List ℕ} → ReadAs bs heads nexts r es vs p → Roomy bs heads nexts → r .number
+    ≡ 0 → HoldsLean (r .held) es vs p heads nexts
 read-lean {bs} {heads} {nexts} A Y ok =
     let z = sym (A .number) ∙ ok in
     let formed = accepted-layout sequenceOnly bs z in

@@ -9,19 +9,20 @@ use lib.ListN.{length}
 use Rattle.defs.specs.SeqGraph.{Graph, nodeCount}
 use Rattle.defs.specs.Zip as Z
 use Rattle.defs.specs.Simplify.{sequenceBytes, emptyVertices, simplifyGraphFull}
-use Rattle.defs.specs.Cleanup.{referenceSourceVertex, referenceSinkVertex, removePathsNotConnectedToRef, withDummyVertex, statusNumber, afterChoice, cleanupSeqGraph}
+use Rattle.defs.specs.Cleanup.{referenceSourceVertex, referenceSinkVertex, removePathsNotConnectedToRef, withDummyVertex, statusNumber}
+use Rattle.defs.specs.Cleanup.{afterChoice, cleanupSeqGraph}
 use Rattle.laws.proofs.Fuel.{Good}
 use Rattle.laws.proofs.Whole.{byList}
 use Rattle.laws.proofs.Measures.{weight, load}
 use Rattle.laws.proofs.Cleaned.{sink-nil, sink-one, sink-more}
 use Rattle.laws.proofs.Room.{withSink-fits}
 use Rattle.index.specs.Index.{Indexable}
-use Rattle.memory.specs.Memory.{graphOf, workOf, Fit, Holds}
+use Rattle.memory.specs.Memory.{graphOf, workOf, Fit, Holds, Countable}
 use Rattle.memory.specs.declared.Held.{Held}
 use Rattle.memory.specs.declared.Work.{Work}
 use Rattle.memory.proofs.RoomLaws.{held-vertices, held-edges, held-ends, holds-kept}
 use Rattle.refs.specs.Refs.{FirstSource, FirstSink}
-use Rattle.rounds.specs.Rounds.{Countable, Full}
+use Rattle.rounds.specs.Rounds.{Full}
 use Rattle.rounds.specs.declared.Simplified.{Simplified}
 use Rattle.orphans.specs.Orphans.{Reduced}
 use Rattle.dummy_vertex.specs.Dummy.{DummyAdded}
@@ -71,15 +72,21 @@ dummy-fit g L = byList (g .verts)
     (λ u. let i = t ∙ ap (λ (l : List (List ℕ)). v ∷ l) u in rw (sink-one g v i) (pair-fit g v i L))
     (λ w ws u. rw (sink-more g v w ws (t ∙ ap (λ (l : List (List ℕ)). v ∷ l) u)) (lean-fit L)))
 
-pub dummy-holds : {h r : Held} {es vs p heads nexts es′ vs′ : List ℕ} → HoldsLean h es vs p heads nexts → DummyAdded h es vs r es′ vs′ → Holds r es′ vs′ p heads nexts
+pub dummy-holds : {h r : Held} {es vs p heads nexts es′ vs′ : List ℕ} → HoldsLean h es vs p heads nexts → DummyAdded h es vs r es′ vs′
+    → Holds r es′ vs′ p heads nexts
 dummy-holds {h} {r} {es} {vs} {p} H D = record {
   fit = rw (D .is p) (dummy-fit (graphOf h es vs p) (H .lean));
   within = rw (D .used-is) (D .within (h .used) (H .within));
   used-room = omega (arith, D .used-is, H .used-room);
 }
 
-pub dummy-room : {h : Held} {es vs p heads nexts nodes mp starts tried sig : List ℕ} (es′ vs′ : List ℕ) → Cleanable h es vs p heads nexts nodes mp starts tried sig → length es′ ≡ length es → length vs′ ≡ length vs → (4 ≤ length es′) × (4 ≤ length vs′)
-dummy-room es′ vs′ C a b = (omega (arith, C .holds .lean .light, C .room .vertices-edges, C .room .es-room), omega (arith, C .holds .lean .light, C .room .vs-room))
+pub dummy-room : {h : Held} {es vs p heads nexts nodes mp starts tried sig : List ℕ} (es′ vs′ : List ℕ)
+    → Cleanable h es vs p heads nexts nodes mp starts tried sig → length es′ ≡ length es → length vs′ ≡ length vs → (4 ≤ length es′)
+    × (4 ≤ length vs′)
+dummy-room es′ vs′ C a b = (
+  omega (arith, C .holds .lean .light, C .room .vertices-edges, C .room .es-room),
+  omega (arith, C .holds .lean .light, C .room .vs-room),
+)
 
 -- ---- what lies between
 
@@ -93,7 +100,12 @@ module _ (w : Work) (s t : ℕ) {es vs p heads nexts : List ℕ} (H : HoldsLean 
     between-counted K = omega (arith, K .small, F .answers .rewrites, lean-rewrites (between-lean .lean))
 
     module _ {d : Held} {es₃ vs₃ : List ℕ} (D : DummyAdded (z .held) es₂ vs₂ d es₃ vs₃) where
-      between-answers : Answers (afterChoice (workOf w es vs p) (some s) (some t)) record { held = d; status = 2; rewrites = w .rewrites + z .rewrites } es₃ vs₃ p₂
+      between-answers : Answers (afterChoice (workOf w es vs p) (some s) (some t)) record {
+        held = d;
+        status = 2;
+        rewrites = w .rewrites
+            + z .rewrites;
+      } es₃ vs₃ p₂
       unfolding afterChoice statusNumber
       between-answers = record {
         graph = D .is p₂ ∙ ap withDummyVertex (F .answers .graph ∙ ap (λ (x : Graph). (simplifyGraphFull 10 x) .graph) (R .is p));
@@ -101,7 +113,8 @@ module _ (w : Work) (s t : ℕ) {es vs p heads nexts : List ℕ} (H : HoldsLean 
         rewrites = ap (λ (x : ℕ). w .rewrites + x) (F .answers .rewrites ∙ ap (λ (x : Graph). (simplifyGraphFull 10 x) .rewrites) (R .is p));
       }
 
-      pub between-after : {r : CleanedUp} → r ≡ record { held = d; status = 2; rewrites = w .rewrites + z .rewrites } → length heads₁ ≡ length heads → length nexts₁ ≡ length nexts
+      pub between-after : {r : CleanedUp} → r ≡ record { held = d; status = 2; rewrites = w .rewrites + z .rewrites } → length heads₁
+          ≡ length heads → length nexts₁ ≡ length nexts
           → After w (some s) (some t) es vs p heads nexts r es₃ vs₃ p₂
       between-after q ld le = rw q record {
         answers = between-answers;
@@ -111,7 +124,8 @@ module _ (w : Work) (s t : ℕ) {es vs p heads nexts : List ℕ} (H : HoldsLean 
 -- ---- the choice
 
 module _ (w : Work) {es vs p heads nexts : List ℕ} (H : HoldsLean (w .held) es vs p heads nexts) where
-  plain-after : (a b : Option ℕ) → afterChoice (workOf w es vs p) a b ≡ afterChoice (workOf w es vs p) none b → After w a b es vs p heads nexts (uncleaned w) es vs p
+  plain-after : (a b : Option ℕ) → afterChoice (workOf w es vs p) a b ≡ afterChoice (workOf w es vs p) none b
+      → After w a b es vs p heads nexts (uncleaned w) es vs p
   unfolding afterChoice statusNumber
   plain-after a b q = record {
     answers = rw q record { graph = refl; status = refl; rewrites = refl };
@@ -122,23 +136,27 @@ module _ (w : Work) {es vs p heads nexts : List ℕ} (H : HoldsLean (w .held) es
       → After w (referenceSourceVertex (graphOf (w .held) es vs p)) (referenceSinkVertex (graphOf (w .held) es vs p)) es vs p heads nexts r es vs p
   after-no-source F l q = rw (q, F .missing l (w .held .k .0) vs p) (plain-after none _ refl)
 
-  pub after-no-sink : {s t : ℕ} {r : CleanedUp} → FirstSource (w .held .m) (w .held .n) es s → s < w .held .n → FirstSink (w .held .m) (w .held .n) es t → w .held .n ≤ t → r ≡ uncleaned w
+  pub after-no-sink : {s t : ℕ} {r : CleanedUp} → FirstSource (w .held .m) (w .held .n) es s → s < w .held .n
+      → FirstSink (w .held .m) (w .held .n) es t → w .held .n ≤ t → r ≡ uncleaned w
       → After w (referenceSourceVertex (graphOf (w .held) es vs p)) (referenceSinkVertex (graphOf (w .held) es vs p)) es vs p heads nexts r es vs p
   unfolding afterChoice
   after-no-sink {s} F k T l q = rw (q, F .found k (w .held .k .0) vs p, T .missing l (w .held .k .0) vs p) (plain-after (some s) none refl)
 
-pub after-chosen : {w : Work} {es vs p heads nexts : List ℕ} {s t : ℕ} {r : CleanedUp} {es′ vs′ p′ : List ℕ} → FirstSource (w .held .m) (w .held .n) es s → s < w .held .n → FirstSink (w .held .m) (w .held .n) es t → t < w .held .n
+pub after-chosen : {w : Work} {es vs p heads nexts : List ℕ} {s t : ℕ} {r : CleanedUp} {es′ vs′ p′ : List ℕ}
+    → FirstSource (w .held .m) (w .held .n) es s → s < w .held .n → FirstSink (w .held .m) (w .held .n) es t → t < w .held .n
     → After w (some s) (some t) es vs p heads nexts r es′ vs′ p′
     → After w (referenceSourceVertex (graphOf (w .held) es vs p)) (referenceSinkVertex (graphOf (w .held) es vs p)) es vs p heads nexts r es′ vs′ p′
 after-chosen {w} {es} {vs} {p} F k T l A = rw (F .found k (w .held .k .0) vs p, T .found l (w .held .k .0) vs p) A
 
 -- ---- the whole
 
-module _ {h : Held} {es vs p heads nexts nodes mp starts tried sig : List ℕ} (C : Cleanable h es vs p heads nexts nodes mp starts tried sig) {w : Work} {es₁ vs₁ p₁ : List ℕ} (B : Before h es vs p heads nexts w es₁ vs₁ p₁) where
+module _ {h : Held} {es vs p heads nexts nodes mp starts tried sig : List ℕ} (C : Cleanable h es vs p heads nexts nodes mp starts tried sig)
+    {w : Work} {es₁ vs₁ p₁ : List ℕ} (B : Before h es vs p heads nexts w es₁ vs₁ p₁) where
   pub choice-countable : {heads₁ : List ℕ} → length heads₁ ≡ length heads → Countable 202 (w .rewrites) heads₁
   choice-countable d = record { small = rw d (omega (arith, B .most, C .countable .small)) }
 
-  pub choice-indexable : {heads₁ nexts₁ : List ℕ} → length es₁ ≡ length es → length heads₁ ≡ length heads → length nexts₁ ≡ length nexts → Indexable (w .held .m) (w .held .n) es₁ heads₁ nexts₁
+  pub choice-indexable : {heads₁ nexts₁ : List ℕ} → length es₁ ≡ length es → length heads₁ ≡ length heads → length nexts₁ ≡ length nexts
+      → Indexable (w .held .m) (w .held .n) es₁ heads₁ nexts₁
   choice-indexable a d e = let H = lean-holds (B .holds) in record {
     room = omega (arith, held-edges H, C .room .es-room);
     heads-room = omega (arith, held-vertices H);
@@ -147,11 +165,13 @@ module _ {h : Held} {es vs p heads nexts nodes mp starts tried sig : List ℕ} (
     ends = held-ends H;
   }
 
-pub cleaned-up : {h : Held} {es vs p heads nexts : List ℕ} {w : Work} {es₁ vs₁ p₁ : List ℕ} → Before h es vs p heads nexts w es₁ vs₁ p₁ → {heads₁ nexts₁ : List ℕ} {r : CleanedUp} {es′ vs′ p′ : List ℕ}
+pub cleaned-up : {h : Held} {es vs p heads nexts : List ℕ} {w : Work} {es₁ vs₁ p₁ : List ℕ} → Before h es vs p heads nexts w es₁ vs₁ p₁
+    → {heads₁ nexts₁ : List ℕ} {r : CleanedUp} {es′ vs′ p′ : List ℕ}
     → After w (referenceSourceVertex (graphOf (w .held) es₁ vs₁ p₁)) (referenceSinkVertex (graphOf (w .held) es₁ vs₁ p₁)) es₁ vs₁ p₁ heads₁ nexts₁ r es′ vs′ p′
     → length heads₁ ≡ length heads → length nexts₁ ≡ length nexts → CleanUp h es vs p heads nexts r es′ vs′ p′
 unfolding cleanupSeqGraph
 cleaned-up B {r = r} {es′} {vs′} {p′} A ld le = record {
-  answers = subst (λ (x : Z.Work). Answers (afterChoice x (referenceSourceVertex (x .graph)) (referenceSinkVertex (x .graph))) r es′ vs′ p′) (B .is) (A .answers);
+  answers = subst (λ (x : Z.Work). Answers (afterChoice x (referenceSourceVertex (x .graph)) (referenceSinkVertex (x .graph))) r es′ vs′ p′)
+      (B .is) (A .answers);
   holds = holds-kept (A .holds) (sym ld) (sym le);
 }

@@ -5,9 +5,8 @@ ghost use mathlib.Core.Option.{some};
 ghost use Prim.Native.Nat.{_+_, _<_};
 ghost use Rattle.defs.specs.Cleanup.{referenceSourceVertex, referenceSinkVertex};
 ghost use Rattle.index.specs.Index.{Indexed};
-ghost use Rattle.memory.specs.Memory.{graphOf};
+ghost use Rattle.memory.specs.Memory.{graphOf, Countable};
 ghost use Rattle.refs.specs.Refs.{FirstSource, FirstSink};
-ghost use Rattle.rounds.specs.Rounds.{Countable};
 ghost use Rattle.choice.specs.Choice.{Cleanable};
 ghost use Rattle.cleanup.specs.CleanUp.{uncleaned, After, CleanUp};
 use memory::Held;
@@ -48,8 +47,11 @@ fn keep_between(
     tried: &mut [u64],
     sig: &mut [u32],
 ) -> CleanedUp
-    requires { ⌜ Cleanable (work .held) (now es) (now vs) (now p) (now heads) (now nexts) (now nodes) (now map) (now starts) (now tried) (now sig) × (Indexed (work .held .m) (work .held .n) (now es) (now heads) (now nexts) × (Countable 202 (work .rewrites) (now heads) × ((s < work .held .n) × (t < work .held .n)))) ⌝ }
-    ensures { λ r. ⌜ After work (some s) (some t) (now (es .entry)) (now (vs .entry)) (now (p .entry)) (now (heads .entry)) (now (nexts .entry)) r (now (es .exit)) (now (vs .exit)) (now (p .exit)) ⌝ }
+    requires { ⌜ Cleanable (work .held) (now es) (now vs) (now p) (now heads) (now nexts) (now nodes) (now map) (now starts) (now tried)
+        (now sig) × (Indexed (work .held .m) (work .held .n) (now es) (now heads) (now nexts)
+        × (Countable 202 (work .rewrites) (now heads) × ((s < work .held .n) × (t < work .held .n)))) ⌝ }
+    ensures { λ r. ⌜ After work (some s) (some t) (now (es .entry)) (now (vs .entry)) (now (p .entry)) (now (heads .entry))
+        (now (nexts .entry)) r (now (es .exit)) (now (vs .exit)) (now (p .exit)) ⌝ }
 {
     let held = work.held;
     let b = connected::remove_paths_not_connected_to_ref(
@@ -103,8 +105,13 @@ fn after_choice(
     tried: &mut [u64],
     sig: &mut [u32],
 ) -> CleanedUp
-    requires { ⌜ Cleanable (work .held) (now es) (now vs) (now p) (now heads) (now nexts) (now nodes) (now map) (now starts) (now tried) (now sig) × (Indexed (work .held .m) (work .held .n) (now es) (now heads) (now nexts) × (Countable 202 (work .rewrites) (now heads) × (FirstSource (work .held .m) (work .held .n) (now es) s × FirstSink (work .held .m) (work .held .n) (now es) t))) ⌝ }
-    ensures { λ r. ⌜ After work (referenceSourceVertex (graphOf (work .held) (now (es .entry)) (now (vs .entry)) (now (p .entry)))) (referenceSinkVertex (graphOf (work .held) (now (es .entry)) (now (vs .entry)) (now (p .entry)))) (now (es .entry)) (now (vs .entry)) (now (p .entry)) (now (heads .entry)) (now (nexts .entry)) r (now (es .exit)) (now (vs .exit)) (now (p .exit)) ⌝ }
+    requires { ⌜ Cleanable (work .held) (now es) (now vs) (now p) (now heads) (now nexts) (now nodes) (now map) (now starts) (now tried)
+        (now sig) × (Indexed (work .held .m) (work .held .n) (now es) (now heads) (now nexts)
+        × (Countable 202 (work .rewrites) (now heads) × (FirstSource (work .held .m) (work .held .n) (now es) s
+        × FirstSink (work .held .m) (work .held .n) (now es) t))) ⌝ }
+    ensures { λ r. ⌜ After work (referenceSourceVertex (graphOf (work .held) (now (es .entry)) (now (vs .entry)) (now (p .entry))))
+        (referenceSinkVertex (graphOf (work .held) (now (es .entry)) (now (vs .entry)) (now (p .entry)))) (now (es .entry))
+        (now (vs .entry)) (now (p .entry)) (now (heads .entry)) (now (nexts .entry)) r (now (es .exit)) (now (vs .exit)) (now (p .exit)) ⌝ }
 {
     let held = work.held;
     let n = held.n;
@@ -145,7 +152,8 @@ pub fn cleanup_seq_graph(
     sig: &mut [u32],
 ) -> CleanedUp
     requires { ⌜ Cleanable held (now es) (now vs) (now p) (now heads) (now nexts) (now nodes) (now map) (now starts) (now tried) (now sig) ⌝ }
-    ensures { λ r. ⌜ CleanUp held (now (es .entry)) (now (vs .entry)) (now (p .entry)) (now (heads .entry)) (now (nexts .entry)) r (now (es .exit)) (now (vs .exit)) (now (p .exit)) ⌝ }
+    ensures { λ r. ⌜ CleanUp held (now (es .entry)) (now (vs .entry)) (now (p .entry)) (now (heads .entry)) (now (nexts .entry)) r
+        (now (es .exit)) (now (vs .exit)) (now (p .exit)) ⌝ }
 {
     let w = choice::before_choice(
         held,

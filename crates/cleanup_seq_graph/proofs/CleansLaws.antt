@@ -41,7 +41,8 @@ use Rattle.cleanup_seq_graph.specs.declared.Made.{Made}
 -- what is lent is room enough to clean what was read
 module _ {bs es vs p heads nexts nodes mp starts tried sig : List ℕ} (Z : Lent bs es vs p heads nexts nodes mp starts tried sig) where
   pub lent-cleanable : {r : Read} {es′ vs′ p′ heads′ nexts′ nodes′ mp′ : List ℕ} → ReadAs bs heads nexts r es′ vs′ p′ → r .number ≡ 0
-      → length es′ ≡ length es → length vs′ ≡ length vs → length p′ ≡ length p → length heads′ ≡ length heads → length nexts′ ≡ length nexts → length nodes′ ≡ length nodes → length mp′ ≡ length mp
+      → length es′ ≡ length es → length vs′ ≡ length vs → length p′ ≡ length p → length heads′ ≡ length heads → length nexts′ ≡ length nexts
+      → length nodes′ ≡ length nodes → length mp′ ≡ length mp
       → Cleanable (r .held) es′ vs′ p′ heads′ nexts′ nodes′ mp′ starts tried sig
   lent-cleanable A ok la lb lc ld le lf lg = record {
     room = room-kept (Z .graph .room) la lb lc ld le lf lg;
@@ -56,7 +57,8 @@ module _ {bs heads nexts : List ℕ} {r : Read} {es vs p : List ℕ} (A : ReadAs
   pub made-refused : (r .number ≡ 0 → ⊥) → {m : Made} {es′ vs′ p′ : List ℕ} → m .number ≡ r .number → MadeOf bs heads nexts m es′ vs′ p′
   made-refused o q = record { number = q ∙ A .number; answers = λ z. absurd (o (sym q ∙ z)); holds = λ z. absurd (o (sym q ∙ z)) }
 
-  pub made-whole : r .number ≡ 0 → {heads′ nexts′ : List ℕ} {c : CleanedUp} {es′ vs′ p′ : List ℕ} → length heads′ ≡ length heads → length nexts′ ≡ length nexts → CleanUp (r .held) es vs p heads′ nexts′ c es′ vs′ p′
+  pub made-whole : r .number ≡ 0 → {heads′ nexts′ : List ℕ} {c : CleanedUp} {es′ vs′ p′ : List ℕ} → length heads′ ≡ length heads
+      → length nexts′ ≡ length nexts → CleanUp (r .held) es vs p heads′ nexts′ c es′ vs′ p′
       → MadeOf bs heads nexts record { number = 0; cleaned = c } es′ vs′ p′
   made-whole ok {c = c} {es′} {vs′} {p′} d e F = record {
     number = sym ok ∙ A .number;
@@ -81,7 +83,8 @@ status-one justReference e = refl
 status-one someVariation e = absurd (omega (arith, e))
 
 -- the answer goes by the response
-answer-by : (bs : List ℕ) (room : ℕ) (t : D.Tally) {x : Response} → cleanupSeqGraphResponse bs room ≡ x → D.cleanupAnswer x (cleanupSeqGraph (decode bs)) t ≡ cleanupSeqGraphAnswer bs room t
+answer-by : (bs : List ℕ) (room : ℕ) (t : D.Tally) {x : Response} → cleanupSeqGraphResponse bs room ≡ x
+    → D.cleanupAnswer x (cleanupSeqGraph (decode bs)) t ≡ cleanupSeqGraphAnswer bs room t
 unfolding cleanupSeqGraphAnswer
 answer-by bs room t e = ap (λ (x : Response). D.cleanupAnswer x (cleanupSeqGraph (decode bs)) t) (sym e)
 
@@ -92,7 +95,8 @@ module _ (bs out : List ℕ) (t : Tally) where
   abbrev result : List ℕ
   result = encode sequenceGraph (statusNumber (z .status)) (z .graph)
 
-  refused-with : (n : ℕ) → (n ≡ 0 → ⊥) → cleanupSeqGraphResponse bs (length out) ≡ refused n → {a : CleanupAnswer} {out′ : List ℕ} → RefusesCleanup n t a → out′ ≡ out → Cleans bs out t a out′
+  refused-with : (n : ℕ) → (n ≡ 0 → ⊥) → cleanupSeqGraphResponse bs (length out) ≡ refused n → {a : CleanupAnswer} {out′ : List ℕ}
+      → RefusesCleanup n t a → out′ ≡ out → Cleans bs out t a out′
   unfolding writtenOf numberOf
   refused-with n o e {a} R q = record {
     answer = R .is z ∙ answer-by bs (length out) (tallyOf t) e;
@@ -116,13 +120,15 @@ module _ (bs out : List ℕ) (t : Tally) where
   stopped n e o = respond-refused (recordCauses sequenceOnly bs) (length out) result n e o
 
   module _ (small : Bytes bs) (ok : recordRefusal sequenceOnly bs ≡ 0) where
-    accepted-with : {a : CleanupAnswer} {out′ : List ℕ} → cleanupSeqGraphResponse bs (length out) ≡ accepted result → cleanupAnswerOf a ≡ D.cleanupAnswer (accepted result) z (tallyOf t) → out′ ≡ result ++ drop (length result) out
+    accepted-with : {a : CleanupAnswer} {out′ : List ℕ} → cleanupSeqGraphResponse bs (length out) ≡ accepted result → cleanupAnswerOf a
+        ≡ D.cleanupAnswer (accepted result) z (tallyOf t) → out′ ≡ result ++ drop (length result) out
         → Cleans bs out t a out′
     unfolding writtenOf lengthOf fieldOf
     accepted-with {a} {out′} e q w = record {
       answer = q ∙ answer-by bs (length out) (tallyOf t) e;
       written = w ∙ sym (ap (λ (x : Response). writtenOf x out) e);
-      strings = λ i two. subst (λ (g : Graph). SpellsChosen (choiceGraph (decode bs)) g) (sym written-is) (chosen (status-two (z .status) (sym status-is ∙ two)));
+      strings = λ i two. subst (λ (g : Graph). SpellsChosen (choiceGraph (decode bs)) g) (sym written-is)
+          (chosen (status-two (z .status) (sym status-is ∙ two)));
       plain = λ i one. written-is ∙ cleanup-plain (decode bs) (status-one (z .status) (sym status-is ∙ one));
       vertices = λ i. omega (arith, ap nodeCount written-is, within .vertices);
       edges = λ i. omega (arith, ap (λ (g : Graph). length (g .edges)) written-is, within .edges);
@@ -136,7 +142,8 @@ module _ (bs out : List ℕ) (t : Tally) where
 
         written-is : decode (take (a .length) out′) ≡ z .graph
         written-is =
-            ap decode (ap (λ (n : ℕ). take n out′) (ap (λ (x : D.CleanupAnswer). x .length) q) ∙ ap (take (length result)) w ∙ take-append-seam result (drop (length result) out))
+            ap decode (ap (λ (n : ℕ). take n out′) (ap (λ (x : D.CleanupAnswer). x .length) q) ∙ ap (take (length result)) w
+            ∙ take-append-seam result (drop (length result) out))
             ∙ cleanup-read-back bs small ok (statusNumber (z .status))
 
         chosen : z .status ≡ someVariation → SpellsChosen (choiceGraph (decode bs)) (z .graph)
@@ -168,8 +175,10 @@ module _ {bs heads nexts : List ℕ} {m : Made} {es vs p : List ℕ} (M : MadeOf
           let c = sent-short sends o in
           refused-with bs out t (s .number) o (fitting bs out t none ∙ c .0 ∙ ap refused (sym (c .1 .0))) R (c .1 .1)
 
-      pub cleans-accepted : {a : CleanupAnswer} → s .number ≡ 0 → AcceptsCleanup (s .length) (m .cleaned .status) (m .cleaned .rewrites) t a → Cleans bs out t a out′
+      pub cleans-accepted : {a : CleanupAnswer} → s .number ≡ 0 → AcceptsCleanup (s .length) (m .cleaned .status) (m .cleaned .rewrites) t a
+          → Cleans bs out t a out′
       cleans-accepted i A =
           let c = sent-whole sends i in
           let Z = M .answers ok in
-          accepted-with bs out t small none (fitting bs out t none ∙ c .0) (A .is made (cleanupSeqGraph (decode bs)) (sym (c .1 .0)) (sym (Z .status)) (sym (Z .rewrites))) (c .1 .1)
+          accepted-with bs out t small none (fitting bs out t none
+          ∙ c .0) (A .is made (cleanupSeqGraph (decode bs)) (sym (c .1 .0)) (sym (Z .status)) (sym (Z .rewrites))) (c .1 .1)

@@ -10,7 +10,8 @@ use lib.ListN.{length, getD, take, drop, length-drop, take-append-drop}
 use lib.Seq.{getD-drop, getD-take, take-add, take-all}
 use Rattle.defs.specs.Lists.{bit, concat, tabFrom, tab, sum}
 use Rattle.defs.specs.Simplify.{sequenceBytes}
-use Rattle.defs.specs.Record.{mark, kindOf, statusOf, le16, le32, u16At, u32At, kOf, verticesOf, edgesOf, bytesOf, bytesAt, wholeLength, encodeEdge, encodeHeader, lengthAt, sequenceAt, edgeStart, flagAt, edgeAt}
+use Rattle.defs.specs.Record.{mark, kindOf, statusOf, le16, le32, u16At, u32At, kOf, verticesOf, edgesOf, bytesOf, bytesAt, wholeLength}
+use Rattle.defs.specs.Record.{encodeEdge, encodeHeader, lengthAt, sequenceAt, edgeStart, flagAt, edgeAt}
 use Rattle.tabs.proofs.Tabs.{tab-ext, take-tab}
 use Rattle.tabs.proofs.SumTabs.{map-tab}
 use Rattle.le.proofs.LeLaws.{le16-u16At, le32-u32At}
@@ -55,7 +56,12 @@ module _ (bs : List ℕ) (small : (i : ℕ) → getD bs i 0 < 256) where
     edge-back i below =
         let o : ℕ = edgeStart bs i in
         let start : edgeStart bs i ≡ 32 + 2 * verticesOf bs + 9 * i = edgeStart-is bs i in
-        let inside : edgeStart bs i + 9 ≤ length bs = omega (arith, ok .whole, wholeLength-is (verticesOf bs) (edgesOf bs) (bytesOf bs), bytesAt-is (verticesOf bs) (edgesOf bs)) in
+        let inside : edgeStart bs i + 9 ≤ length bs = omega (
+          arith,
+          ok .whole,
+          wholeLength-is (verticesOf bs) (edgesOf bs) (bytesOf bs),
+          bytesAt-is (verticesOf bs) (edgesOf bs),
+        ) in
         ap (λ (n : ℕ). le16 (u16At bs o) ++ le16 (u16At bs (o + 2)) ++ le32 (u32At bs (o + 4)) ++ (n ∷ []))
         (bit-flag (flagAt bs i) (ok .good i below .flag) ∙ flagAt-is bs i)
         ∙ nine-bytes o inside
@@ -67,7 +73,12 @@ module _ (bs : List ℕ) (small : (i : ℕ) → getD bs i 0 < 256) where
     pub header-back : encodeHeader (kindOf bs) (statusOf bs) (kOf bs) (verticesOf bs) (edgesOf bs) (bytesOf bs) ≡ take 32 bs
     unfolding encodeHeader tabFrom
     header-back =
-        let long : 32 ≤ length bs = omega (arith, ok .whole, wholeLength-is (verticesOf bs) (edgesOf bs) (bytesOf bs), bytesAt-is (verticesOf bs) (edgesOf bs)) in
+        let long : 32 ≤ length bs = omega (
+          arith,
+          ok .whole,
+          wholeLength-is (verticesOf bs) (edgesOf bs) (bytesOf bs),
+          bytesAt-is (verticesOf bs) (edgesOf bs),
+        ) in
         let whole : wholeLength (verticesOf bs) (edgesOf bs) (bytesOf bs) ≡ u32At bs 28 = sym (ok .whole) ∙ sym (ok .stated) in
         simp (
           ap le32 (sym (ok .lengths-at)),
@@ -91,7 +102,12 @@ module _ (bs : List ℕ) (small : (i : ℕ) → getD bs i 0 < 256) where
         length-back : (i : ℕ) → i < verticesOf bs → le16 (length (sequenceAt bs i)) ≡ take 2 (drop (32 + 2 * i) bs)
         length-back i below =
             ap le16 (length-sequence bs i below ok ∙ lengthAt-is bs i)
-            ∙ two-bytes (32 + 2 * i) (omega (arith, ok .whole, wholeLength-is (verticesOf bs) (edgesOf bs) (bytesOf bs), bytesAt-is (verticesOf bs) (edgesOf bs)))
+            ∙ two-bytes (32 + 2 * i) (omega (
+              arith,
+              ok .whole,
+              wholeLength-is (verticesOf bs) (edgesOf bs) (bytesOf bs),
+              bytesAt-is (verticesOf bs) (edgesOf bs),
+            ))
 
     pub edges-back : concat (map encodeEdge (tab (edgesOf bs) (edgeAt bs))) ≡ take (9 * edgesOf bs) (drop (32 + 2 * verticesOf bs) bs)
     edges-back =

@@ -12,7 +12,8 @@ use lib.Seq.{drop-append-add}
 use Rattle.defs.specs.Lists.{bit, concat, tab, sum}
 use Rattle.defs.specs.SeqGraph.{Edge, Graph, nodeCount}
 use Rattle.defs.specs.Simplify.{sequenceBytes}
-use Rattle.defs.specs.Record.{RecordKind, recordKindNumber, le16, le32, u16At, u32At, kOf, verticesOf, edgesOf, encodeEdge, encodeHeader, encode, lengthAt, sequenceStart, sequenceAt, edgeStart, edgeAt}
+use Rattle.defs.specs.Record.{RecordKind, recordKindNumber, le16, le32, u16At, u32At, kOf, verticesOf, edgesOf, encodeEdge, encodeHeader}
+use Rattle.defs.specs.Record.{encode, lengthAt, sequenceStart, sequenceAt, edgeStart, edgeAt}
 use Rattle.tabs.proofs.Tabs.{tab-ext}
 use Rattle.le.proofs.LeLaws.{length-le16, value-of-digits}
 use Rattle.record.proofs.Fields.{lengthAt-is, edgeStart-is, from-is, to-is, support-is, flagAt-is, isRef-is, sequenceStart-is, sequenceAt-is, bytesAt-is}
@@ -133,7 +134,8 @@ module _ (kind : RecordKind) (status : ℕ) (g : Graph) (ok : Encodable g) where
 
   pub vertices-read : verticesOf bs ≡ nodeCount g
   unfolding header
-  vertices-read = rw behind-header (header-vertices (recordKindNumber kind) status (g .k) (nodeCount g) (length (g .edges)) (sequenceBytes (g .verts)) _ (ok .vertices))
+  vertices-read = rw behind-header (header-vertices (recordKindNumber kind) status (g .k) (nodeCount g) (length (g .edges))
+      (sequenceBytes (g .verts)) _ (ok .vertices))
 
   pub edges-read : edgesOf bs ≡ length (g .edges)
   unfolding header

@@ -11,7 +11,8 @@ use lib.ListN.{length, getD, take}
 use Rattle.defs.specs.Lists.{concat, tabFrom, tab}
 use Rattle.defs.specs.SeqGraph.{Edge, Graph, nodeCount}
 use Rattle.defs.specs.Simplify.{sequenceBytes}
-use Rattle.defs.specs.Record.{RecordKind, recordKindNumber, kindOf, statusOf, kOf, verticesOf, edgesOf, bytesOf, u32At, le16, encodeEdge, encodeHeader, encode, lengthAt, sequenceAt, edgeStart, edgeAt, decode}
+use Rattle.defs.specs.Record.{RecordKind, recordKindNumber, kindOf, statusOf, kOf, verticesOf, edgesOf, bytesOf, u32At, le16, encodeEdge}
+use Rattle.defs.specs.Record.{encodeHeader, encode, lengthAt, sequenceAt, edgeStart, edgeAt, decode}
 use Rattle.defs.specs.Refusals.{Takes, refusalOf, recordCauses}
 use Rattle.tabs.proofs.Tabs.{tab-ext, length-tab, tab-getD}
 use Rattle.tabs.proofs.SumTabs.{sum-below}
@@ -46,10 +47,12 @@ written kind status k v e b verts edges =
     encodeHeader kind status k v e b ++ concat (map (λ s. le16 (length s)) verts) ++ concat (map encodeEdge edges) ++ concat verts
 
 module _ (bs : List ℕ) (small : (i : ℕ) → getD bs i 0 < 256) (ok : WellFormed bs) where
-  written-back : written (kindOf bs) (statusOf bs) (kOf bs) (verticesOf bs) (edgesOf bs) (bytesOf bs) (tab (verticesOf bs) (sequenceAt bs)) (tab (edgesOf bs) (edgeAt bs)) ≡ bs
+  written-back : written (kindOf bs) (statusOf bs) (kOf bs) (verticesOf bs) (edgesOf bs) (bytesOf bs) (tab (verticesOf bs) (sequenceAt bs))
+      (tab (edgesOf bs) (edgeAt bs)) ≡ bs
   unfolding written
   written-back =
-      rw (header-back bs small ok, lengths-back bs small ok, edges-back bs small ok, bytes-back bs small ok) (in-parts bs 32 (2 * verticesOf bs) (9 * edgesOf bs))
+      rw (header-back bs small ok, lengths-back bs small ok, edges-back bs small ok, bytes-back bs small ok)
+      (in-parts bs 32 (2 * verticesOf bs) (9 * edgesOf bs))
 
   -- a well formed record is written back from what is read of it
   pub encode-decode : (kind : RecordKind) → recordKindNumber kind ≡ kindOf bs → encode kind (statusOf bs) (decode bs) ≡ bs

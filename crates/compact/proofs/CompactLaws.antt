@@ -41,13 +41,19 @@ module _ (p q : ℕ → Bool) where
         let ih = edges-same es (λ f m. b f (List·Memᴰ·tail m)) in
         rw (h (e .from) (c .0), h (e .to) (c .1)) (both _ _ (q (e .from) && q (e .to)) (renumber-same e (c .0) (c .1)) ih)
       where
-        both : (xs ys : List Edge) (t : Bool) → remapEdge p e ≡ remapEdge q e → map (remapEdge p) xs ≡ map (remapEdge q) ys → map (remapEdge p) (cond t (e ∷ xs) xs) ≡ map (remapEdge q) (cond t (e ∷ ys) ys)
+        both : (xs ys : List Edge) (t : Bool) → remapEdge p e ≡ remapEdge q e → map (remapEdge p) xs ≡ map (remapEdge q) ys
+            → map (remapEdge p) (cond t (e ∷ xs) xs) ≡ map (remapEdge q) (cond t (e ∷ ys) ys)
         both xs ys true x y = λ i. x i ∷ y i
         both xs ys false x y = y
 
   pub restrict-same : (g : Graph) → ((v : ℕ) → v < nodeCount g → p v ≡ q v) → Bounded g → compactVertices p g ≡ compactVertices q g
   unfolding compactVertices nodeCount
-  restrict-same g h b = λ i. record { k = g .k; verts = keepAt-same (g .verts) 0 (λ v c. h v (omega arith)) i; edges = edges-same (length (g .verts)) h (g .edges) b i }
+  restrict-same g h b = λ i. record {
+    k = g .k;
+    verts = keepAt-same (g .verts) 0 (λ v c. h v (omega arith)) i;
+    edges =
+        edges-same (length (g .verts)) h (g .edges) b i;
+  }
 
 pub order-in : (k n m : ℕ) (es vs p : List ℕ) → nodeCount (graphIn k n m es vs p) ≡ n
 unfolding nodeCount
@@ -80,7 +86,8 @@ module _ {n m : ℕ} {es vs mp : List ℕ} (F : Compactable n m es vs mp) {mp′
   compacted {r} {es′} {vs′} W E = record {
     most-n = W .most;
     most-m = E .most;
-    ends = mem-ends (r .n) (r .m) es′ (λ e b. rw (order-in 0 (r .n) (r .m) es′ vs′ []) at (subst (λ (x : Graph). Bounded x) (sym (closed 0 [])) (bounded-restrict (keptBy mp′) (old 0 []) (old-bounded 0 [])) e b));
+    ends = mem-ends (r .n) (r .m) es′ (λ e b. rw (order-in 0 (r .n) (r .m) es′ vs′ []) at
+        (subst (λ (x : Graph). Bounded x) (sym (closed 0 [])) (bounded-restrict (keptBy mp′) (old 0 []) (old-bounded 0 [])) e b));
     within = W .within;
     is = λ k p. closed k p ∙ restrict-same (keptBy mp′) (unmarked mp) (old k p) (λ v h. R .same v (omega (arith, order-in k n m es vs p))) (old-bounded k p);
     renumbered = R;
@@ -95,14 +102,16 @@ unfolding bit
 zero-bit true = refl
 zero-bit false = refl
 
-pub removed : {n m : ℕ} {es vs mp₀ mp gone mp′ es′ vs′ : List ℕ} {r : Counts} → Compactable n m es vs mp₀ → Marked gone n mp → Compacted n m es vs mp r es′ vs′ mp′ → Removed n m es vs gone r es′ vs′ mp′
+pub removed : {n m : ℕ} {es vs mp₀ mp gone mp′ es′ vs′ : List ℕ} {r : Counts} → Compactable n m es vs mp₀ → Marked gone n mp
+    → Compacted n m es vs mp r es′ vs′ mp′ → Removed n m es vs gone r es′ vs′ mp′
 unfolding removeVerticesById keeps
 removed {n} {m} {es} {vs} {mp₀} {mp} {gone} {mp′} F M C = record {
   most-n = C .most-n;
   most-m = C .most-m;
   ends = C .ends;
   within = C .within;
-  is = λ k p. C .is k p ∙ restrict-same (unmarked mp) (λ v. not (elemOf v gone)) (graphIn k n m es vs p) (λ v h. marks v (omega (arith, order-in k n m es vs p))) (λ e b. rw (order-in k n m es vs p) (ends-mem (F .ends) e b));
+  is = λ k p. C .is k p ∙ restrict-same (unmarked mp) (λ v. not (elemOf v gone)) (graphIn k n m es vs p) (λ v h.
+      marks v (omega (arith, order-in k n m es vs p))) (λ e b. rw (order-in k n m es vs p) (ends-mem (F .ends) e b));
   numbered = C .renumbered .numbered;
   kept = λ v h. C .renumbered .same v h ∙ marks v h;
 }

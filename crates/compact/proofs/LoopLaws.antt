@@ -36,14 +36,16 @@ module _ {n g : ℕ} {gone mp₀ : List ℕ} where
   unfolding elemOf bit
   marking-start mp l h = record { high = omega arith; len = l; is = record { at = λ v b. h v b ∙ sym (ap (λ (x : List ℕ). bit (elemOf v x)) (tab-zero _)) } }
 
-  pub marking-more : {mp : List ℕ} {i : ℕ} → Marking n g gone mp₀ mp i → i < g → getD gone i 0 < n → n ≤ length mp → Marking n g gone mp₀ (set mp (getD gone i 0) 1) (i + 1)
+  pub marking-more : {mp : List ℕ} {i : ℕ} → Marking n g gone mp₀ mp i → i < g → getD gone i 0 < n → n ≤ length mp
+      → Marking n g gone mp₀ (set mp (getD gone i 0) 1) (i + 1)
   unfolding bit
   marking-more {mp} {i} M h b r = record {
     high = omega arith;
     len = length-set mp _ _ ∙ M .len;
     is = record {
       at = λ v c. rw (tab-snoc i (λ (j : ℕ). getD gone j 0), elemOf-snoc v (numsIn i gone) (getD gone i 0)) (elim (ℕ-discrete v (getD gone i 0)) [
-        | yes e ↦ rw (eq-eqb v (getD gone i 0) e) (ap (λ (x : ℕ). getD (set mp (getD gone i 0) 1) x 0) e ∙ getD-set-same mp (getD gone i 0) 1 0 (omega arith) ∙ or-true (elemOf v (numsIn i gone)))
+        | yes e ↦ rw (eq-eqb v (getD gone i 0) e) (ap (λ (x : ℕ). getD (set mp (getD gone i 0) 1) x 0) e
+            ∙ getD-set-same mp (getD gone i 0) 1 0 (omega arith) ∙ or-true (elemOf v (numsIn i gone)))
         | no ne ↦ rw (ne-eqb v (getD gone i 0) ne) (getD-set-other mp (getD gone i 0) v 1 0 ne ∙ M .is .at v c ∙ or-false (elemOf v (numsIn i gone)))
       ]);
     };
@@ -83,7 +85,16 @@ pub record Numbering (n : ℕ) (mp₀ mp : List ℕ) (v j : ℕ) : Type 0 where
 module _ {n : ℕ} {mp₀ : List ℕ} where
   pub numbering-start : Numbering n mp₀ mp₀ 0 0
   unfolding rank
-  numbering-start = record { high = omega arith; low = omega arith; len = refl; stay = λ k b. absurd (omega arith); go = λ k b. absurd (omega arith); rest = λ k b. refl; is = refl }
+  numbering-start = record {
+    high = omega arith;
+    low = omega arith;
+    len = refl;
+    stay = λ k b. absurd (omega arith);
+    go = λ k b.
+        absurd (omega arith);
+    rest = λ k b. refl;
+    is = refl;
+  }
 
   module _ {mp : List ℕ} {v j : ℕ} (N : Numbering n mp₀ mp v j) (h : v < n) (r : n ≤ length mp₀) where
     was : getD mp v 0 ≡ getD mp₀ v 0
@@ -183,7 +194,12 @@ module _ {mp : List ℕ} {n : ℕ} {vs₀ : List ℕ} where
       within = λ used w. record {
         at = λ v b. elim (ℕ-discrete v j) [
           | yes e ↦ rw e (omega (arith, start, size, w .at i h))
-          | no ne ↦ omega (arith, at (2 * v) (λ q. ne (omega arith)) (λ q. omega arith), at (2 * v + 1) (λ q. omega arith) (λ q. ne (omega arith)), C .within used w .at v (omega arith))
+          | no ne ↦ omega (
+            arith,
+            at (2 * v) (λ q. ne (omega arith)) (λ q. omega arith),
+            at (2 * v + 1) (λ q. omega arith) (λ q. ne (omega arith)),
+            C .within used w .at v (omega arith),
+          )
         ];
       };
       rest = λ k b. at k (λ q. omega arith) (λ q. omega arith) ∙ C .rest k (omega arith);
@@ -199,19 +215,23 @@ module _ {mp : List ℕ} {n : ℕ} {vs₀ : List ℕ} where
         at k a b = getD-set-other vs₁ (2 * j + 1) k _ 0 b ∙ getD-set-other vs (2 * j) k _ 0 a
 
         start : getD vs₂ (2 * j) 0 ≡ getD vs₀ (2 * i) 0
-        start = getD-set-other vs₁ (2 * j + 1) (2 * j) _ 0 (λ q. omega arith) ∙ getD-set-same vs (2 * j) _ 0 (omega (arith, C .len)) ∙ C .rest (2 * i) (omega arith)
+        start = getD-set-other vs₁ (2 * j + 1) (2 * j) _ 0 (λ q. omega arith) ∙ getD-set-same vs (2 * j) _ 0 (omega (arith, C .len))
+            ∙ C .rest (2 * i) (omega arith)
 
         size : getD vs₂ (2 * j + 1) 0 ≡ getD vs₀ (2 * i + 1) 0
-        size = getD-set-same vs₁ (2 * j + 1) _ 0 (omega (arith, C .len, length-set vs (2 * j) (getD vs (2 * i) 0))) ∙ getD-set-other vs (2 * j) (2 * i + 1) _ 0 (λ q. omega arith) ∙ C .rest (2 * i + 1) (omega arith)
+        size = getD-set-same vs₁ (2 * j + 1) _ 0 (omega (arith, C .len, length-set vs (2 * j) (getD vs (2 * i) 0)))
+            ∙ getD-set-other vs (2 * j) (2 * i + 1) _ 0 (λ q. omega arith) ∙ C .rest (2 * i + 1) (omega arith)
 
         new : (p : List ℕ) → seqIn vs₂ p j ≡ seqIn vs₀ p i
         new p = λ x. Rattle.store.specs.Store.part p (start x) (size x)
 
         old : (p : List ℕ) (k : ℕ) → k < j → seqIn vs₂ p k ≡ seqIn vs p k
-        old p k b = λ x. Rattle.store.specs.Store.part p (at (2 * k) (λ q. omega arith) (λ q. omega arith) x) (at (2 * k + 1) (λ q. omega arith) (λ q. omega arith) x)
+        old p k b = λ x. Rattle.store.specs.Store.part p (at (2 * k) (λ q. omega arith) (λ q. omega arith) x)
+            (at (2 * k + 1) (λ q. omega arith) (λ q. omega arith) x)
 
   pub closing-v-end : {vs : List ℕ} {i j : ℕ} → ClosingV mp n vs₀ vs i j → n ≤ i → VertsClosed mp n vs₀ j vs
-  closing-v-end {vs} {i} {j} C h = let e : i ≡ n = omega arith in record { most = omega arith; is = λ p. C .is p ∙ ap (λ (x : ℕ). keepAt (keptBy mp) 0 (seqsIn x vs₀ p)) e; within = C .within }
+  closing-v-end {vs} {i} {j} C h = let e : i ≡ n = omega arith in
+      record { most = omega arith; is = λ p. C .is p ∙ ap (λ (x : ℕ). keepAt (keptBy mp) 0 (seqsIn x vs₀ p)) e; within = C .within }
 
 -- ---- closing the edges up
 
@@ -256,7 +276,8 @@ module _ {mp : List ℕ} {m : ℕ} {es₀ : List ℕ} where
     }
 
     pub closing-e-keep : {es′ : List ℕ} {n s f : ℕ} → 4 * m ≤ length es₀ → Numbered n mp → EndsBelow n m es₀ → keptBy mp fr && keptBy mp to ≡ true
-        → s ≡ getD es (4 * i + 2) 0 → f ≡ getD es (4 * i + 3) 0 → es′ ≡ putEdge es j (getD mp fr 0 - 1) (getD mp to 0 - 1) s f → ClosingE mp m es₀ es′ (i + 1) (j + 1)
+        → s ≡ getD es (4 * i + 2) 0 → f ≡ getD es (4 * i + 3) 0 → es′ ≡ putEdge es j (getD mp fr 0 - 1) (getD mp to 0 - 1) s f
+        → ClosingE mp m es₀ es′ (i + 1) (j + 1)
     unfolding remapEdge
     closing-e-keep {es′} {n} {s} {f} r N E t hs hg q = record {
       high = omega arith;
@@ -264,8 +285,10 @@ module _ {mp : List ℕ} {m : ℕ} {es₀ : List ℕ} where
       len = ap length q ∙ length-put es j _ _ s f ∙ C .len;
       is = ap (edgesIn (j + 1)) q ∙ put-push j es _ _ s f (omega (arith, C .len))
           ∙ (λ x. C .is x ++ (new x ∷ []))
-          ∙ sym (ap (map (remapEdge (keptBy mp))) (keepIf-tab-yes (staying mp) i (edgeIn es₀) (rw (← from-was, ← to-was) t)) ∙ map-append (remapEdge (keptBy mp)) (keepIf (staying mp) (edgesIn i es₀)) (edgeIn es₀ i ∷ []));
-      rest = λ k b. rw q (Rattle.store.proofs.EdgeLaws.put-at es j _ _ s f k (λ z. omega arith) (λ z. omega arith) (λ z. omega arith) (λ z. omega arith) ∙ C .rest k (omega arith));
+          ∙ sym (ap (map (remapEdge (keptBy mp))) (keepIf-tab-yes (staying mp) i (edgeIn es₀) (rw (← from-was, ← to-was) t))
+          ∙ map-append (remapEdge (keptBy mp)) (keepIf (staying mp) (edgesIn i es₀)) (edgeIn es₀ i ∷ []));
+      rest = λ k b. rw q (Rattle.store.proofs.EdgeLaws.put-at es j _ _ s f k (λ z. omega arith) (λ z. omega arith) (λ z. omega arith) (λ z.
+          omega arith) ∙ C .rest k (omega arith));
     }
       where
         yes : (keptBy mp fr ≡ true) × (keptBy mp to ≡ true)
@@ -284,7 +307,8 @@ module _ {mp : List ℕ} {m : ℕ} {es₀ : List ℕ} where
         new = λ x. edge (a-is x) (b-is x) ((hs ∙ C .rest (4 * i + 2) (omega arith)) x) ((hg ∙ C .rest (4 * i + 3) (omega arith)) x)
 
   pub closing-e-end : {es : List ℕ} {i j : ℕ} → ClosingE mp m es₀ es i j → m ≤ i → EdgesClosed mp m es₀ j es
-  closing-e-end {es} {i} {j} C h = let e : i ≡ m = omega arith in record { most = omega arith; is = C .is ∙ ap (λ (x : ℕ). map (remapEdge (keptBy mp)) (keepIf (staying mp) (edgesIn x es₀))) e }
+  closing-e-end {es} {i} {j} C h = let e : i ≡ m = omega arith in
+      record { most = omega arith; is = C .is ∙ ap (λ (x : ℕ). map (remapEdge (keptBy mp)) (keepIf (staying mp) (edgesIn x es₀))) e }
 
 pub closing-e-from : {mp es₀ es : List ℕ} {m n i j fr : ℕ} → ClosingE mp m es₀ es i j → i < m → fr ≡ getD es (4 * i) 0 → EndsBelow n m es₀ → fr < n
 closing-e-from {i = i} C h hf E = omega (arith, hf, C .rest (4 * i) (omega arith), E .at i h .0)

@@ -49,7 +49,8 @@ module _ {n : ℕ} {marks mp₀ : List ℕ} where
       high = omega arith;
       len = length-set mp i 1 ∙ M .len;
       at = λ v l. elim (ℕ-discrete v i) [
-        | yes q ↦ rw q (ap (λ (x : ℕ). eqb x 0) (getD-set-same mp i 1 0 (omega (arith, M .len))) ∙ and-false (unmarked mp₀ i) ∙ ap (λ (x : Bool). unmarked mp₀ i && x) (sym (ap not (eq-eqb (getD marks i 0) 0 z))))
+        | yes q ↦ rw q (ap (λ (x : ℕ). eqb x 0) (getD-set-same mp i 1 0 (omega (arith, M .len))) ∙ and-false (unmarked mp₀ i)
+            ∙ ap (λ (x : Bool). unmarked mp₀ i && x) (sym (ap not (eq-eqb (getD marks i 0) 0 z))))
         | no ne ↦ ap (λ (x : ℕ). eqb x 0) (getD-set-other mp i v 1 0 ne) ∙ M .at v (omega arith)
       ];
       rest = λ v l. getD-set-other mp i v 1 0 (λ q. omega arith) ∙ M .rest v (omega arith);
@@ -69,15 +70,18 @@ module _ {n : ℕ} {marks mp₀ : List ℕ} where
   pub missing-end : {mp : List ℕ} {i : ℕ} → Missing n marks mp₀ mp i → n ≤ i → Missed n marks mp₀ mp
   missing-end M l = record { at = λ v b. M .at v (omega arith) }
 
-pub unreached : {kind m n : ℕ} {es : List ℕ} {s : ℕ} {marks mp mp′ : List ℕ} → Reached false kind m n es s marks → Missed n marks mp mp′ → Unreached kind m n es s mp mp′
+pub unreached : {kind m n : ℕ} {es : List ℕ} {s : ℕ} {marks mp mp′ : List ℕ} → Reached false kind m n es s marks → Missed n marks mp mp′
+    → Unreached kind m n es s mp mp′
 unreached {mp = mp} R M = record { at = λ k vs p v b. M .at v b ∙ ap (λ (x : Bool). unmarked mp v && x) (R .at k vs p v b) }
 
 -- ---- what is left
 
-pub reduced-same : {f : Graph → Graph} (h : Held) {es vs : List ℕ} → EndsBelow (h .n) (h .m) es → ((p : List ℕ) → f (graphOf h es vs p) ≡ graphOf h es vs p) → Reduced f h es vs h es vs
+pub reduced-same : {f : Graph → Graph} (h : Held) {es vs : List ℕ} → EndsBelow (h .n) (h .m) es
+    → ((p : List ℕ) → f (graphOf h es vs p) ≡ graphOf h es vs p) → Reduced f h es vs h es vs
 reduced-same h E same = record { is = λ p. sym (same p); most-n = omega arith; most-m = omega arith; ends = E; within = λ used W. W; used-is = refl }
 
-pub no-source-stays : (h : Held) (es vs : List ℕ) {s : ℕ} → FirstSource (h .m) (h .n) es s → h .n ≤ s → (p : List ℕ) → removeVerticesNotConnectedToRef (graphOf h es vs p) ≡ graphOf h es vs p
+pub no-source-stays : (h : Held) (es vs : List ℕ) {s : ℕ} → FirstSource (h .m) (h .n) es s → h .n ≤ s → (p : List ℕ)
+    → removeVerticesNotConnectedToRef (graphOf h es vs p) ≡ graphOf h es vs p
 unfolding removeVerticesNotConnectedToRef
 no-source-stays h es vs F l p = rw (F .missing l (h .k .0) vs p, removeVerticesNotConnectedToRef)
 
@@ -105,7 +109,8 @@ module _ (h : Held) (es vs : List ℕ) (E : EndsBelow (h .n) (h .m) es) (mp : Li
       let g = graphOf h es vs p in
       restrict-same (unmarked mp₂) (λ (v : ℕ). elemOf v (reached forward g s) && elemOf v (reached backward g t)) g
       (λ v b. B .at (h .k .0) vs p v (below p v b)
-      ∙ ap (λ (x : Bool). x && elemOf v (reached backward g t)) (A .at (h .k .0) vs p v (below p v b) ∙ ap (λ (x : Bool). x && elemOf v (reached forward g s)) (stays v (below p v b))))
+      ∙ ap (λ (x : Bool). x && elemOf v (reached backward g t)) (A .at (h .k .0) vs p v (below p v b)
+      ∙ ap (λ (x : Bool). x && elemOf v (reached forward g s)) (stays v (below p v b))))
       (bounded-in {es = es} E (h .k .0) vs p)
 
 pub compactable-kept : {n m : ℕ} {es vs mp mp′ : List ℕ} → Compactable n m es vs mp → length mp′ ≡ length mp → Compactable n m es vs mp′

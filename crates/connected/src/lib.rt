@@ -56,7 +56,8 @@ pub fn remove_vertices_not_connected_to_ref(
     map: &mut [u32],
     tried: &mut [u64],
 ) -> Held
-    requires { ⌜ Compactable (held .n) (held .m) (now es) (now vs) (now map) × (Indexed (held .m) (held .n) (now es) (now heads) (now nexts) × Walkable (held .n) (now tried) (now nodes)) ⌝ }
+    requires { ⌜ Compactable (held .n) (held .m) (now es) (now vs) (now map)
+        × (Indexed (held .m) (held .n) (now es) (now heads) (now nexts) × Walkable (held .n) (now tried) (now nodes)) ⌝ }
     ensures { λ r. ⌜ Reduced removeVerticesNotConnectedToRef held (now (es .entry)) (now (vs .entry)) r (now (es .exit)) (now (vs .exit)) ⌝ }
 {
     let n = held.n;
@@ -83,8 +84,10 @@ pub fn remove_paths_not_connected_to_ref(
     map: &mut [u32],
     tried: &mut [u64],
 ) -> Held
-    requires { ⌜ (s < held .n) × ((t < held .n) × (Compactable (held .n) (held .m) (now es) (now vs) (now map) × (Indexed (held .m) (held .n) (now es) (now heads) (now nexts) × Walkable (held .n) (now tried) (now nodes)))) ⌝ }
-    ensures { λ r. ⌜ Reduced (λ (g : Graph). removePathsNotConnectedToRef g s t) held (now (es .entry)) (now (vs .entry)) r (now (es .exit)) (now (vs .exit)) ⌝ }
+    requires { ⌜ (s < held .n) × ((t < held .n) × (Compactable (held .n) (held .m) (now es) (now vs) (now map)
+        × (Indexed (held .m) (held .n) (now es) (now heads) (now nexts) × Walkable (held .n) (now tried) (now nodes)))) ⌝ }
+    ensures { λ r. ⌜ Reduced (λ (g : Graph). removePathsNotConnectedToRef g s t) held (now (es .entry)) (now (vs .entry)) r (now (es .exit))
+        (now (vs .exit)) ⌝ }
 {
     let n = held.n;
     let m = held.m;

@@ -55,7 +55,8 @@ pub copying-start : {m : ℕ} {es order out : List ℕ} → Copying m es order o
 copying-start = record { high = omega arith; len = refl; done = λ j b. absurd (omega arith) }
 
 module _ {m : ℕ} {es order out₀ out : List ℕ} {i : ℕ} (C : Copying m es order out₀ out i) where
-  pub copying-more : {a b s r : ℕ} {out′ : List ℕ} → 4 * m ≤ length out₀ → i < m → a ≡ getD es (4 * getD order i 0) 0 → b ≡ getD es (4 * getD order i 0 + 1) 0 → s ≡ getD es (4 * getD order i 0 + 2) 0 → r ≡ getD es (4 * getD order i 0 + 3) 0
+  pub copying-more : {a b s r : ℕ} {out′ : List ℕ} → 4 * m ≤ length out₀ → i < m → a ≡ getD es (4 * getD order i 0) 0 → b
+      ≡ getD es (4 * getD order i 0 + 1) 0 → s ≡ getD es (4 * getD order i 0 + 2) 0 → r ≡ getD es (4 * getD order i 0 + 3) 0
       → out′ ≡ putEdge out i a b s r → Copying m es order out₀ out′ (i + 1)
   copying-more {a} {b} {s} {r} {out′} room h qa qb qs qr e = record {
     high = omega arith;
@@ -85,11 +86,16 @@ module _ {m n : ℕ} {es order scratch place out : List ℕ} (C : Convertible m 
   }
 
   -- an edge of `out` is one of es
-  copied-ends : {place₁ order′ out′ : List ℕ} → EdgeOrder m es place₁ order′ → edgesIn m out′ ≡ tab m (λ (j : ℕ). edgeIn es (getD order′ j 0)) → EndsBelow n m out′
-  copied-ends {order′ = order′} {out′ = out′} O e = record { at = λ j b. let z = C .ends .at (getD order′ j 0) (O .numbers .below j b) in let q = same j b in (omega (arith, z .0, ap (λ (x : Edge). x .from) q), omega (arith, z .1, ap (λ (x : Edge). x .to) q)) }
+  copied-ends : {place₁ order′ out′ : List ℕ} → EdgeOrder m es place₁ order′ → edgesIn m out′
+      ≡ tab m (λ (j : ℕ). edgeIn es (getD order′ j 0)) → EndsBelow n m out′
+  copied-ends {order′ = order′} {out′ = out′} O e = record {
+    at = λ j b. let z = C .ends .at (getD order′ j 0) (O .numbers .below j b) in
+        let q = same j b in (omega (arith, z .0, ap (λ (x : Edge). x .from) q), omega (arith, z .1, ap (λ (x : Edge). x .to) q));
+  }
     where
       same : (j : ℕ) → j < m → edgeIn out′ j ≡ edgeIn es (getD order′ j 0)
-      same j b = sym (getD-tab m (edgeIn out′) j (edge 0 0 0 0) b) ∙ ap (λ (l : List Edge). getD l j (edge 0 0 0 0)) e ∙ getD-tab m (λ (j : ℕ). edgeIn es (getD order′ j 0)) j (edge 0 0 0 0) b
+      same j b = sym (getD-tab m (edgeIn out′) j (edge 0 0 0 0) b) ∙ ap (λ (l : List Edge). getD l j (edge 0 0 0 0)) e
+          ∙ getD-tab m (λ (j : ℕ). edgeIn es (getD order′ j 0)) j (edge 0 0 0 0) b
 
   pub edges-done : {place₁ order₂ out′ : List ℕ} → Places n order place₁ → EdgeOrder m es place₁ order₂
       → edgesIn m out′ ≡ tab m (λ (j : ℕ). edgeIn es (getD order₂ j 0)) → EdgesSorted m n es order out′
@@ -99,7 +105,9 @@ module _ {m n : ℕ} {es order scratch place out : List ℕ} (C : Convertible m 
   }
 
 -- the sorted edges and the additional sequences are the converted graph
-pub converted : {m n : ℕ} {es vs vs′ order out : List ℕ} (k : ℕ) (p : List ℕ) → Within (length p) n vs → Separate m n es vs p → KmerOrder n vs p order → Trimmed m n es vs vs′ → EdgesSorted m n es order out → graphIn k n m out vs′ p ≡ fromAssemblyGraph (graphIn k n m es vs p)
+pub converted : {m n : ℕ} {es vs vs′ order out : List ℕ} (k : ℕ) (p : List ℕ) → Within (length p) n vs → Separate m n es vs p
+    → KmerOrder n vs p order → Trimmed m n es vs vs′ → EdgesSorted m n es order out → graphIn k n m out vs′ p
+    ≡ fromAssemblyGraph (graphIn k n m es vs p)
 unfolding fromAssemblyGraph
 converted {m} {n} {es} {vs} {vs′} k p W A K T S = λ i. record {
   k = k;

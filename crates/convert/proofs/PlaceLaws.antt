@@ -36,7 +36,8 @@ module _ {m n : ℕ} {es vs p order place : List ℕ} (S : Separate m n es vs p)
   not-before : (u v : ℕ) → u < n → v < n → getD place v 0 ≤ getD place u 0 → bytesBefore (seqIn vs p u) (seqIn vs p v) ≡ false
   not-before u v a b l = elim (ℕ-discrete (getD place v 0) (getD place u 0)) [
     | yes q ↦ ap (λ (x : ℕ). bytesBefore (seqIn vs p u) (seqIn vs p x)) (home-same v u b a q) ∙ before-same (seqIn vs p u)
-    | no ne ↦ sym (λ i. bytesBefore (seqIn vs p ((home u a) .1 i)) (seqIn vs p ((home v b) .1 i))) ∙ O .ordered .at (getD place v 0) (getD place u 0) (omega arith) (omega arith) ((home u a) .0)
+    | no ne ↦ sym (λ i. bytesBefore (seqIn vs p ((home u a) .1 i)) (seqIn vs p ((home v b) .1 i)))
+        ∙ O .ordered .at (getD place v 0) (getD place u 0) (omega arith) (omega arith) ((home u a) .0)
   ]
 
   module _ (k : ℕ) (E : EndsBelow n m es) where
@@ -53,10 +54,13 @@ module _ {m n : ℕ} {es vs p order place : List ℕ} (S : Separate m n es vs p)
     kmer-same : (u v : ℕ) → u < n → v < n → vertexSequence g u ≡ vertexSequence g v → u ≡ v
     kmer-same u v a b q = S .kmers u v a b (sym (kmer-is u a) ∙ q ∙ kmer-is v b)
 
-    edge-later : (d e : ℕ) → d < m → e < m → fromPlace es place e ≤ fromPlace es place d → (fromPlace es place d ≡ fromPlace es place e → toPlace es place e ≤ toPlace es place d) → edgeBefore g (edgeIn es d) (edgeIn es e) ≡ false
+    edge-later : (d e : ℕ) → d < m → e < m → fromPlace es place e ≤ fromPlace es place d
+        → (fromPlace es place d ≡ fromPlace es place e → toPlace es place e ≤ toPlace es place d) → edgeBefore g (edgeIn es d) (edgeIn es e)
+        ≡ false
     edge-later d e a b h l = edge-no g (edgeIn es d) (edgeIn es e)
         (kmer-not (getD es (4 * d) 0) (getD es (4 * e) 0) ((E .at d a) .0) ((E .at e b) .0) h)
-        (λ q. kmer-not (getD es (4 * d + 1) 0) (getD es (4 * e + 1) 0) ((E .at d a) .1) ((E .at e b) .1) (l (ap (λ (x : ℕ). getD place x 0) (kmer-same (getD es (4 * d) 0) (getD es (4 * e) 0) ((E .at d a) .0) ((E .at e b) .0) q))))
+        (λ q. kmer-not (getD es (4 * d + 1) 0) (getD es (4 * e + 1) 0) ((E .at d a) .1) ((E .at e b) .1)
+        (l (ap (λ (x : ℕ). getD place x 0) (kmer-same (getD es (4 * d) 0) (getD es (4 * e) 0) ((E .at d a) .0) ((E .at e b) .0) q))))
 
     -- edges with the same ends are the same
     edge-is : (a b : ℕ) → a < m → b < m → edgeBefore g (edgeIn es a) (edgeIn es b) ≡ false → edgeBefore g (edgeIn es b) (edgeIn es a) ≡ false → a ≡ b
@@ -106,14 +110,22 @@ module _ {m n : ℕ} {es vs p order place : List ℕ} (S : Separate m n es vs p)
           let v = of-mem-tab m at b in
           let i = getD eorder (u .0) 0 in
           let j = getD eorder (v .0) 0 in
-          u .2 ∙ ap (edgeIn es) (edge-is i j (Q .numbers .below (u .0) (u .1)) (Q .numbers .below (v .0) (v .1)) (rw (u .2, v .2) at f) (rw (u .2, v .2) at e)) ∙ sym (v .2)
+          u .2 ∙ ap (edgeIn es) (edge-is i j (Q .numbers .below (u .0) (u .1)) (Q .numbers .below (v .0) (v .1)) (rw (u .2, v .2) at f)
+          (rw (u .2, v .2) at e)) ∙ sym (v .2)
 
       pub places-sorted : tab m at ≡ edgesSorted g
       unfolding edgesSorted
       places-sorted = sorted-unique g (tab m at) _
-          (sorted-from at 0 m (λ i j a b c. let d = Q .ordered .at i j (omega arith) b (omega arith) in let z = not-earlier es place (getD eorder j 0) (getD eorder i 0) d in edge-later (getD eorder j 0) (getD eorder i 0) (Q .numbers .below j (omega arith)) (Q .numbers .below i (omega arith)) (z .0) (z .1)))
+          (sorted-from at 0 m (λ i j a b c. let d = Q .ordered .at i j (omega arith) b (omega arith) in let z =
+          not-earlier es place (getD eorder j 0) (getD eorder i 0) d in
+          edge-later (getD eorder j 0) (getD eorder i 0) (Q .numbers .below j (omega arith)) (Q .numbers .below i (omega arith)) (z .0)
+          (z .1)))
           (sorted-sort g (edgesIn m es))
-          (once-from at 0 m (λ i j a b c q. omega (arith, stands-once (Q .numbers) i j (omega arith) (omega arith) (edge-equal (getD eorder i 0) (getD eorder j 0) (Q .numbers .below i (omega arith)) (Q .numbers .below j (omega arith)) q))))
+          (once-from at 0 m (λ i j a b c q. omega (
+            arith,
+            stands-once (Q .numbers) i j (omega arith) (omega arith)
+                (edge-equal (getD eorder i 0) (getD eorder j 0) (Q .numbers .below i (omega arith)) (Q .numbers .below j (omega arith)) q),
+          )))
           (once-sort g (edgesIn m es) (once-from (edgeIn es) 0 m (λ i j a b c q. omega (arith, edge-equal i j (omega arith) (omega arith) q))))
           (λ x k. mem-sort g (edgesIn m es) x (forth x k))
           (λ x k. back x (of-sort g (edgesIn m es) x k))

@@ -63,16 +63,19 @@ module _ (g : Graph) where
 
   -- an edge does not come before another: not by from, and not by to where their k-mers at from are the same
   pub edge-no : (d e : Edge) → bytesBefore (vertexSequence g (d .from)) (vertexSequence g (e .from)) ≡ false
-      → (vertexSequence g (d .from) ≡ vertexSequence g (e .from) → bytesBefore (vertexSequence g (d .to)) (vertexSequence g (e .to)) ≡ false) → edgeBefore g d e ≡ false
+      → (vertexSequence g (d .from) ≡ vertexSequence g (e .from) → bytesBefore (vertexSequence g (d .to)) (vertexSequence g (e .to))
+      ≡ false) → edgeBefore g d e ≡ false
   unfolding edgeBefore
   edge-no d e h k = pair-no (vertexSequence g (d .from)) (vertexSequence g (d .to)) (vertexSequence g (e .from)) (vertexSequence g (e .to)) h k
 
   edge-trans : (a b c : Edge) → edgeBefore g b a ≡ false → edgeBefore g c b ≡ false → edgeBefore g c a ≡ false
   unfolding edgeBefore
-  edge-trans a b c h k = pair-trans (vertexSequence g (a .from)) (vertexSequence g (a .to)) (vertexSequence g (b .from)) (vertexSequence g (b .to)) (vertexSequence g (c .from)) (vertexSequence g (c .to)) h k
+  edge-trans a b c h k = pair-trans (vertexSequence g (a .from)) (vertexSequence g (a .to)) (vertexSequence g (b .from))
+      (vertexSequence g (b .to)) (vertexSequence g (c .from)) (vertexSequence g (c .to)) h k
 
   -- two edges, neither of which comes first, have the same k-mers at their ends
-  pub edge-same : (d e : Edge) → edgeBefore g d e ≡ false → edgeBefore g e d ≡ false → (vertexSequence g (d .from) ≡ vertexSequence g (e .from)) × (vertexSequence g (d .to) ≡ vertexSequence g (e .to))
+  pub edge-same : (d e : Edge) → edgeBefore g d e ≡ false → edgeBefore g e d ≡ false
+      → (vertexSequence g (d .from) ≡ vertexSequence g (e .from)) × (vertexSequence g (d .to) ≡ vertexSequence g (e .to))
   unfolding edgeBefore
   edge-same d e h k =
       let x = pair-not (vertexSequence g (d .from)) (vertexSequence g (d .to)) (vertexSequence g (e .from)) (vertexSequence g (e .to)) h in
@@ -99,7 +102,8 @@ module _ (g : Graph) where
   sorted-unique [] [] sa sb oa ob f b anti = refl
   sorted-unique [] (y ∷ B) sa sb oa ob f b anti = absurd (List·Memᴰ·not-nil (b y (List·Memᴰ·head refl)))
   sorted-unique (x ∷ A) [] sa sb oa ob f b anti = absurd (List·Memᴰ·not-nil (f x (List·Memᴰ·head refl)))
-  sorted-unique (x ∷ A) (y ∷ B) sa sb oa ob f b anti = λ i. first i ∷ sorted-unique A B (sa .1) (sb .1) (oa .1) (ob .1) forth back (λ u v m n. anti u v (List·Memᴰ·tail m) (List·Memᴰ·tail n)) i
+  sorted-unique (x ∷ A) (y ∷ B) sa sb oa ob f b anti = λ i. first i
+      ∷ sorted-unique A B (sa .1) (sb .1) (oa .1) (ob .1) forth back (λ u v m n. anti u v (List·Memᴰ·tail m) (List·Memᴰ·tail n)) i
     where
       first : x ≡ y
       first = ⊎-elim (λ (q : x ≡ y). q)
@@ -129,14 +133,17 @@ module _ (g : Graph) where
   unfolding insertEdge
   of-insert d [] z m = List·Memᴰ·cases-cons m
   of-insert d (e ∷ l) z m = byTest (edgeBefore g e d)
-      (λ t. ⊎-elim (λ (q : z ≡ e). inr (List·Memᴰ·head q)) (λ k. ⊎-elim (λ (q : z ≡ d). inl q) (λ n. inr (List·Memᴰ·tail n)) (of-insert d l z k)) (List·Memᴰ·cases-cons (rw (insert-yes d e l t) at m)))
+      (λ t. ⊎-elim (λ (q : z ≡ e). inr (List·Memᴰ·head q)) (λ k.
+      ⊎-elim (λ (q : z ≡ d). inl q) (λ n. inr (List·Memᴰ·tail n)) (of-insert d l z k))
+      (List·Memᴰ·cases-cons (rw (insert-yes d e l t) at m)))
       (λ t. List·Memᴰ·cases-cons (rw (insert-no d e l t) at m))
 
   mem-insert : (d : Edge) (l : List Edge) (z : Edge) → (z ≡ d) ⊎ List·Memᴰ z l → List·Memᴰ z (insertEdge g d l)
   unfolding insertEdge
   mem-insert d [] z m = ⊎-elim (λ (q : z ≡ d). List·Memᴰ·head q) (λ k. absurd (List·Memᴰ·not-nil k)) m
   mem-insert d (e ∷ l) z m = byTest (edgeBefore g e d)
-      (λ t. rw (insert-yes d e l t) (⊎-elim (λ (q : z ≡ d). List·Memᴰ·tail (mem-insert d l z (inl q))) (λ k. ⊎-elim (λ (q : z ≡ e). List·Memᴰ·head q) (λ n. List·Memᴰ·tail (mem-insert d l z (inr n))) (List·Memᴰ·cases-cons k)) m))
+      (λ t. rw (insert-yes d e l t) (⊎-elim (λ (q : z ≡ d). List·Memᴰ·tail (mem-insert d l z (inl q))) (λ k.
+      ⊎-elim (λ (q : z ≡ e). List·Memᴰ·head q) (λ n. List·Memᴰ·tail (mem-insert d l z (inr n))) (List·Memᴰ·cases-cons k)) m))
       (λ t. rw (insert-no d e l t) (⊎-elim (λ (q : z ≡ d). List·Memᴰ·head q) (λ k. List·Memᴰ·tail k) m))
 
   sorted-insert : (d : Edge) (l : List Edge) → Sorted g l → Sorted g (insertEdge g d l)
@@ -150,7 +157,10 @@ module _ (g : Graph) where
   unfolding insertEdge
   once-insert d [] n o = (λ m. List·Memᴰ·not-nil m, tt)
   once-insert d (e ∷ l) n o = byTest (edgeBefore g e d)
-      (λ t. rw (insert-yes d e l t) (λ m. ⊎-elim (λ (q : e ≡ d). n (List·Memᴰ·head (sym q))) (λ k. o .0 k) (of-insert d l e m), once-insert d l (λ m. n (List·Memᴰ·tail m)) (o .1)))
+      (λ t. rw (insert-yes d e l t) (
+        λ m. ⊎-elim (λ (q : e ≡ d). n (List·Memᴰ·head (sym q))) (λ k. o .0 k) (of-insert d l e m),
+        once-insert d l (λ m. n (List·Memᴰ·tail m)) (o .1),
+      ))
       (λ t. rw (insert-no d e l t) (n, o))
 
   pub of-sort : (l : List Edge) (z : Edge) → List·Memᴰ z (sortEdges g l) → List·Memᴰ z l

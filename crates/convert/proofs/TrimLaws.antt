@@ -22,7 +22,8 @@ use Rattle.convert.specs.Convert.{Trimmable, Trimmed}
 -- ---- a part's last byte
 
 last-part : (p : List ℕ) (a l : ℕ) → a + l ≤ length p → 1 ≤ l → part p (a + (l - 1)) 1 ≡ drop (length (part p a l) - 1) (part p a l)
-last-part p a l h b = sym (ap (λ (x : ℕ). drop (x - 1) (part p a l)) (part-long p a l h) ∙ ap (drop (l - 1)) split ∙ drop-at (take (l - 1) (drop a p)) (take 1 (drop (l - 1) (drop a p))) (l - 1) long ∙ ap (take 1) (drop-drop (l - 1) a p))
+last-part p a l h b = sym (ap (λ (x : ℕ). drop (x - 1) (part p a l)) (part-long p a l h) ∙ ap (drop (l - 1)) split
+    ∙ drop-at (take (l - 1) (drop a p)) (take 1 (drop (l - 1) (drop a p))) (l - 1) long ∙ ap (take 1) (drop-drop (l - 1) a p))
   where
     long : length (take (l - 1) (drop a p)) ≡ l - 1
     long = length-take-le (l - 1) (drop a p) (omega (arith, length-drop a p))
@@ -66,12 +67,14 @@ pub record Trimming (m n : ℕ) (es vs₀ vs : List ℕ) (v : ℕ) : Type 0 wher
 pub trimming-start : {m n : ℕ} {es vs : List ℕ} → Trimming m n es vs vs 0
 trimming-start = record { high = omega arith; size = refl; done = λ u b. absurd (omega arith); start-rest = λ u b. refl; len-rest = λ u b. refl }
 
-module _ {m n : ℕ} {es heads nexts vs₀ : List ℕ} (T : Trimmable n vs₀) (I : Indexed m n es heads nexts) {vs : List ℕ} {v : ℕ} (W : Trimming m n es vs₀ vs v) (h : v < n) where
+module _ {m n : ℕ} {es heads nexts vs₀ : List ℕ} (T : Trimmable n vs₀) (I : Indexed m n es heads nexts) {vs : List ℕ} {v : ℕ} (W :
+    Trimming m n es vs₀ vs v) (h : v < n) where
   none-in : m ≤ getD heads (2 * v + 1) 0 → eqb (length (edgesAt (endOf 1 es) m v)) 0 ≡ true
   none-in b = eq-eqb _ 0 (ap length (at-none (I .index 1 (omega arith)) h (getD heads (2 * v + 1) 0) refl b))
 
   some-in : getD heads (2 * v + 1) 0 < m → eqb (length (edgesAt (endOf 1 es) m v)) 0 ≡ false
-  some-in b = ne-eqb _ 0 (λ (z : length (edgesAt (endOf 1 es) m v) ≡ 0). omega (arith, ap length (at-first (I .index 1 (omega arith)) h (getD heads (2 * v + 1) 0) refl b)))
+  some-in b = ne-eqb _ 0 (λ (z : length (edgesAt (endOf 1 es) m v) ≡ 0).
+      omega (arith, ap length (at-first (I .index 1 (omega arith)) h (getD heads (2 * v + 1) 0) refl b)))
 
   pub trimming-kept : m ≤ getD heads (2 * v + 1) 0 → Trimming m n es vs₀ vs (v + 1)
   trimming-kept b = record {
@@ -86,18 +89,26 @@ module _ {m n : ℕ} {es heads nexts vs₀ : List ℕ} (T : Trimmable n vs₀) (
   }
 
   pub trimming-small : {start len : ℕ} → start ≡ getD vs (2 * v) 0 → len ≡ getD vs (2 * v + 1) 0 → (1 ≤ len) × (start + len < 4294967296)
-  trimming-small a b = (omega (arith, T .whole v h, W .len-rest v (omega arith)), omega (arith, T .small v h, W .start-rest v (omega arith), W .len-rest v (omega arith)))
+  trimming-small a b = (
+    omega (arith, T .whole v h, W .len-rest v (omega arith)),
+    omega (arith, T .small v h, W .start-rest v (omega arith), W .len-rest v (omega arith)),
+  )
 
-  pub trimming-last : {vs′ : List ℕ} → getD heads (2 * v + 1) 0 < m → vs′ ≡ putVertex vs v (getD vs (2 * v) 0 + (getD vs (2 * v + 1) 0 - 1)) 1 → Trimming m n es vs₀ vs′ (v + 1)
+  pub trimming-last : {vs′ : List ℕ} → getD heads (2 * v + 1) 0 < m → vs′
+      ≡ putVertex vs v (getD vs (2 * v) 0 + (getD vs (2 * v + 1) 0 - 1)) 1 → Trimming m n es vs₀ vs′ (v + 1)
   trimming-last {vs′} b e = record {
     high = omega arith;
     size = ap length e ∙ length-put-vertex vs v _ 1 ∙ W .size;
     done = λ u c. elim (ℕ-discrete u v) [
       | yes q ↦ rw q (record {
-        start = ap (λ (l : List ℕ). getD l (2 * v) 0) e ∙ put-start vs v _ 1 room ∙ (λ i. W .start-rest v (omega arith) i + (W .len-rest v (omega arith) i - 1)) ∙ rw (some-in b);
+        start = ap (λ (l : List ℕ). getD l (2 * v) 0) e ∙ put-start vs v _ 1 room
+            ∙ (λ i. W .start-rest v (omega arith) i + (W .len-rest v (omega arith) i - 1)) ∙ rw (some-in b);
         len = ap (λ (l : List ℕ). getD l (2 * v + 1) 0) e ∙ put-len vs v _ 1 room ∙ rw (some-in b);
       })
-      | no ne ↦ (let P = W .done u (omega arith) in record { start = other (2 * u) (λ z. ne (omega arith)) (λ z. omega arith) ∙ P .start; len = other (2 * u + 1) (λ z. omega arith) (λ z. ne (omega arith)) ∙ P .len })
+      | no ne ↦ (let P = W .done u (omega arith) in record {
+        start = other (2 * u) (λ z. ne (omega arith)) (λ z. omega arith) ∙ P .start;
+        len = other (2 * u + 1) (λ z. omega arith) (λ z. ne (omega arith)) ∙ P .len;
+      })
     ];
     start-rest = λ u c. other (2 * u) (λ z. omega arith) (λ z. omega arith) ∙ W .start-rest u (omega arith);
     len-rest = λ u c. other (2 * u + 1) (λ z. omega arith) (λ z. omega arith) ∙ W .len-rest u (omega arith);
@@ -112,7 +123,8 @@ module _ {m n : ℕ} {es heads nexts vs₀ : List ℕ} (T : Trimmable n vs₀) (
 -- ---- the sequences then
 
 placed-seq : (b : Bool) (vs₀ vs p : List ℕ) (u : ℕ) → getD vs₀ (2 * u) 0 + getD vs₀ (2 * u + 1) 0 ≤ length p → 1 ≤ getD vs₀ (2 * u + 1) 0
-    → getD vs (2 * u) 0 ≡ cond b (getD vs₀ (2 * u) 0) (getD vs₀ (2 * u) 0 + (getD vs₀ (2 * u + 1) 0 - 1)) → getD vs (2 * u + 1) 0 ≡ cond b (getD vs₀ (2 * u + 1) 0) 1
+    → getD vs (2 * u) 0 ≡ cond b (getD vs₀ (2 * u) 0) (getD vs₀ (2 * u) 0 + (getD vs₀ (2 * u + 1) 0 - 1)) → getD vs (2 * u + 1) 0
+    ≡ cond b (getD vs₀ (2 * u + 1) 0) 1
     → seqIn vs p u ≡ cond b (seqIn vs₀ p u) (drop (length (seqIn vs₀ p u) - 1) (seqIn vs₀ p u))
 placed-seq true vs₀ vs p u w o a b = λ i. part p (a i) (b i)
 placed-seq false vs₀ vs p u w o a b = (λ i. part p (a i) (b i)) ∙ last-part p (getD vs₀ (2 * u) 0) (getD vs₀ (2 * u + 1) 0) w o
@@ -125,9 +137,14 @@ pub trimming-end : {m n : ℕ} {es vs₀ vs : List ℕ} {v : ℕ} → Trimmable 
 trimming-end {m} {n} {es} {vs₀} {vs} {v} T W h = record {
   is = λ k p w. tab-ext n (seqIn vs p) (additionalSequence (graphIn k n m es vs₀ p)) (λ u b. let P = W .done u (omega arith) in
       placed-seq (eqb (length (edgesAt (endOf 1 es) m u)) 0) vs₀ vs p u (w .at u b) (T .whole u b) (P .start) (P .len) ∙ sym (additional k p u b));
-  within = λ used w. record { at = λ u b. let P = W .done u (omega arith) in placed-within (eqb (length (edgesAt (endOf 1 es) m u)) 0) _ _ _ _ used (w .at u b) (T .whole u b) (P .start) (P .len) };
+  within = λ used w. record {
+    at = λ u b. let P = W .done u (omega arith) in placed-within
+        (eqb (length (edgesAt (endOf 1 es) m u)) 0) _ _ _ _ used (w .at u b) (T .whole u b) (P .start) (P .len);
+  };
 }
   where
-    additional : (k : ℕ) (p : List ℕ) (u : ℕ) → u < n → additionalSequence (graphIn k n m es vs₀ p) u ≡ cond (eqb (length (edgesAt (endOf 1 es) m u)) 0) (seqIn vs₀ p u) (drop (length (seqIn vs₀ p u) - 1) (seqIn vs₀ p u))
+    additional : (k : ℕ) (p : List ℕ) (u : ℕ) → u < n → additionalSequence (graphIn k n m es vs₀ p) u
+        ≡ cond (eqb (length (edgesAt (endOf 1 es) m u)) 0) (seqIn vs₀ p u) (drop (length (seqIn vs₀ p u) - 1) (seqIn vs₀ p u))
     additional k p u b = unfold additionalSequence vertexSequence in
-        (λ i. cond (eqb (in-degree-is k n m es vs₀ p u i) 0) (getD-tab n (seqIn vs₀ p) u [] b i) (drop (length (getD-tab n (seqIn vs₀ p) u [] b i) - 1) (getD-tab n (seqIn vs₀ p) u [] b i)))
+        (λ i. cond (eqb (in-degree-is k n m es vs₀ p u i) 0) (getD-tab n (seqIn vs₀ p) u [] b i)
+        (drop (length (getD-tab n (seqIn vs₀ p) u [] b i) - 1) (getD-tab n (seqIn vs₀ p) u [] b i)))

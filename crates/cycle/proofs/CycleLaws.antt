@@ -83,9 +83,11 @@ module _ (g : Graph) where
     below : (x : ℕ) → List·Memᴰ x (u ∷ vs) → x < nodeCount g
 
   -- its part from one of its vertices on
-  simple-from : (u v : ℕ) (vs : List ℕ) → Chain u vs v → Distinct (u ∷ vs) → ((x : ℕ) → List·Memᴰ x (u ∷ vs) → x < nodeCount g) → (x : ℕ) → List·Memᴰ x (u ∷ vs) → Simple x v
+  simple-from : (u v : ℕ) (vs : List ℕ) → Chain u vs v → Distinct (u ∷ vs) → ((x : ℕ) → List·Memᴰ x (u ∷ vs) → x < nodeCount g) → (x : ℕ)
+      → List·Memᴰ x (u ∷ vs) → Simple x v
   unfolding Chain
-  simple-from u v [] c d b x m = ⊎-elim (λ (q : x ≡ u). rw q (record { vs = []; chain = c; distinct = d; below = b })) (λ k. absurd (List·Memᴰ·not-nil k)) (List·Memᴰ·cases-cons m)
+  simple-from u v [] c d b x m = ⊎-elim (λ (q : x ≡ u). rw q (record { vs = []; chain = c; distinct = d; below = b })) (λ k.
+      absurd (List·Memᴰ·not-nil k)) (List·Memᴰ·cases-cons m)
   simple-from u v (w ∷ ws) c d b x m =
       ⊎-elim (λ (q : x ≡ u). rw q (record { vs = w ∷ ws; chain = c; distinct = d; below = b }))
       (λ k. simple-from w v ws (c .1) (d .1) (λ y i. b y (List·Memᴰ·tail i)) x k)
@@ -133,9 +135,11 @@ module _ (g : Graph) where
     step-hop : (seen : List ℕ) (u v : ℕ) → elemOf u seen ≡ true → Hop forward g u v → elemOf v (step seen) ≡ true
     step-hop seen u v t k =
         in-step seen v (hop-below u v k .1)
-        (or-right (elemOf v seen) (anyOf-mem (λ (e : Edge). anyOf (λ (u : ℕ). forward e u v) seen) (g .edges) (k .1) (anyOf-mem (λ (u : ℕ). forward (k .0) u v) seen (elemOf-true u seen t) (k .2))))
+        (or-right (elemOf v seen) (anyOf-mem (λ (e : Edge). anyOf (λ (u : ℕ). forward e u v) seen) (g .edges) (k .1)
+        (anyOf-mem (λ (u : ℕ). forward (k .0) u v) seen (elemOf-true u seen t) (k .2))))
 
-    in-grow : (n : ℕ) (seen : List ℕ) (i u v : ℕ) → i ≤ n → u < nodeCount g → elemOf u seen ≡ true → Way forward g i u v → elemOf v (grow forward g n seen) ≡ true
+    in-grow : (n : ℕ) (seen : List ℕ) (i u v : ℕ) → i ≤ n → u < nodeCount g → elemOf u seen ≡ true → Way forward g i u v
+        → elemOf v (grow forward g n seen) ≡ true
     unfolding grow
     in-grow zero seen zero u v l h t e = rw e at t
     in-grow zero seen (suc i) u v l h t w = absurd (omega arith)
@@ -146,14 +150,19 @@ module _ (g : Graph) where
     unfolding reached
     way-reached n u v h w =
         let s = simple n u v h w in
-        in-grow (nodeCount g) (u ∷ []) (length (s .vs)) u v (omega (arith, distinct-length (nodeCount g) (u ∷ s .vs) (s .distinct) (s .below))) h (elemOf-mem u (u ∷ []) (List·Memᴰ·head refl)) (chain-way u v (s .vs) (s .chain))
+        in-grow (nodeCount g) (u ∷ []) (length (s .vs)) u v (omega (
+          arith,
+          distinct-length (nodeCount g) (u ∷ s .vs) (s .distinct) (s .below),
+        )) h (elemOf-mem u (u ∷ []) (List·Memᴰ·head refl))
+        (chain-way u v (s .vs) (s .chain))
 
     pub closed-cycle : Closed g → hasCycle g ≡ true
     unfolding hasCycle
     closed-cycle (v, k) =
         let r = walk-way k in
         let b = hop-below v (r .0) (edge-hop v (r .0) (r .1)) in
-        anyOf-mem (λ (v : ℕ). anyOf (λ (w : ℕ). elemOf v (reached forward g w)) (outgoingNodes g v)) (upFrom 0 (nodeCount g)) (mem-upFrom 0 (nodeCount g) v (omega arith) (omega (arith, b .0)))
+        anyOf-mem (λ (v : ℕ). anyOf (λ (w : ℕ). elemOf v (reached forward g w)) (outgoingNodes g v)) (upFrom 0 (nodeCount g))
+        (mem-upFrom 0 (nodeCount g) v (omega arith) (omega (arith, b .0)))
         (anyOf-mem (λ (w : ℕ). elemOf v (reached forward g w)) (outgoingNodes g v) (mem-outs v (r .0) (r .1)) (way-reached (r .2) (r .0) v (b .1) (r .3)))
 
     pub no-cycle-ranked : hasCycle g ≡ false → Ranks g (rounds g bounded)

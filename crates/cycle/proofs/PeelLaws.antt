@@ -27,7 +27,8 @@ use Rattle.index.proofs.IndexLaws.{end-below}
 use Rattle.cycle.specs.Peel.{Peelable, Counted, stands, entering, Queued, Peeling, Sourced, HasCycle}
 use Rattle.cycle.proofs.CycleLaws.{ranked-no-cycle, closed-cycle}
 use Rattle.tabs.proofs.Ranks.{rank-same, rank-most, rank-none, rank-find, length-kept, distinct-tab}
-use Rattle.cycle.proofs.QueueLaws.{stands-later, stands-yes, stands-move, stands-turn, of-entering, placeAt, at-same, at-other, queue-room, queued-as, queued-push, queued-take, entered-some, entered-out}
+use Rattle.cycle.proofs.QueueLaws.{stands-later, stands-yes, stands-move, stands-turn, of-entering, placeAt, at-same, at-other}
+use Rattle.cycle.proofs.QueueLaws.{queue-room, queued-as, queued-push, queued-take, entered-some, entered-out}
 
 pub pair-first : (l : List ℕ) (i : ℕ) → getD l (2 * i) 0 ≡ pairAt 0 l i
 pair-first l i = ap (λ (x : ℕ). getD l x 0) (sym (add-zero (2 * i)))
@@ -48,7 +49,8 @@ pub record Counting (m n : ℕ) (es degrees₀ degrees : List ℕ) (v : ℕ) : T
 pub counting-start : {m n : ℕ} {es degrees : List ℕ} → Counting m n es degrees degrees 0
 counting-start = record { high = omega arith; len = refl; done = record { at = λ v b. absurd (omega arith) } }
 
-pub counting-more : {m n : ℕ} {es degrees₀ degrees : List ℕ} {v d : ℕ} → Counting m n es degrees₀ degrees v → v < n → n ≤ length degrees₀ → d ≡ length (edgesAt (endOf 1 es) m v)
+pub counting-more : {m n : ℕ} {es degrees₀ degrees : List ℕ} {v d : ℕ} → Counting m n es degrees₀ degrees v → v < n → n ≤ length degrees₀
+    → d ≡ length (edgesAt (endOf 1 es) m v)
     → Counting m n es degrees₀ (set degrees v d) (v + 1)
 counting-more {m} {n} {es} {degrees₀} {degrees} {v} {d} C h room q = record {
   high = omega arith;
@@ -92,7 +94,8 @@ sourcing-start {n} {degrees} {queue} = record { high = omega arith; low = omega 
         found = λ v b l. absurd (omega arith);
         out = λ v b l. omega arith;
         count = λ v b. C .at v b ∙ degree-rank (endOf 1 es) m v
-            ∙ rank-same (λ (e : ℕ). eqb (endOf 1 es e) v) (entering es (λ u. n) 0 0 v) m (λ e k. and-all (eqb (endOf 1 es e) v) (stands-later 0 0 n e (omega arith)));
+            ∙ rank-same (λ (e : ℕ). eqb (endOf 1 es e) v) (entering es (λ u. n) 0 0 v) m (λ e k.
+            and-all (eqb (endOf 1 es e) v) (stands-later 0 0 n e (omega arith)));
         done = λ v b l. absurd (omega arith);
         order = λ e b l. absurd (omega arith);
       };
@@ -115,7 +118,12 @@ module _ {n : ℕ} {degrees queue₀ queue : List ℕ} {tail v : ℕ} (S : Sourc
               | yes q ↦ rw (q, at-same (s .place) v tail) (omega arith)
               | no ne ↦ omega (arith, at-other (s .place) v tail u ne, s .zero u (omega arith) y)
             ];
-            fresh = λ u a b. omega (arith, at-other (s .place) v tail u (λ q. omega arith), s .queued .out u b (s .fresh u (omega arith) b), queue-room (s .queued) v h new);
+            fresh = λ u a b. omega (
+              arith,
+              at-other (s .place) v tail u (λ q. omega arith),
+              s .queued .out u b (s .fresh u (omega arith) b),
+              queue-room (s .queued) v h new,
+            );
           }
 
   pub sourcing-pass : (getD degrees v 0 ≡ 0 → ⊥) → Sourcing n degrees queue₀ queue tail (v + 1)
@@ -153,9 +161,11 @@ module _ {m n : ℕ} {es heads nexts : List ℕ} (X : Indexed m n es heads nexts
   -- an edge from place h is one of u's
   from-u : {degrees queue : List ℕ} {place : ℕ → ℕ} {h c tail u : ℕ} → Queued m n es degrees queue place h c tail → h < tail → getD queue h 0 ≡ u
       → (x : ℕ) → x < m → place (endOf 0 es x) ≡ h → endOf 0 es x ≡ u
-  from-u {queue = queue} Q l q x k p = sym (Q .found (endOf 0 es x) (end-below 0 (X .ends) x k (omega arith)) (omega arith)) ∙ ap (λ (i : ℕ). getD queue i 0) p ∙ q
+  from-u {queue = queue} Q l q x k p = sym (Q .found (endOf 0 es x) (end-below 0 (X .ends) x k (omega arith)) (omega arith))
+      ∙ ap (λ (i : ℕ). getD queue i 0) p ∙ q
 
-  pub taking-start : {degrees queue : List ℕ} {h tail e u : ℕ} → h < tail → Peeling m n es degrees queue h 0 tail → u ≡ getD queue h 0 → e ≡ getD heads (2 * u) 0 → Taking m n es h u degrees degrees queue queue tail e
+  pub taking-start : {degrees queue : List ℕ} {h tail e u : ℕ} → h < tail → Peeling m n es degrees queue h 0 tail → u ≡ getD queue h 0 → e
+      ≡ getD heads (2 * u) 0 → Taking m n es h u degrees degrees queue queue tail e
   taking-start {degrees} {queue} {h} {tail} {e} {u} l P qu q = rw (q ∙ pair-first heads u) (record {
     high = N .high;
     hit = N .hit;
@@ -268,7 +278,8 @@ module _ {m n : ℕ} {es heads nexts : List ℕ} (X : Indexed m n es heads nexts
         };
       })
 
-  pub taking-end : {h u : ℕ} {degrees₀ degrees queue₀ queue : List ℕ} {tail e : ℕ} → Taking m n es h u degrees₀ degrees queue₀ queue tail e → m ≤ e → Peeling m n es degrees queue (h + 1) 0 tail
+  pub taking-end : {h u : ℕ} {degrees₀ degrees queue₀ queue : List ℕ} {tail e : ℕ} → Taking m n es h u degrees₀ degrees queue₀ queue tail e
+      → m ≤ e → Peeling m n es degrees queue (h + 1) 0 tail
   taking-end {h} {e = e} T l =
       let q : e ≡ m = omega (arith, T .high) in
       let P = T .peeling in
@@ -280,7 +291,8 @@ module _ {m n : ℕ} {es heads nexts : List ℕ} (X : Indexed m n es heads nexts
 
 -- ---- the end: all are queued, or a cycle is left
 
-module _ {m n : ℕ} {es degrees queue : List ℕ} {h tail : ℕ} (E : EndsBelow n m es) (P : Peeling m n es degrees queue h 0 tail) (over : tail ≤ h) (k : ℕ) (vs p : List ℕ) where
+module _ {m n : ℕ} {es degrees queue : List ℕ} {h tail : ℕ} (E : EndsBelow n m es) (P : Peeling m n es degrees queue h 0 tail) (over :
+    tail ≤ h) (k : ℕ) (vs p : List ℕ) where
   bounded : Bounded (graphIn k n m es vs p)
   bounded e i = rw (order-in k n m es vs p) (ends-mem E e i)
 
@@ -309,13 +321,15 @@ module _ {m n : ℕ} {es degrees queue : List ℕ} {h tail : ℕ} (E : EndsBelow
   left-closed : tail < n → Closed (graphIn k n m es vs p)
   left-closed few = rank-find (λ (v : ℕ). leb tail (P .place v)) n
       (λ z. absurd (omega (arith, distinct-length tail (tab n (P .place)) (distinct z) (below z), length-tab n (P .place))))
-      (λ v b t. ⊎-elim (λ r. absurd (descent _ r (suc (rounds (graphIn k n m es vs p) bounded v)) v (omega arith) b (leb-true tail (P .place v) t))) (λ c. c) (ranked-or-closed (graphIn k n m es vs p) bounded))
+      (λ v b t. ⊎-elim (λ r. absurd (descent _ r (suc (rounds (graphIn k n m es vs p) bounded v)) v (omega arith) b
+      (leb-true tail (P .place v) t))) (λ c. c) (ranked-or-closed (graphIn k n m es vs p) bounded))
     where
       inside : rank (λ (v : ℕ). leb tail (P .place v)) n ≡ 0 → (v : ℕ) → v < n → P .place v < tail
       inside z v b = leb-false tail (P .place v) (rank-none (λ (v : ℕ). leb tail (P .place v)) n v z b)
 
       distinct : rank (λ (v : ℕ). leb tail (P .place v)) n ≡ 0 → Distinct (tab n (P .place))
-      distinct z = distinct-tab (P .place) n (λ i j a b q. sym (P .queued .found i a (inside z i a)) ∙ ap (λ (x : ℕ). getD queue x 0) q ∙ P .queued .found j b (inside z j b))
+      distinct z = distinct-tab (P .place) n (λ i j a b q. sym (P .queued .found i a (inside z i a)) ∙ ap (λ (x : ℕ). getD queue x 0) q
+          ∙ P .queued .found j b (inside z j b))
 
       below : rank (λ (v : ℕ). leb tail (P .place v)) n ≡ 0 → (x : ℕ) → List·Memᴰ x (tab n (P .place)) → x < tail
       below z x i = let j = of-mem-tab n (P .place) i in rw (j .2) (inside z (j .0) (j .1))
@@ -325,7 +339,8 @@ module _ {m n : ℕ} {es degrees queue : List ℕ} {h tail : ℕ} (E : EndsBelow
       (λ l. le-ltb 0 (n - tail) (omega arith) ∙ sym (ranked-no-cycle (graphIn k n m es vs p) (P .place) (all-ranked l)))
       (λ l. lt-ltb 0 (n - tail) (omega arith) ∙ sym (closed-cycle (graphIn k n m es vs p) bounded (left-closed l)))
 
-pub peeling-end : {m n : ℕ} {es degrees queue : List ℕ} {h tail : ℕ} → EndsBelow n m es → Peeling m n es degrees queue h 0 tail → tail ≤ h → HasCycle m n es (ltb 0 (n - tail))
+pub peeling-end : {m n : ℕ} {es degrees queue : List ℕ} {h tail : ℕ} → EndsBelow n m es → Peeling m n es degrees queue h 0 tail → tail ≤ h
+    → HasCycle m n es (ltb 0 (n - tail))
 peeling-end E P over = record { is = λ k vs p. peeled E P over k vs p }
 
 -- ---- the rounds
@@ -335,5 +350,6 @@ pub record Peels (m n : ℕ) (es degrees₀ degrees queue₀ queue : List ℕ) (
   pub queue-len : length queue ≡ length queue₀
   pub peeling : Peeling m n es degrees queue h 0 tail
 
-pub peelable-kept : {n : ℕ} {degrees degrees′ queue queue′ : List ℕ} → Peelable n degrees queue → length degrees′ ≡ length degrees → length queue′ ≡ length queue → Peelable n degrees′ queue′
+pub peelable-kept : {n : ℕ} {degrees degrees′ queue queue′ : List ℕ} → Peelable n degrees queue → length degrees′ ≡ length degrees
+    → length queue′ ≡ length queue → Peelable n degrees′ queue′
 peelable-kept K a b = record { degrees-room = omega (arith, K .degrees-room); queue-room = omega (arith, K .queue-room); small = K .small }

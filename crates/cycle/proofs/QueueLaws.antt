@@ -65,7 +65,11 @@ stands-turn h m p e l = byOrder p h
       | yes q ↦ stands-passed h m p e q l ∙ sym (stands-gone (h + 1) 0 p e (omega arith))
       | no ne ↦ stands-gone h m p e (omega arith) ∙ sym (stands-gone (h + 1) 0 p e (omega arith))
     ])
-    (λ b. stands-later h m p e b ∙ sym (elim (ℕ-discrete p (h + 1)) [ yes q ↦ stands-same (h + 1) 0 p e q (omega arith) | no ne ↦ stands-later (h + 1) 0 p e (omega arith) ]))
+    (λ b. stands-later h m p e b ∙ sym (elim (ℕ-discrete p (h + 1)) [
+      | yes q ↦ stands-same (h + 1) 0 p e q (omega arith)
+      | no ne ↦
+          stands-later (h + 1) 0 p e (omega arith)
+    ]))
 
 -- ---- an edge that enters v
 
@@ -117,7 +121,11 @@ module _ {m n : ℕ} {es degrees queue : List ℕ} {place : ℕ → ℕ} {h c ta
   queue-below v k = let r = of-mem-tab tail (λ (i : ℕ). getD queue i 0) k in rw (r .2) (Q .vertex (r .0) (r .1), omega (arith, Q .placed (r .0) (r .1), r .1))
 
   pub queue-most : tail ≤ n
-  queue-most = omega (arith, distinct-length n (tab tail (λ (i : ℕ). getD queue i 0)) queue-distinct (λ v k. queue-below v k .0), length-tab tail (λ (i : ℕ). getD queue i 0))
+  queue-most = omega (
+    arith,
+    distinct-length n (tab tail (λ (i : ℕ). getD queue i 0)) queue-distinct (λ v k. queue-below v k .0),
+    length-tab tail (λ (i : ℕ). getD queue i 0),
+  )
 
   -- while a vertex is not queued, there is room for it
   pub queue-room : (v : ℕ) → v < n → tail ≤ place v → tail < n
@@ -129,20 +137,23 @@ module _ {m n : ℕ} {es degrees queue : List ℕ} {place : ℕ → ℕ} {h c ta
         length-tab tail (λ (i : ℕ). getD queue i 0),
       )
 
-  pub queued-as : {h′ c′ : ℕ} → h′ ≤ tail → ((e : ℕ) → e < m → stands h c (place (endOf 0 es e)) e ≡ stands h′ c′ (place (endOf 0 es e)) e) → Queued m n es degrees queue place h′ c′ tail
+  pub queued-as : {h′ c′ : ℕ} → h′ ≤ tail → ((e : ℕ) → e < m → stands h c (place (endOf 0 es e)) e ≡ stands h′ c′ (place (endOf 0 es e)) e)
+      → Queued m n es degrees queue place h′ c′ tail
   queued-as {h′} {c′} l same = record {
     high = l;
     vertex = Q .vertex;
     placed = Q .placed;
     found = Q .found;
     out = Q .out;
-    count = λ v b. Q .count v b ∙ rank-same (entering es place h c v) (entering es place h′ c′ v) m (λ e k. entering-same es place place h c h′ c′ v e (same e k));
+    count = λ v b. Q .count v b ∙ rank-same (entering es place h c v) (entering es place h′ c′ v) m (λ e k.
+        entering-same es place place h c h′ c′ v e (same e k));
     done = Q .done;
     order = Q .order;
   }
 
   -- ---- v is queued, which no standing edge enters
-  module _ (E : EndsBelow n m es) (first : tail ≡ h → c ≡ 0) {v : ℕ} (b : v < n) (new : tail ≤ place v) (none : getD degrees v 0 ≡ 0) (room : n ≤ length queue) where
+  module _ (E : EndsBelow n m es) (first : tail ≡ h → c ≡ 0) {v : ℕ} (b : v < n) (new : tail ≤ place v) (none : getD degrees v 0
+      ≡ 0) (room : n ≤ length queue) where
     fits : tail < n
     fits = queue-room v b new
 
@@ -205,7 +216,8 @@ module _ {m n : ℕ} {es degrees queue : List ℕ} {place : ℕ → ℕ} {h c ta
       placed = push-placed;
       found = push-found;
       out = push-out;
-      count = λ x k. Q .count x k ∙ rank-same (entering es place h c x) (entering es (placeAt place v tail) h c x) m (λ e j. entering-same es place (placeAt place v tail) h c h c x e (stands-pushed e j));
+      count = λ x k. Q .count x k ∙ rank-same (entering es place h c x) (entering es (placeAt place v tail) h c x) m (λ e j.
+          entering-same es place (placeAt place v tail) h c h c x e (stands-pushed e j));
       done = push-done;
       order = push-order;
     }
@@ -234,7 +246,8 @@ module _ {m n : ℕ} {es degrees queue : List ℕ} {place : ℕ → ℕ} {h c ta
       where
         other : (v : ℕ) → (v ≡ endOf 1 es d → ⊥) → (e : ℕ) → e < m → entering es place h c v e ≡ entering es place h c′ v e
         other v ne e j = elim (ℕ-discrete e d) [
-          | yes q ↦ (let o : endOf 1 es e ≡ v → ⊥ = λ z. ne (sym z ∙ ap (endOf 1 es) q) in entering-other es place h c v e o ∙ sym (entering-other es place h c′ v e o))
+          | yes q ↦ (let o : endOf 1 es e ≡ v → ⊥ = λ z. ne (sym z ∙ ap (endOf 1 es) q) in entering-other es place h c v e o
+              ∙ sym (entering-other es place h c′ v e o))
           | no nd ↦ entering-same es place place h c h c′ v e (same e j nd)
         ]
 

@@ -46,7 +46,8 @@ fn peel(
     h: usize,
     queued: usize,
 ) -> usize
-    requires { ⌜ (h < queued) × (Indexed m n (now es) (now heads) (now nexts) × (Peelable n (now degrees) (now queue) × Peeling m n (now es) (now degrees) (now queue) h 0 queued)) ⌝ }
+    requires { ⌜ (h < queued) × (Indexed m n (now es) (now heads) (now nexts)
+        × (Peelable n (now degrees) (now queue) × Peeling m n (now es) (now degrees) (now queue) h 0 queued)) ⌝ }
     ensures { λ r. ⌜ Peeling m n (now (es .entry)) (now (degrees .exit)) (now (queue .exit)) (h + 1) 0 r ⌝ }
 {
     let u = queue[h] as usize;

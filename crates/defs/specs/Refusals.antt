@@ -8,7 +8,8 @@ use lib.ListN.{length, take}
 use Rattle.defs.specs.Lists.{anyOf, elemOf, sameList, upFrom, tab, sum}
 use Rattle.defs.specs.SeqGraph.{Edge, Graph, nodeCount, outgoingNodes, hasEnds}
 use Rattle.defs.specs.Cleanup.{forward, reached}
-use Rattle.defs.specs.Record.{mark, kindOf, statusOf, kOf, verticesOf, edgesOf, bytesOf, u32At, lengthsAt, edgesAt, bytesAt, wholeLength, lengthAt, edgeAt, flagAt, decode}
+use Rattle.defs.specs.Record.{mark, kindOf, statusOf, kOf, verticesOf, edgesOf, bytesOf, u32At, lengthsAt, edgesAt, bytesAt}
+use Rattle.defs.specs.Record.{wholeLength, lengthAt, edgeAt, flagAt, decode}
 
 pub record Cause : Type 0 where
   pub number : ℕ

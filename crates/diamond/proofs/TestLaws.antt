@@ -62,15 +62,26 @@ module _ {A : Type 0} (p : A → Bool) where
   allOf-no n f k b h = no-from zero n f k b (rw zero-add h)
 
 module _ (k n m : ℕ) (es vs p : List ℕ) where
-  middle-is : (b v : ℕ) → isMiddle m es b v ≡ (eqb (inDegree (graphIn k n m es vs p) v) 1 && (ltb 0 (outDegree (graphIn k n m es vs p) v) && allOf (eqb b) (outgoingNodes (graphIn k n m es vs p) v)))
-  middle-is b v = rw (in-degree-is k n m es vs p v, out-degree-is k n m es vs p v, outgoing-is k n m es vs p v, allOf-map (eqb b) (endOf 1 es) (edgesAt (endOf 0 es) m v)) refl
+  middle-is : (b v : ℕ) → isMiddle m es b v ≡ (eqb (inDegree (graphIn k n m es vs p) v) 1
+      && (ltb 0 (outDegree (graphIn k n m es vs p) v) && allOf (eqb b) (outgoingNodes (graphIn k n m es vs p) v)))
+  middle-is b v = rw (
+    in-degree-is k n m es vs p v,
+    out-degree-is k n m es vs p v,
+    outgoing-is k n m es vs p v,
+    allOf-map (eqb b) (endOf 1 es) (edgesAt (endOf 0 es) m v),
+  ) refl
 
   tail-is : (v : ℕ) → isTail m es v ≡ (eqb (outDegree (graphIn k n m es vs p) v) 0 && eqb (inDegree (graphIn k n m es vs p) v) 1)
   tail-is v = rw (in-degree-is k n m es vs p v, out-degree-is k n m es vs p v) refl
 
-  diamond-at : (b : ℕ) (nodes : List ℕ) (c : ℕ) → isDiamond (graphIn k n m es vs p) (numsIn c nodes) b ≡ (ltb 1 c && (allOf (isMiddle m es b) (numsIn c nodes) && eqb (inCount m es b) c))
+  diamond-at : (b : ℕ) (nodes : List ℕ) (c : ℕ) → isDiamond (graphIn k n m es vs p) (numsIn c nodes) b
+      ≡ (ltb 1 c && (allOf (isMiddle m es b) (numsIn c nodes) && eqb (inCount m es b) c))
   unfolding isDiamond
-  diamond-at b nodes c = rw (length-tab c (λ (i : ℕ). getD nodes i 0), in-degree-is k n m es vs p b, ← allOf-same (isMiddle m es b) _ (numsIn c nodes) (middle-is b)) refl
+  diamond-at b nodes c = rw (
+    length-tab c (λ (i : ℕ). getD nodes i 0),
+    in-degree-is k n m es vs p b,
+    ← allOf-same (isMiddle m es b) _ (numsIn c nodes) (middle-is b),
+  ) refl
 
   tails-at : (nodes : List ℕ) (c : ℕ) → isTails (graphIn k n m es vs p) (numsIn c nodes) ≡ (ltb 1 c && allOf (isTail m es) (numsIn c nodes))
   unfolding isTails
@@ -107,10 +118,12 @@ module _ {m n : ℕ} {es heads nexts : List ℕ} (I : Indexed m n es heads nexts
   enters e = eqb b (endOf 1 es e)
 
   pub enter-start : v < n → Testing (endOf 0 es) m v enters (getD heads (2 * v) 0)
-  enter-start h = subst (Testing (endOf 0 es) m v enters) (ap (λ (x : ℕ). getD heads x 0) (add-zero (2 * v))) (testing-start (I .index 0 (omega arith)) enters h)
+  enter-start h = subst (Testing (endOf 0 es) m v enters) (ap (λ (x : ℕ). getD heads x 0) (add-zero (2 * v)))
+      (testing-start (I .index 0 (omega arith)) enters h)
 
   pub enter-more : (e : ℕ) → Testing (endOf 0 es) m v enters e → e < m → b ≡ endOf 1 es e → Testing (endOf 0 es) m v enters (getD nexts (2 * e) 0)
-  enter-more e T h q = subst (Testing (endOf 0 es) m v enters) (ap (λ (x : ℕ). getD nexts x 0) (add-zero (2 * e))) (testing-more (I .index 0 (omega arith)) enters T h (eq-eqb _ _ q))
+  enter-more e T h q = subst (Testing (endOf 0 es) m v enters) (ap (λ (x : ℕ). getD nexts x 0) (add-zero (2 * e)))
+      (testing-more (I .index 0 (omega arith)) enters T h (eq-eqb _ _ q))
 
   pub enter-on : (e : ℕ) → e < m → e < getD nexts (2 * e) 0
   enter-on e h = omega (arith, (I .index 0 (omega arith)) .nexts e h .low, ap (λ (x : ℕ). getD nexts x 0) (add-zero (2 * e)))

@@ -89,7 +89,8 @@ module _ {m n : ℕ} {es heads nexts : List ℕ} (X : Indexed m n es heads nexts
       marks-seen : (t : ℕ) → t < n → getD (set marks (endOf 1 es e) (v + 1)) t 0 ≡ v + 1 → Seen es v t (pairAt 0 nexts e)
       marks-seen t b q = let low = (out .nexts e h) .low in elim (ℕ-discrete t (endOf 1 es e)) [
         | yes p ↦ record { by = e; low = omega arith; from = M .hit h; to = sym p }
-        | no ne ↦ (let s = M .seen t b (sym (getD-set-other marks (endOf 1 es e) t (v + 1) 0 ne) ∙ q) in record { by = s .by; low = omega (arith, s .low); from = s .from; to = s .to })
+        | no ne ↦ (let s = M .seen t b (sym (getD-set-other marks (endOf 1 es e) t (v + 1) 0 ne) ∙ q) in
+            record { by = s .by; low = omega (arith, s .low); from = s .from; to = s .to })
       ]
 
       marks-noted : (j : ℕ) → j < pairAt 0 nexts e → endOf 0 es j ≡ v → getD (set marks (endOf 1 es e) (v + 1)) (endOf 1 es j) 0 ≡ v + 1
@@ -169,7 +170,8 @@ twins-doubled {m} {es} T =
     (ends-join _ _ (edgeIn es (T .second)) (sym (from-is es (T .first)) ∙ T .from-first ∙ sym (T .from-second) ∙ from-is es (T .second)) (T .to-same)))
 
 pub twinless : {m n : ℕ} {es : List ℕ} → EndsBelow n m es → ((v : ℕ) → v < n → Twins m es v → ⊥) → false ≡ doubledEdge (edgesIn m es)
-twinless {m} {n} {es} E o = sym (single-from (edgeIn es) 0 m (λ i j a b c. byTest (hasEnds (getD es (4 * i) 0) (getD es (4 * i + 1) 0) (edgeIn es j)) (λ t. absurd (none i j b (omega arith) t)) (λ t. t)))
+twinless {m} {n} {es} E o = sym (single-from (edgeIn es) 0 m (λ i j a b c.
+    byTest (hasEnds (getD es (4 * i) 0) (getD es (4 * i + 1) 0) (edgeIn es j)) (λ t. absurd (none i j b (omega arith) t)) (λ t. t)))
   where
     none : (i j : ℕ) → i < j → j < m → hasEnds (getD es (4 * i) 0) (getD es (4 * i + 1) 0) (edgeIn es j) ≡ true → ⊥
     none i j b c t =
@@ -185,10 +187,12 @@ pub record Scanning (m n : ℕ) (es marks₀ marks : List ℕ) (v : ℕ) : Type 
   pub stale : Stale n v marks
   pub none : (u : ℕ) → u < v → Twins m es u → ⊥
 
-pub scanning-start : {m n : ℕ} {es marks₀ marks : List ℕ} → length marks ≡ length marks₀ → ((k : ℕ) → k < n → getD marks k 0 ≡ 0) → Scanning m n es marks₀ marks 0
+pub scanning-start : {m n : ℕ} {es marks₀ marks : List ℕ} → length marks ≡ length marks₀ → ((k : ℕ) → k < n → getD marks k 0 ≡ 0)
+    → Scanning m n es marks₀ marks 0
 scanning-start l z = record { high = omega arith; len = l; stale = record { at = λ t b. omega (arith, z t b) }; none = λ u b. absurd (omega arith) }
 
-pub scanning-more : {m n : ℕ} {es marks₀ marks marks′ : List ℕ} {v : ℕ} {r : Bool} → Scanning m n es marks₀ marks v → v < n → length marks′ ≡ length marks → DoubledFrom m n es v r marks′ → r ≡ false
+pub scanning-more : {m n : ℕ} {es marks₀ marks marks′ : List ℕ} {v : ℕ} {r : Bool} → Scanning m n es marks₀ marks v → v < n → length marks′
+    ≡ length marks → DoubledFrom m n es v r marks′ → r ≡ false
     → Scanning m n es marks₀ marks′ (v + 1)
 scanning-more {v = v} S h l D f = record {
   high = omega arith;

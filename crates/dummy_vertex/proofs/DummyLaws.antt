@@ -69,11 +69,18 @@ module _ (h : Held) (es vs : List ℕ) (e-room : 4 ≤ length es) (v-room : 4 �
   unfolding tabFrom
   single p = ap (λ (n : ℕ). seqsIn n vs p) one
 
-  both-is : (p : List ℕ) → graphIn (h .k .0) 2 1 (putEdge es 0 0 1 0 1) (putVertex vs 1 0 0) p ≡ record { k = h .k .0; verts = seqIn vs p 0 ∷ [] ∷ []; edges = record { from = 0; to = 1; support = 0; isRef = true } ∷ [] }
+  both-is : (p : List ℕ) → graphIn (h .k .0) 2 1 (putEdge es 0 0 1 0 1) (putVertex vs 1 0 0) p
+      ≡ record { k = h .k .0; verts = seqIn vs p 0 ∷ [] ∷ []; edges = record { from = 0; to = 1; support = 0; isRef = true } ∷ [] }
   unfolding tabFrom
-  both-is p = λ i. record { k = h .k .0; verts = first-same vs v-room p i ∷ second-empty vs v-room p i ∷ []; edges = put-same es 0 0 1 0 1 (omega arith) i ∷ [] }
+  both-is p = λ i. record {
+    k = h .k .0;
+    verts = first-same vs v-room p i ∷ second-empty vs v-room p i ∷ [];
+    edges =
+        put-same es 0 0 1 0 1 (omega arith) i ∷ [];
+  }
 
-  pub dummy-one : {r : Held} {es′ vs′ : List ℕ} → vs′ ≡ putVertex vs 1 0 0 → es′ ≡ putEdge es 0 0 1 0 1 → r ≡ record { k = h .k; n = 2; m = 1; used = h .used } → DummyAdded h es vs r es′ vs′
+  pub dummy-one : {r : Held} {es′ vs′ : List ℕ} → vs′ ≡ putVertex vs 1 0 0 → es′ ≡ putEdge es 0 0 1 0 1 → r
+      ≡ record { k = h .k; n = 2; m = 1; used = h .used } → DummyAdded h es vs r es′ vs′
   dummy-one a b q = rw (a, b, q) record {
     is = λ p. both-is p ∙ sym (sink-one (graphOf h es vs p) (seqIn vs p 0) (single p));
     within = λ used W. two-within vs v-room used (rw one at W);

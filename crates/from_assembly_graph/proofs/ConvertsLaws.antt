@@ -79,7 +79,9 @@ module _ (bs : List ℕ) (none : refusalOf (conversionCauses bs) ≡ 0) where
         }
 
     read-back : decode (encode sequenceGraph 0 (fromAssemblyGraph (decode bs))) ≡ fromAssemblyGraph (decode bs)
-    read-back = decode-encode sequenceGraph 0 (fromAssemblyGraph (decode bs)) (answer-encodable (fromAssemblyGraph (decode bs)) small-k (omega (arith, few-vertices)) (omega (arith, few-edges)) (none-late bs none) edge-within)
+    read-back = decode-encode sequenceGraph 0 (fromAssemblyGraph (decode bs))
+        (answer-encodable (fromAssemblyGraph (decode bs)) small-k (omega (arith, few-vertices)) (omega (arith, few-edges))
+        (none-late bs none) edge-within)
 
 -- ---- the answer and the output go by the response
 
@@ -95,7 +97,8 @@ module _ (bs out : List ℕ) (t : Tally) where
   unfolding fromAssemblyGraphResponse conversionCauses
   fitting e = respond-fits _ (length out) result e
 
-  answer-by : {x : Response} {a : Answer} → fromAssemblyGraphResponse bs (length out) ≡ x → answerOf a ≡ D.answer x (tallyOf t) → answerOf a ≡ fromAssemblyGraphAnswer bs (length out) (tallyOf t)
+  answer-by : {x : Response} {a : Answer} → fromAssemblyGraphResponse bs (length out) ≡ x → answerOf a ≡ D.answer x (tallyOf t) → answerOf a
+      ≡ fromAssemblyGraphAnswer bs (length out) (tallyOf t)
   unfolding fromAssemblyGraphAnswer
   answer-by e q = q ∙ ap (λ (x : Response). D.answer x (tallyOf t)) (sym e)
 
@@ -107,7 +110,8 @@ module _ (bs out : List ℕ) (t : Tally) where
   unfolding D.answer
   length-by x q = ap (λ (y : D.Answer). y .length) q
 
-  refused-with : (n : ℕ) → (n ≡ 0 → ⊥) → fromAssemblyGraphResponse bs (length out) ≡ refused n → {a : Answer} {out′ : List ℕ} → Refuses n t a → out′ ≡ out → Converts bs out t a out′
+  refused-with : (n : ℕ) → (n ≡ 0 → ⊥) → fromAssemblyGraphResponse bs (length out) ≡ refused n → {a : Answer} {out′ : List ℕ}
+      → Refuses n t a → out′ ≡ out → Converts bs out t a out′
   unfolding writtenOf numberOf
   refused-with n o e {a} R q = record {
     answer = answer-by e (R .is);
@@ -120,7 +124,8 @@ module _ (bs out : List ℕ) (t : Tally) where
       other : a .number ≡ 0 → ⊥
       other i = o (sym (number-by (refused n) (R .is)) ∙ i)
 
-  accepted-with : ((i : ℕ) → getD bs i 0 < 256) → refusalOf (conversionCauses bs) ≡ 0 → {a : Answer} {out′ : List ℕ} → fromAssemblyGraphResponse bs (length out) ≡ accepted result → answerOf a ≡ D.answer (accepted result) (tallyOf t)
+  accepted-with : ((i : ℕ) → getD bs i 0 < 256) → refusalOf (conversionCauses bs) ≡ 0 → {a : Answer} {out′ : List ℕ}
+      → fromAssemblyGraphResponse bs (length out) ≡ accepted result → answerOf a ≡ D.answer (accepted result) (tallyOf t)
       → out′ ≡ result ++ drop (length result) out → Converts bs out t a out′
   unfolding writtenOf lengthOf
   accepted-with small none {a} {out′} e q w = record {
@@ -133,7 +138,8 @@ module _ (bs out : List ℕ) (t : Tally) where
     where
       written-is : decode (take (a .length) out′) ≡ fromAssemblyGraph (decode bs)
       written-is =
-          ap decode (ap (λ (n : ℕ). take n out′) (length-by (accepted result) q) ∙ ap (take (length result)) w ∙ take-append-seam result (drop (length result) out))
+          ap decode (ap (λ (n : ℕ). take n out′) (length-by (accepted result) q) ∙ ap (take (length result)) w
+          ∙ take-append-seam result (drop (length result) out))
           ∙ read-back bs none small
 
 -- ---- the whole call
@@ -142,7 +148,8 @@ module _ {bs : List ℕ} {c : Converted} {sorted vs p : List ℕ} (C : Converted
   pub converts-refused : (out : List ℕ) {a : Answer} → (c .number ≡ 0 → ⊥) → Refuses (c .number) t a → Converts bs out t a out
   converts-refused out o R = refused-with bs out t (c .number) o (stopped bs out t (c .number) (sym (C .number)) o) R refl
 
-  module _ (small : (i : ℕ) → getD bs i 0 < 256) (ok : c .number ≡ 0) {out out′ : List ℕ} {s : Sent} (S : Sends (encode sequenceGraph 0 (graphOf (c .held) sorted vs p)) out s out′) where
+  module _ (small : (i : ℕ) → getD bs i 0 < 256) (ok : c .number ≡ 0) {out out′ : List ℕ} {s : Sent} (S :
+      Sends (encode sequenceGraph 0 (graphOf (c .held) sorted vs p)) out s out′) where
     none : refusalOf (conversionCauses bs) ≡ 0
     none = sym (C .number) ∙ ok
 
@@ -157,7 +164,8 @@ module _ {bs : List ℕ} {c : Converted} {sorted vs p : List ℕ} (C : Converted
     pub converts-accepted : {a : Answer} → s .number ≡ 0 → Accepts (s .length) t a → Converts bs out t a out′
     converts-accepted i A =
         let d = sent-whole sends i in
-        accepted-with bs out t small none (fitting bs out t none ∙ d .0) (A .is (encode sequenceGraph 0 (fromAssemblyGraph (decode bs))) (sym (d .1 .0))) (d .1 .1)
+        accepted-with bs out t small none (fitting bs out t none
+        ∙ d .0) (A .is (encode sequenceGraph 0 (fromAssemblyGraph (decode bs))) (sym (d .1 .0))) (d .1 .1)
 
 -- ---- room
 

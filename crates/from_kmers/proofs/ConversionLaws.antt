@@ -61,7 +61,8 @@ module _ (bs : List ℕ) where
 -- ---- no k-mer and no edge is there twice
 
 module _ {bs : List ℕ} {h : Held} {es vs p heads nexts order : List ℕ} (H : HoldsKmers bs h es vs p heads nexts order) where
-  same-ends : (a b : ℕ) → a < b → b < h .m → getD es (4 * a) 0 ≡ getD es (4 * b) 0 → getD es (4 * a + 1) 0 ≡ getD es (4 * b + 1) 0 → SameEnds (graphOf h es vs p)
+  same-ends : (a b : ℕ) → a < b → b < h .m → getD es (4 * a) 0 ≡ getD es (4 * b) 0 → getD es (4 * a + 1) 0 ≡ getD es (4 * b + 1) 0
+      → SameEnds (graphOf h es vs p)
   same-ends a b o l qf qt =
       let ea = getD-tab (h .m) (edgeIn es) a noEdge (omega arith) in
       let eb = getD-tab (h .m) (edgeIn es) b noEdge l in
@@ -91,7 +92,8 @@ module _ {bs : List ℕ} {h : Held} {es vs p heads nexts order : List ℕ} (H : 
 
 -- ---- the steps
 
-module _ {bs es vs p heads nexts order scratch place sorted : List ℕ} (R : Roomy bs es vs p heads nexts order scratch place sorted) {r : Read} {es′ vs′ p′ heads′ nexts′ order′ : List ℕ} (A : KmersRead bs r es′ vs′ p′ heads′ nexts′ order′) where
+module _ {bs es vs p heads nexts order scratch place sorted : List ℕ} (R : Roomy bs es vs p heads nexts order scratch place sorted) {r :
+    Read} {es′ vs′ p′ heads′ nexts′ order′ : List ℕ} (A : KmersRead bs r es′ vs′ p′ heads′ nexts′ order′) where
   pub refused : {c : Converted} {es₂ vs₂ p₂ : List ℕ} → (r .number ≡ 0 → ⊥) → c .number ≡ r .number → ConvertedAs bs c es₂ vs₂ p₂
   refused o q = record {
     number = q ∙ sym (early bs (sym (A .number)) o);
@@ -109,7 +111,8 @@ module _ {bs es vs p heads nexts order scratch place sorted : List ℕ} (R : Roo
     room : K.Room bs es vs p heads nexts order scratch place
     room = R .reading .room formed (kmer-kind bs (accepted-early kmerOnly bs (sym (A .number) ∙ ok)))
 
-    pub convertible : {scratch′ place′ : List ℕ} → length es′ ≡ length es → length order′ ≡ length order → length scratch′ ≡ length scratch → length place′ ≡ length place
+    pub convertible : {scratch′ place′ : List ℕ} → length es′ ≡ length es → length order′ ≡ length order → length scratch′ ≡ length scratch
+        → length place′ ≡ length place
         → Convertible (r .held .m) (r .held .n) es′ order′ scratch′ place′ sorted
     convertible a b c d = record {
       numbers = held .ordered .numbers;
@@ -147,7 +150,8 @@ module _ {bs es vs p heads nexts order scratch place sorted : List ℕ} (R : Roo
         graph-is = converted (r .held .k .0) p′ within (separate held) (held .ordered) T S ∙ ap fromAssemblyGraph (held .is)
 
         bytes-is : sequenceBytes ((fromAssemblyGraph (decode bs)) .verts) ≡ bytesIn (r .held .n) vs″
-        bytes-is = ap (λ (g : Graph). sequenceBytes (g .verts)) (sym graph-is) ∙ bytes-are 0 (r .held .k .0) (r .held .n) (r .held .m) sorted′ vs″ p′ (T .within (length p′) within)
+        bytes-is = ap (λ (g : Graph). sequenceBytes (g .verts)) (sym graph-is)
+            ∙ bytes-are 0 (r .held .k .0) (r .held .n) (r .held .m) sorted′ vs″ p′ (T .within (length p′) within)
 
         module _ {b : ℕ} (q : b ≡ bytesIn (r .held .n) vs″) where
           pub over : 8192 < b → {c : Converted} {es₂ vs₂ p₂ : List ℕ} → c .number ≡ 8 → ConvertedAs bs c es₂ vs₂ p₂
@@ -157,7 +161,8 @@ module _ {bs es vs p heads nexts order scratch place sorted : List ℕ} (R : Roo
             sendable = λ z. absurd (omega arith);
           }
 
-          pub done : b ≤ 8192 → length vs″ ≡ length vs′ → length vs′ ≡ length vs → length sorted′ ≡ length sorted → ConvertedAs bs record { number = 0; held = r .held } sorted′ vs″ p′
+          pub done : b ≤ 8192 → length vs″ ≡ length vs′ → length vs′ ≡ length vs → length sorted′ ≡ length sorted
+              → ConvertedAs bs record { number = 0; held = r .held } sorted′ vs″ p′
           done l lv lw ls = record {
             number = sym (no-cause bs (sym (A .number) ∙ ok) (omega (arith, bytes-is)));
             is = λ _. graph-is;

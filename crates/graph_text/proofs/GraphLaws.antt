@@ -17,7 +17,8 @@ use Rattle.pool.specs.Pool.{bytesIn}
 use Rattle.pool.proofs.PoolLaws.{part-long, bytes-below}
 use Rattle.write_record.proofs.WriteLaws.{bytes-are}
 use Rattle.memory.specs.declared.Held.{Held}
-use Rattle.text.specs.Printed.{ascii, field, signed, surplus, printedSequence, firstLine, endName, secondLine, vertexLine, edgeLine, printedGraph, printedRefusal}
+use Rattle.text.specs.Printed.{ascii, field, signed, surplus, printedSequence, firstLine, endName, secondLine, vertexLine, edgeLine}
+use Rattle.text.specs.Printed.{printedGraph, printedRefusal}
 use Rattle.text.specs.Put.{Put}
 use Rattle.text.proofs.TextLaws.{put-then, put-as, put-most, Lines, lines-long, lines-at}
 use Rattle.graph_text.specs.GraphText.{endOf, simplifiedIn, sizeIn, VertexFits, verticesMost, graphMost, VerticesFit, Printable}
@@ -30,10 +31,12 @@ module _ {text t₁ t₂ : List ℕ} {r₁ r₂ : ℕ} where
   refusal-line number p q = put-then p q
 
   module _ {t₃ t₄ : List ℕ} {at r₃ r₄ : ℕ} where
-    pub edge-line : (e : Edge) {a b s : ℕ} → a ≡ e .from → b ≡ e .to → s ≡ e .support → Put 12 (field "e " a) text at r₁ t₁ → Put 11 (field " " b) t₁ r₁ r₂ t₂ → Put 11 (field " " s) t₂ r₂ r₃ t₃
+    pub edge-line : (e : Edge) {a b s : ℕ} → a ≡ e .from → b ≡ e .to → s ≡ e .support → Put 12 (field "e " a) text at r₁ t₁
+        → Put 11 (field " " b) t₁ r₁ r₂ t₂ → Put 11 (field " " s) t₂ r₂ r₃ t₃
         → Put 3 (cond (e .isRef) (ascii " r\n") (ascii " -\n")) t₃ r₃ r₄ t₄ → Put 37 (edgeLine e) text at r₄ t₄
     unfolding edgeLine
-    edge-line e qa qb qs p q r s = put-then (put-then (put-then (put-as (ap (field "e ") qa) p) (put-as (ap (field " ") qb) q)) (put-as (ap (field " ") qs) r)) s
+    edge-line e qa qb qs p q r s = put-then (put-then (put-then (put-as (ap (field "e ") qa) p) (put-as (ap (field " ") qb) q))
+        (put-as (ap (field " ") qs) r)) s
 
     -- the part that is printed is the vertex's sequence
     pub vertex-line : (vs pool : List ℕ) (v : ℕ) {start len : ℕ} → getD vs (2 * v) 0 + sizeIn vs v ≤ length pool → start ≡ getD vs (2 * v) 0 → len ≡ sizeIn vs v
@@ -51,13 +54,16 @@ module _ {text t₁ t₂ : List ℕ} {r₁ r₂ : ℕ} where
         here = subst (λ (l : List ℕ). Put (4 * length l + 1) (printedSequence l) t₂ r₂ r₃ t₃) cut r
 
     module _ {t₅ : List ℕ} {r₅ : ℕ} where
-      pub second-line : (rewrites rounds : ℕ) (e : End) → Put 19 (field "rewrites " rewrites) text at r₁ t₁ → Put 18 (field " rounds " rounds) t₁ r₁ r₂ t₂ → Put 5 (ascii " end ") t₂ r₂ r₃ t₃
+      pub second-line : (rewrites rounds : ℕ) (e : End) → Put 19 (field "rewrites " rewrites) text at r₁ t₁
+          → Put 18 (field " rounds " rounds) t₁ r₁ r₂ t₂ → Put 5 (ascii " end ") t₂ r₂ r₃ t₃
           → Put 8 (ascii (endName e)) t₃ r₃ r₄ t₄ → Put 1 (ascii "\n") t₄ r₄ r₅ t₅ → Put 51 (secondLine rewrites rounds e) text at r₅ t₅
       unfolding secondLine
       second-line rewrites rounds e p q r s t = put-then (put-then (put-then (put-then p q) r) s) t
 
-      pub first-line : {t₆ t₇ : List ℕ} {r₆ r₇ : ℕ} (k n m b : ℕ) {x : ℤ} → Put 12 (field "k " k) text at r₁ t₁ → Put 20 (field " vertices " n) t₁ r₁ r₂ t₂ → Put 17 (field " edges " m) t₂ r₂ r₃ t₃
-          → Put 17 (field " bytes " b) t₃ r₃ r₄ t₄ → Put 9 (ascii " surplus ") t₄ r₄ r₅ t₅ → x ≡ surplus m n → Put 11 (signed x) t₅ r₅ r₆ t₆ → Put 1 (ascii "\n") t₆ r₆ r₇ t₇
+      pub first-line : {t₆ t₇ : List ℕ} {r₆ r₇ : ℕ} (k n m b : ℕ) {x : ℤ} → Put 12 (field "k " k) text at r₁ t₁
+          → Put 20 (field " vertices " n) t₁ r₁ r₂ t₂ → Put 17 (field " edges " m) t₂ r₂ r₃ t₃
+          → Put 17 (field " bytes " b) t₃ r₃ r₄ t₄ → Put 9 (ascii " surplus ") t₄ r₄ r₅ t₅ → x ≡ surplus m n → Put 11 (signed x) t₅ r₅ r₆ t₆
+          → Put 1 (ascii "\n") t₆ r₆ r₇ t₇
           → Put 87 (firstLine k n m b) text at r₇ t₇
       unfolding firstLine
       first-line k n m b p q r s t e u v = put-then (put-then (put-then (put-then (put-then (put-then p q) r) s) t) (put-as (ap signed e) u)) v
@@ -81,7 +87,8 @@ module _ {text text′ : List ℕ} {at r : ℕ} where
   pub flag-on : (f : ℕ) → (f ≡ 0 → ⊥) → Put 3 (ascii " r\n") text at r text′ → Put 3 (cond (isSet f) (ascii " r\n") (ascii " -\n")) text at r text′
   flag-on f o P = rw (ne-eqb f 0 o) P
 
-  pub flag-as : {f g : ℕ} → f ≡ g → Put 3 (cond (isSet f) (ascii " r\n") (ascii " -\n")) text at r text′ → Put 3 (cond (isSet g) (ascii " r\n") (ascii " -\n")) text at r text′
+  pub flag-as : {f g : ℕ} → f ≡ g → Put 3 (cond (isSet f) (ascii " r\n") (ascii " -\n")) text at r text′
+      → Put 3 (cond (isSet g) (ascii " r\n") (ascii " -\n")) text at r text′
   flag-as q P = put-as (ap (λ (x : ℕ). cond (isSet x) (ascii " r\n") (ascii " -\n")) q) P
 
   pub end-quiet : (n : ℕ) → n ≡ 1 → Put 5 (ascii "quiet") text at r text′ → Put 8 (ascii (endName (endOf n))) text at r text′
@@ -105,20 +112,29 @@ end-back full = refl
 -- ---- the whole
 
 module _ {h : Held} {es vs pool text : List ℕ} (P : Printable h es vs pool text) where
-  vertices-are : concat (tab (h .n) (λ (v : ℕ). vertexLine v (seqIn vs pool v))) ≡ concat (tab (nodeCount (graphIn (h .k .0) (h .n) (h .m) es vs pool)) (λ (v : ℕ). vertexLine v (vertexSequence (graphIn (h .k .0) (h .n) (h .m) es vs pool) v)))
+  vertices-are : concat (tab (h .n) (λ (v : ℕ). vertexLine v (seqIn vs pool v)))
+      ≡ concat (tab (nodeCount (graphIn (h .k .0) (h .n) (h .m) es vs pool)) (λ (v : ℕ).
+      vertexLine v (vertexSequence (graphIn (h .k .0) (h .n) (h .m) es vs pool) v)))
   unfolding nodeCount vertexSequence
   vertices-are =
-      ap concat (tab-ext (h .n) (λ (v : ℕ). vertexLine v (seqIn vs pool v)) (λ (v : ℕ). vertexLine v (getD (tab (h .n) (seqIn vs pool)) v [])) (λ v b. ap (vertexLine v) (sym (getD-tab (h .n) (seqIn vs pool) v [] b))))
+      ap concat (tab-ext (h .n) (λ (v : ℕ). vertexLine v (seqIn vs pool v)) (λ (v : ℕ).
+      vertexLine v (getD (tab (h .n) (seqIn vs pool)) v [])) (λ v b. ap (vertexLine v) (sym (getD-tab (h .n) (seqIn vs pool) v [] b))))
       ∙ ap (λ (n : ℕ). concat (tab n (λ (v : ℕ). vertexLine v (getD (tab (h .n) (seqIn vs pool)) v [])))) (sym (length-tab (h .n) (seqIn vs pool)))
 
   edges-are : concat (tab (h .m) (λ (i : ℕ). edgeLine (edgeIn es i))) ≡ concat (map edgeLine (tab (h .m) (edgeIn es)))
   edges-are = ap concat (sym (map-tab edgeLine (h .m) (edgeIn es)))
 
-  first-is : {b : ℕ} → b ≡ bytesIn (h .n) vs → firstLine (h .k .0) (h .n) (h .m) b ≡ firstLine (h .k .0) (length (tab (h .n) (seqIn vs pool))) (length (tab (h .m) (edgeIn es))) (sequenceBytes (tab (h .n) (seqIn vs pool)))
-  first-is q = λ i. firstLine (h .k .0) (sym (length-tab (h .n) (seqIn vs pool)) i) (sym (length-tab (h .m) (edgeIn es)) i) ((q ∙ sym (bytes-are 0 (h .k .0) (h .n) (h .m) es vs pool (P .within))) i)
+  first-is : {b : ℕ} → b ≡ bytesIn (h .n) vs → firstLine (h .k .0) (h .n) (h .m) b
+      ≡ firstLine (h .k .0) (length (tab (h .n) (seqIn vs pool))) (length (tab (h .m) (edgeIn es)))
+      (sequenceBytes (tab (h .n) (seqIn vs pool)))
+  first-is q = λ i. firstLine (h .k .0) (sym (length-tab (h .n) (seqIn vs pool)) i) (sym (length-tab (h .m) (edgeIn es)) i)
+      ((q ∙ sym (bytes-are 0 (h .k .0) (h .n) (h .m) es vs pool (P .within))) i)
 
-  pub graph-put : (rewrites rounds end : ℕ) {b r₁ r₂ r₃ r₄ : ℕ} {t₁ t₂ t₃ t₄ : List ℕ} → b ≡ bytesIn (h .n) vs → Put 87 (firstLine (h .k .0) (h .n) (h .m) b) text 0 r₁ t₁ → Put 51 (secondLine rewrites rounds (endOf end)) t₁ r₁ r₂ t₂
-      → Put (verticesMost (h .n) vs) (concat (tab (h .n) (λ (v : ℕ). vertexLine v (seqIn vs pool v)))) t₂ r₂ r₃ t₃ → Put (37 * h .m) (concat (tab (h .m) (λ (i : ℕ). edgeLine (edgeIn es i)))) t₃ r₃ r₄ t₄
+  pub graph-put : (rewrites rounds end : ℕ) {b r₁ r₂ r₃ r₄ : ℕ} {t₁ t₂ t₃ t₄ : List ℕ} → b ≡ bytesIn (h .n) vs
+      → Put 87 (firstLine (h .k .0) (h .n) (h .m) b) text 0 r₁ t₁ → Put 51 (secondLine rewrites rounds (endOf end)) t₁ r₁ r₂ t₂
+      → Put (verticesMost (h .n) vs) (concat (tab (h .n) (λ (v : ℕ). vertexLine v (seqIn vs pool v)))) t₂ r₂ r₃ t₃
+      → Put (37 * h .m) (concat (tab (h .m) (λ (i : ℕ). edgeLine (edgeIn es i)))) t₃ r₃ r₄ t₄
       → Put (graphMost h vs) (printedGraph (simplifiedIn h rewrites rounds end es vs pool)) text 0 r₄ t₄
   unfolding printedGraph nodeCount
-  graph-put rewrites rounds end q p₁ p₂ p₃ p₄ = put-most (omega arith) (put-then (put-then (put-then (put-as (first-is q) p₁) p₂) (put-as vertices-are p₃)) (put-as edges-are p₄))
+  graph-put rewrites rounds end q p₁ p₂ p₃ p₄ = put-most (omega arith)
+      (put-then (put-then (put-then (put-as (first-is q) p₁) p₂) (put-as vertices-are p₃)) (put-as edges-are p₄))

@@ -51,7 +51,8 @@ fn put_second_line(text: &mut [u8], at: usize, rewrites: u32, rounds: u32, end: 
 
 fn put_vertex(text: &mut [u8], at: usize, vs: &[u32], p: &[u8], v: u32) -> usize
     requires { ⌜ VertexFits (now vs) (now p) v (now text) at ⌝ }
-    ensures { λ r. ⌜ Put (15 + 4 * sizeIn (now (vs .entry)) v) (vertexLine v (seqIn (now (vs .entry)) (now (p .entry)) v)) (now (text .entry)) at r (now (text .exit)) ⌝ }
+    ensures { λ r. ⌜ Put (15 + 4 * sizeIn (now (vs .entry)) v) (vertexLine v (seqIn (now (vs .entry)) (now (p .entry)) v))
+        (now (text .entry)) at r (now (text .exit)) ⌝ }
 {
     let start = store::vertex_start(vs, v);
     let len = store::vertex_len(vs, v);
@@ -63,7 +64,8 @@ fn put_vertex(text: &mut [u8], at: usize, vs: &[u32], p: &[u8], v: u32) -> usize
 
 fn put_vertices(text: &mut [u8], at: usize, vs: &[u32], p: &[u8], n: usize) -> usize
     requires { ⌜ VerticesFit n (now vs) (now p) (now text) at ⌝ }
-    ensures { λ r. ⌜ Put (verticesMost n (now (vs .entry))) (concat (tab n (λ v. vertexLine v (seqIn (now (vs .entry)) (now (p .entry)) v)))) (now (text .entry)) at r (now (text .exit)) ⌝ }
+    ensures { λ r. ⌜ Put (verticesMost n (now (vs .entry)))
+        (concat (tab n (λ v. vertexLine v (seqIn (now (vs .entry)) (now (p .entry)) v)))) (now (text .entry)) at r (now (text .exit)) ⌝ }
 {
     let mut to = at;
     let mut v = 0;
@@ -120,7 +122,9 @@ pub fn put_graph(
     p: &[u8],
 ) -> usize
     requires { ⌜ Printable held (now es) (now vs) (now p) (now text) ⌝ }
-    ensures { λ r. ⌜ Put (graphMost held (now (vs .entry))) (printedGraph (simplifiedIn held rewrites rounds end (now (es .entry)) (now (vs .entry)) (now (p .entry)))) (now (text .entry)) 0 r (now (text .exit)) ⌝ }
+    ensures { λ r. ⌜ Put (graphMost held (now (vs .entry)))
+        (printedGraph (simplifiedIn held rewrites rounds end (now (es .entry)) (now (vs .entry)) (now (p .entry)))) (now (text .entry)) 0 r
+        (now (text .exit)) ⌝ }
 {
     let n = held.n;
     let m = held.m;

@@ -114,7 +114,13 @@ pub record Walked (f : ℕ → ℕ) (m v d e : ℕ) : Type 0 where
 
 module _ {f : ℕ → ℕ} {m n : ℕ} {head next : ℕ → ℕ} {v : ℕ} (I : Index f m n head next) where
   pub walked-start : v < n → Walked f m v 0 (head v)
-  walked-start h = let N = I .heads v h in record { low = omega arith; high = N .high; hit = N .hit; left = omega (arith, ap length (at-head f m n head next v I h)) }
+  walked-start h = let N = I .heads v h in record {
+    low = omega arith;
+    high = N .high;
+    hit = N .hit;
+    left =
+        omega (arith, ap length (at-head f m n head next v I h));
+  }
 
   pub walked-more : {d e : ℕ} → Walked f m v d e → e < m → Walked f m v (d + 1) (next e)
   walked-more {d} {e} W h = let N = I .nexts e h in record {

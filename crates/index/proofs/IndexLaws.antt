@@ -32,28 +32,41 @@ pub record Building (m n : ℕ) (es heads₀ nexts₀ heads nexts : List ℕ) (k
   pub out : Built (endOf 0 es) m n (pairAt 0 heads) (pairAt 0 nexts) k
   pub into : Built (endOf 1 es) m n (pairAt 1 heads) (pairAt 1 nexts) k
 
-pub building-start : {m n : ℕ} {es heads nexts : List ℕ} (heads′ : List ℕ) → length heads′ ≡ length heads → ((k : ℕ) → k < 2 * n → getD heads′ k 0 ≡ m) → Building m n es heads nexts heads′ nexts m
-building-start heads′ l h = record { heads-len = l; nexts-len = refl; out = built-start (λ v b. h (2 * v + 0) (omega arith)); into = built-start (λ v b. h (2 * v + 1) (omega arith)) }
+pub building-start : {m n : ℕ} {es heads nexts : List ℕ} (heads′ : List ℕ) → length heads′ ≡ length heads
+    → ((k : ℕ) → k < 2 * n → getD heads′ k 0 ≡ m) → Building m n es heads nexts heads′ nexts m
+building-start heads′ l h = record {
+  heads-len = l;
+  nexts-len = refl;
+  out = built-start (λ v b. h (2 * v + 0) (omega arith));
+  into =
+      built-start (λ v b. h (2 * v + 1) (omega arith));
+}
 
 pub indexable-kept : {m n : ℕ} {es heads heads′ nexts : List ℕ} → Indexable m n es heads nexts → length heads′ ≡ length heads → Indexable m n es heads′ nexts
 indexable-kept F q = record { room = F .room; heads-room = omega (arith, F .heads-room); nexts-room = F .nexts-room; small = F .small; ends = F .ends }
 
 module _ {m n : ℕ} {es heads₀ nexts₀ : List ℕ} (F : Indexable m n es heads₀ nexts₀) where
   -- u and v are the places of the ends' heads
-  pub building-more : {heads nexts : List ℕ} {k : ℕ} (e u v : ℕ) → Building m n es heads₀ nexts₀ heads nexts k → k ≡ e + 1 → u ≡ 2 * getD es (4 * e) 0 → v ≡ 2 * getD es (4 * e + 1) 0 + 1
+  pub building-more : {heads nexts : List ℕ} {k : ℕ} (e u v : ℕ) → Building m n es heads₀ nexts₀ heads nexts k → k ≡ e + 1 → u
+      ≡ 2 * getD es (4 * e) 0 → v ≡ 2 * getD es (4 * e + 1) 0 + 1
       → Building m n es heads₀ nexts₀ (set (set heads u e) v e) (set (set nexts (2 * e) (getD heads u 0)) (2 * e + 1) (getD (set heads u e) v 0)) e
   building-more {heads} {nexts} {k} e u v B q hu hv = record {
     heads-len = simp length-set (B .heads-len);
     nexts-len = simp length-set (B .nexts-len);
     out = built-more e (B .out) q (omega (arith, a₀, f₀))
-        (ap (λ (x : ℕ). getD heads″ (2 * x + 0) 0) (sym f₀′) ∙ ap (λ (x : ℕ). getD heads″ x 0) pu ∙ getD-set-other heads′ v u e 0 (λ z. omega arith) ∙ getD-set-same heads u e 0 (omega (arith, a₀, B .heads-len, F .heads-room)))
+        (ap (λ (x : ℕ). getD heads″ (2 * x + 0) 0) (sym f₀′) ∙ ap (λ (x : ℕ). getD heads″ x 0) pu
+        ∙ getD-set-other heads′ v u e 0 (λ z. omega arith) ∙ getD-set-same heads u e 0 (omega (arith, a₀, B .heads-len, F .heads-room)))
         (λ w b ne. getD-set-other heads′ v (2 * w + 0) e 0 (λ z. omega arith) ∙ getD-set-other heads u (2 * w + 0) e 0 (λ z. ne (omega (arith, f₀))))
-        (getD-set-other nexts′ (2 * e + 1) (2 * e + 0) _ 0 (λ z. omega arith) ∙ ap (λ (x : ℕ). getD nexts′ x 0) (add-zero (2 * e)) ∙ getD-set-same nexts (2 * e) (getD heads u 0) 0 (omega (arith, B .nexts-len, F .nexts-room, h)) ∙ ap (λ (x : ℕ). getD heads x 0) (omega (arith, f₀)))
+        (getD-set-other nexts′ (2 * e + 1) (2 * e + 0) _ 0 (λ z. omega arith) ∙ ap (λ (x : ℕ). getD nexts′ x 0) (add-zero (2 * e))
+        ∙ getD-set-same nexts (2 * e) (getD heads u 0) 0 (omega (arith, B .nexts-len, F .nexts-room, h))
+        ∙ ap (λ (x : ℕ). getD heads x 0) (omega (arith, f₀)))
         (λ d ne. getD-set-other nexts′ (2 * e + 1) (2 * d + 0) _ 0 (λ z. omega arith) ∙ getD-set-other nexts (2 * e) (2 * d + 0) _ 0 (λ z. ne (omega arith)));
     into = built-more e (B .into) q (omega (arith, a₁))
         (ap (λ (x : ℕ). getD heads″ x 0) (sym hv) ∙ getD-set-same heads′ v e 0 (rw (length-set heads u e) (omega (arith, a₁, B .heads-len, F .heads-room))))
         (λ w b ne. getD-set-other heads′ v (2 * w + 1) e 0 (λ z. ne (omega arith)) ∙ getD-set-other heads u (2 * w + 1) e 0 (λ z. omega arith))
-        (getD-set-same nexts′ (2 * e + 1) _ 0 (rw (length-set nexts (2 * e) (getD heads u 0)) (omega (arith, B .nexts-len, F .nexts-room, h))) ∙ getD-set-other heads u v e 0 (λ z. omega arith) ∙ ap (λ (x : ℕ). getD heads x 0) hv)
+        (getD-set-same nexts′ (2 * e + 1) _ 0 (rw (length-set nexts (2 * e) (getD heads u 0))
+        (omega (arith, B .nexts-len, F .nexts-room, h))) ∙ getD-set-other heads u v e 0 (λ z. omega arith)
+        ∙ ap (λ (x : ℕ). getD heads x 0) hv)
         (λ d ne. getD-set-other nexts′ (2 * e + 1) (2 * d + 1) _ 0 (λ z. ne (omega arith)) ∙ getD-set-other nexts (2 * e) (2 * d + 1) _ 0 (λ z. omega arith));
   }
     where
@@ -106,7 +119,8 @@ pub record Collecting (off m : ℕ) (es : List ℕ) (v : ℕ) (out₀ out : List
   pub is : map (endOf (1 - off) es) (edgesAt (endOf off es) m v) ≡ numsIn j out ++ map (endOf (1 - off) es) (atFrom (endOf off es) m v e)
 
 pub nums-push : (j x : ℕ) (out : List ℕ) → j < length out → numsIn (j + 1) (set out j x) ≡ numsIn j out ++ (x ∷ [])
-nums-push j x out h = tab-snoc j _ ∙ (λ i. tab-ext j (λ (k : ℕ). getD (set out j x) k 0) (λ (k : ℕ). getD out k 0) (λ k b. getD-set-other out j k x 0 (λ q. omega arith)) i ++ (getD-set-same out j x 0 h i ∷ []))
+nums-push j x out h = tab-snoc j _ ∙ (λ i. tab-ext j (λ (k : ℕ). getD (set out j x) k 0) (λ (k : ℕ). getD out k 0) (λ k b.
+    getD-set-other out j k x 0 (λ q. omega arith)) i ++ (getD-set-same out j x 0 h i ∷ []))
 
 module _ {off m n : ℕ} {es : List ℕ} {head next : ℕ → ℕ} {v : ℕ} {out₀ : List ℕ} (I : Index (endOf off es) m n head next) where
   pub collecting-start : v < n → Collecting off m es v out₀ out₀ 0 (head v)
@@ -140,7 +154,8 @@ module _ {off m n : ℕ} {es : List ℕ} {head next : ℕ → ℕ} {v : ℕ} {ou
 -- ---- the definitions' edges at a vertex
 
 module _ (off m : ℕ) (es : List ℕ) (end : Edge → ℕ) (is : (e : ℕ) → end (edgeIn es e) ≡ endOf off es e) (v : ℕ) where
-  keep-from : (s n : ℕ) → keepIf (λ (e : Edge). eqb (end e) v) (tabFrom s n (edgeIn es)) ≡ map (edgeIn es) (keepIf (λ (e : ℕ). eqb (endOf off es e) v) (tabFrom s n (λ (e : ℕ). e)))
+  keep-from : (s n : ℕ) → keepIf (λ (e : Edge). eqb (end e) v) (tabFrom s n (edgeIn es))
+      ≡ map (edgeIn es) (keepIf (λ (e : ℕ). eqb (endOf off es e) v) (tabFrom s n (λ (e : ℕ). e)))
   unfolding keepIf tabFrom
   keep-from s zero = refl
   keep-from s (suc n) = rw (← is s) (both (eqb (end (edgeIn es s)) v) _ _ (keep-from (suc s) n))

@@ -14,7 +14,8 @@ use Rattle.defs.specs.Cleanup.{forward, backward, reached, removePathsNotConnec
 use Rattle.defs.specs.Strings.{SpellsBetween, HasEdge, IsPath, Spells, spelled}
 use Rattle.laws.proofs.Walks.{Net, start, at, stop, Steps, stay, step, cast, Reads, IsSource, IsSink, byTest}
 use Rattle.laws.proofs.ListLaws.{clash, and-split, and-true, rank-no}
-use Rattle.laws.proofs.Nets.{Ranks, Bounded, partOf, order-restrict, bounded-restrict, ranks-restrict, closed, reads-restrict, of-reads-restrict, spells-reads, reads-spells, fro, placeOf}
+use Rattle.laws.proofs.Nets.{Ranks, Bounded, partOf, order-restrict, bounded-restrict, ranks-restrict, closed, reads-restrict}
+use Rattle.laws.proofs.Nets.{of-reads-restrict, spells-reads, reads-spells, fro, placeOf}
 use Rattle.laws.proofs.Sound.{Sound}
 use Rattle.laws.proofs.Reach.{Hop, Way, way-more, way-last, is-reached, of-reached}
 
@@ -40,10 +41,12 @@ module _ (g : Graph) where
     inside u v (e, m, p, q) = rw (← p, ← q) (bounded e m)
 
     is-forward : (m u v : ℕ) → u < nodeCount g → Way forward g m u v → elemOf v (reached forward g u) ≡ true
-    is-forward = is-reached forward g (λ u v h. (inside u v (forth u v h)) .1) (λ u v. r u < r v) (λ a b c h k. omega arith) (λ a h. omega arith) (λ u v h. ranks u v (forth u v h))
+    is-forward = is-reached forward g (λ u v h. (inside u v (forth u v h)) .1) (λ u v. r u < r v) (λ a b c h k. omega arith) (λ a h.
+        omega arith) (λ u v h. ranks u v (forth u v h))
 
     is-backward : (m u v : ℕ) → u < nodeCount g → Way backward g m u v → elemOf v (reached backward g u) ≡ true
-    is-backward = is-reached backward g (λ u v h. (inside v u (back u v h)) .0) (λ u v. r v < r u) (λ a b c h k. omega arith) (λ a h. omega arith) (λ u v h. ranks v u (back u v h))
+    is-backward = is-reached backward g (λ u v h. (inside v u (back u v h)) .0) (λ u v. r v < r u) (λ a b c h k. omega arith) (λ a h.
+        omega arith) (λ u v h. ranks v u (back u v h))
 
     up : (m u v : ℕ) → Way forward g m u v → r u ≤ r v
     up zero u v e = rw e (omega arith)
@@ -137,12 +140,17 @@ module _ (g : Graph) where
       walk v [] m h e y = step {p = at v} {q = stop} (t-sink v e h (is-p v ((m, y), (0, sym e)))) stay
       walk v (w ∷ ws) m h e y =
           let y′ = way-more forward g m s v w y (forth-hop v w (h .1)) in
-          step {p = at v} {q = at w} (h .1, is-p v ((m, y), unfold lastOf in (to-end v (w ∷ ws) h e)), is-p w ((suc m, y′), to-end w ws (h .2) e)) (walk w ws (suc m) (h .2) e y′)
+          step {p = at v} {q = at w} (
+            h .1,
+            is-p v ((m, y), unfold lastOf in (to-end v (w ∷ ws) h e)),
+            is-p w ((suc m, y′), to-end w ws (h .2) e),
+          ) (walk w ws (suc m) (h .2) e y′)
 
       pub along-reads : {x : List ℕ} → SpellsBetween g s t x → Reads (partOf p g) x
       unfolding spelled concat
       along-reads a =
-          cast (a .spell) (step {p = start} {q = at s} (s-source (is-p s ((0, refl), to-end s (a .others) (a .path) (a .ends)))) (walk s (a .others) 0 (a .path) (a .ends) refl))
+          cast (a .spell) (step {p = start} {q = at s} (s-source (is-p s ((0, refl), to-end s (a .others) (a .path) (a .ends))))
+          (walk s (a .others) 0 (a .path) (a .ends) refl))
 
       between-is : removePathsNotConnectedToRef g s t ≡ compactVertices p g
       unfolding removePathsNotConnectedToRef p
@@ -162,12 +170,14 @@ module _ (g : Graph) where
       )
 
       -- under the new numbers: only s has no incoming edge, only t has no outgoing edge
-      pub between-source : (v : ℕ) → v < nodeCount (removePathsNotConnectedToRef g s t) → ((u : ℕ) → HasEdge (removePathsNotConnectedToRef g s t) u v → ⊥) → v ≡ rank p s
+      pub between-source : (v : ℕ) → v < nodeCount (removePathsNotConnectedToRef g s t)
+          → ((u : ℕ) → HasEdge (removePathsNotConnectedToRef g s t) u v → ⊥) → v ≡ rank p s
       between-source v h k =
           let z = (fro p g bounded) .begins v (rw between-is at h, rw between-is at k) in
           sym (z .1 .2) ∙ ap (rank p) (only-source (z .0) (z .2))
 
-      pub between-sink : (v : ℕ) → v < nodeCount (removePathsNotConnectedToRef g s t) → ((w : ℕ) → HasEdge (removePathsNotConnectedToRef g s t) v w → ⊥) → v ≡ rank p t
+      pub between-sink : (v : ℕ) → v < nodeCount (removePathsNotConnectedToRef g s t)
+          → ((w : ℕ) → HasEdge (removePathsNotConnectedToRef g s t) v w → ⊥) → v ≡ rank p t
       between-sink v h k =
           let z = placeOf p g bounded v (rw between-is at h) in
           sym (z .1 .2) ∙ ap (rank p) (only-sink (z .0) ((fro p g bounded) .ends v (z .0) (z .1) (rw between-is at h, rw between-is at k)))

@@ -11,11 +11,14 @@ use Rattle.defs.specs.Lists.{keepIf, upFrom, elemOf, sameList}
 use Rattle.defs.specs.SeqGraph.{Graph, nodeCount, remapNumbers}
 use Rattle.defs.specs.Zip.{Work, isLinearChainStart, linearChain, mergeLinearChain, zipStarts, zipLinearChains}
 use Rattle.defs.specs.Rewrites.{tryMergeDiamond, tryMergeTails, trySplitCommonSuffix, tryMergeCommonSuffices}
-use Rattle.defs.specs.Simplify.{firstAt, transformUntilComplete, Split, firstSplit, splitUntilComplete, simplifyGraphOnce, roundsFrom, simplified, graphTopologySignature, simplifyGraphFull, fuelFor}
+use Rattle.defs.specs.Simplify.{firstAt, transformUntilComplete, Split, firstSplit, splitUntilComplete, simplifyGraphOnce, roundsFrom}
+use Rattle.defs.specs.Simplify.{simplified, graphTopologySignature, simplifyGraphFull, fuelFor}
 use Rattle.laws.proofs.Walks.{byTest}
 use Rattle.laws.proofs.Fuel.{Good}
 use Rattle.laws.proofs.Measures.{weight, load, order-weight, Tame, tame-same, tame-then, diamond-tame, tails-tame, split-tame, merge-tame, zip-tame}
-use Rattle.laws.proofs.Whole.{byOption, byList, again, firstAt-some, until-zero, until-none, until-some, firstSplit-zero, firstSplit-tried, firstSplit-none, firstSplit-some, no-some, splitAll-zero, splitAll-none, splitAll-some, zip-nil, zip-cons, zip-zero, zip-empty, chained-from}
+use Rattle.laws.proofs.Whole.{byOption, byList, again, firstAt-some, until-zero, until-none, until-some, firstSplit-zero}
+use Rattle.laws.proofs.Whole.{firstSplit-tried, firstSplit-none, firstSplit-some, no-some, splitAll-zero, splitAll-none}
+use Rattle.laws.proofs.Whole.{splitAll-some, zip-nil, zip-cons, zip-zero, zip-empty, chained-from}
 
 -- work that is paid for: each rewrite takes one at least of μ
 pub record Paid (μ : Graph → ℕ) (w w′ : Work) : Type 0 where
@@ -31,7 +34,8 @@ paid-next μ w a z t l p = record { tame = tame-then t (p .tame); paid = omega (
 
 -- a transform until no vertex allows it, with any fuel
 module _ (f : Graph → ℕ → Option Graph) (μ : Graph → ℕ) (falls : (g g′ : Graph) (v : ℕ) → Good g → f g v ≡ some g′ → Tame g g′ × (μ g′ < μ g)) where
-  until-turn : (fuel : ℕ) (w : Work) → Good (w .graph) → ((a : Graph) → Good a → Paid μ (again w a) (transformUntilComplete f fuel (again w a))) → Paid μ w (transformUntilComplete f (suc fuel) w)
+  until-turn : (fuel : ℕ) (w : Work) → Good (w .graph) → ((a : Graph) → Good a
+      → Paid μ (again w a) (transformUntilComplete f fuel (again w a))) → Paid μ w (transformUntilComplete f (suc fuel) w)
   until-turn fuel w h ih = byOption (firstAt (f (w .graph)) 0 (nodeCount (w .graph)))
       (λ t. rw (until-none f fuel w t) (paid-same μ w h))
       (λ a t. let i = firstAt-some (f (w .graph)) 0 (nodeCount (w .graph)) a t in
@@ -65,7 +69,8 @@ added-same w h = record { tame = tame-same (w .graph) h; added = omega arith }
 added-next : (w : Work) (a : Graph) (z : Work) → Tame (w .graph) a → nodeCount (w .graph) < nodeCount a → Added (again w a) z → Added w z
 added-next w a z t l p = record { tame = tame-then t (p .tame); added = omega (arith, p .added) }
 
-pub firstSplit-tame : (g : Graph) (tried : List ℕ) (v n : ℕ) (s : Split) → Good g → firstSplit g tried v n ≡ some s → Tame g (s .graph) × (nodeCount g < nodeCount (s .graph))
+pub firstSplit-tame : (g : Graph) (tried : List ℕ) (v n : ℕ) (s : Split) → Good g → firstSplit g tried v n ≡ some s → Tame g (s .graph)
+    × (nodeCount g < nodeCount (s .graph))
 firstSplit-tame g tried v zero s h e = no-some (firstSplit-zero g tried v) e
 firstSplit-tame g tried v (suc n) s h e = byTest (elemOf v tried)
     (λ t. firstSplit-tame g tried (suc v) n s h (sym (firstSplit-tried g tried v n t) ∙ e))
@@ -76,11 +81,14 @@ firstSplit-tame g tried v (suc n) s h e = byTest (elemOf v tried)
 splitAll-end : (tried : List ℕ) (w : Work) → Good (w .graph) → Added w (splitUntilComplete zero tried w)
 splitAll-end tried w h = rw (splitAll-zero tried w) (added-same w h)
 
-splitAll-turn : (fuel : ℕ) (tried : List ℕ) (w : Work) → Good (w .graph) → ((l : List ℕ) (a : Graph) → Good a → Added (again w a) (splitUntilComplete fuel l (again w a))) → Added w (splitUntilComplete (suc fuel) tried w)
+splitAll-turn : (fuel : ℕ) (tried : List ℕ) (w : Work) → Good (w .graph)
+    → ((l : List ℕ) (a : Graph) → Good a → Added (again w a) (splitUntilComplete fuel l (again w a)))
+    → Added w (splitUntilComplete (suc fuel) tried w)
 splitAll-turn fuel tried w h ih = byOption (firstSplit (w .graph) tried 0 (nodeCount (w .graph)))
     (λ t. rw (splitAll-none fuel tried w t) (added-same w h))
     (λ s t. let z = firstSplit-tame (w .graph) tried 0 (nodeCount (w .graph)) s h t in
-    rw (splitAll-some fuel tried w s t) (added-next w (s .graph) (splitUntilComplete fuel (s .tried) (again w (s .graph))) (z .0) (z .1) (ih (s .tried) (s .graph) (z .0 .good))))
+    rw (splitAll-some fuel tried w s t) (added-next w (s .graph) (splitUntilComplete fuel (s .tried) (again w (s .graph))) (z .0) (z .1)
+    (ih (s .tried) (s .graph) (z .0 .good))))
 
 pub splits-added : (fuel : ℕ) (tried : List ℕ) (w : Work) → Good (w .graph) → Added w (splitUntilComplete fuel tried w)
 splits-added zero tried w h = splitAll-end tried w h
@@ -93,13 +101,15 @@ zip-end₁ ss w h = rw (zip-zero ss w) (paid-same nodeCount w h)
 zip-end₂ : (fuel : ℕ) (w : Work) → Good (w .graph) → Paid nodeCount w (zipStarts (suc fuel) [] w)
 zip-end₂ fuel w h = rw (zip-empty fuel w) (paid-same nodeCount w h)
 
-zip-turn : (fuel : ℕ) (s : ℕ) (ss : List ℕ) (w : Work) → Good (w .graph) → Paid nodeCount w (zipStarts fuel ss w) → ((l : List ℕ) (a : Graph) → Good a → Paid nodeCount (again w a) (zipStarts fuel l (again w a)))
+zip-turn : (fuel : ℕ) (s : ℕ) (ss : List ℕ) (w : Work) → Good (w .graph) → Paid nodeCount w (zipStarts fuel ss w)
+    → ((l : List ℕ) (a : Graph) → Good a → Paid nodeCount (again w a) (zipStarts fuel l (again w a)))
     → Paid nodeCount w (zipStarts (suc fuel) (s ∷ ss) w)
 zip-turn fuel s ss w h i₁ i₂ = byList (linearChain (w .graph) s)
     (λ t. rw (zip-nil fuel s ss w t) i₁)
     (λ v vs t. let z = zip-tame (w .graph) s v vs h (rw t at (chained-from (w .graph) s)) in
     let a = mergeLinearChain (w .graph) s (v ∷ vs) in
-    rw (zip-cons fuel s ss w v vs t) (paid-next nodeCount w a (zipStarts fuel (remapNumbers (v ∷ vs) ss) (again w a)) (z .0) (z .1) (i₂ (remapNumbers (v ∷ vs) ss) a (z .0 .good))))
+    rw (zip-cons fuel s ss w v vs t) (paid-next nodeCount w a (zipStarts fuel (remapNumbers (v ∷ vs) ss) (again w a)) (z .0) (z .1)
+    (i₂ (remapNumbers (v ∷ vs) ss) a (z .0 .good))))
 
 pub starts-paid : (fuel : ℕ) (ss : List ℕ) (w : Work) → Good (w .graph) → Paid nodeCount w (zipStarts fuel ss w)
 starts-paid zero ss w h = zip-end₁ ss w h
@@ -108,17 +118,20 @@ starts-paid (suc fuel) (s ∷ ss) w h = zip-turn fuel s ss w h (starts-paid fuel
 
 pub zip-paid : (w : Work) → Good (w .graph) → Paid nodeCount w (zipLinearChains w)
 unfolding zipLinearChains
-zip-paid w h = starts-paid (length (keepIf (isLinearChainStart (w .graph)) (upFrom 0 (nodeCount (w .graph))))) (keepIf (isLinearChainStart (w .graph)) (upFrom 0 (nodeCount (w .graph)))) w h
+zip-paid w h = starts-paid (length (keepIf (isLinearChainStart (w .graph)) (upFrom 0 (nodeCount (w .graph)))))
+    (keepIf (isLinearChainStart (w .graph)) (upFrom 0 (nodeCount (w .graph)))) w h
 
 -- a round: what it takes from the weight, and twice the weight
 pub record Within (extra : ℕ) (g : Graph) (rewrites : ℕ) (g′ : Graph) (count′ : ℕ) : Type 0 where
   pub tame : Tame g g′
   pub within : count′ + weight g′ ≤ rewrites + weight g + extra
 
-round-sum : (c₀ n₀ c₁ n₁ c₂ n₂ v₂ c₃ n₃ v₃ c₄ v₄ c₅ v₅ n₅ : ℕ) → c₁ + n₁ ≤ c₀ + n₀ → c₂ + n₂ ≤ c₁ + n₁ → c₃ + v₂ ≤ c₂ + v₃ → n₃ ≤ n₂ → n₂ ≤ n₀ → v₃ ≤ n₃ → c₄ + v₄ ≤ c₃ + v₃ → c₅ + v₅ ≤ c₄ + v₄ → n₅ ≤ n₃ → c₅ + n₅ ≤ c₀ + n₀ + 2 * n₀
+round-sum : (c₀ n₀ c₁ n₁ c₂ n₂ v₂ c₃ n₃ v₃ c₄ v₄ c₅ v₅ n₅ : ℕ) → c₁ + n₁ ≤ c₀ + n₀ → c₂ + n₂ ≤ c₁ + n₁ → c₃ + v₂ ≤ c₂ + v₃ → n₃ ≤ n₂
+    → n₂ ≤ n₀ → v₃ ≤ n₃ → c₄ + v₄ ≤ c₃ + v₃ → c₅ + v₅ ≤ c₄ + v₄ → n₅ ≤ n₃ → c₅ + n₅ ≤ c₀ + n₀ + 2 * n₀
 round-sum c₀ n₀ c₁ n₁ c₂ n₂ v₂ c₃ n₃ v₃ c₄ v₄ c₅ v₅ n₅ a b d e f h i j k = omega arith
 
-pub round-within : (least : ℕ) → 3 < least → (w : Work) → Good (w .graph) → Within (2 * weight (w .graph)) (w .graph) (w .rewrites) ((simplifyGraphOnce least w) .graph) ((simplifyGraphOnce least w) .rewrites)
+pub round-within : (least : ℕ) → 3 < least → (w : Work) → Good (w .graph) → Within
+    (2 * weight (w .graph)) (w .graph) (w .rewrites) ((simplifyGraphOnce least w) .graph) ((simplifyGraphOnce least w) .rewrites)
 unfolding simplifyGraphOnce
 round-within least pos w h =
     let w₁ = transformUntilComplete tryMergeDiamond (fuelFor (w .graph)) w in
@@ -134,17 +147,22 @@ round-within least pos w h =
     let t₅ = tame-then (k₄ .tame) (k₅ .tame) in
     record {
       tame = tame-then (tame-then t₂ (k₃ .tame)) t₅;
-      within = round-sum (w .rewrites) (weight (w .graph)) (w₁ .rewrites) (weight (w₁ .graph)) (w₂ .rewrites) (weight (w₂ .graph)) (nodeCount (w₂ .graph)) (w₃ .rewrites) (weight (w₃ .graph)) (nodeCount (w₃ .graph)) (w₄ .rewrites) (nodeCount (w₄ .graph)) ((zipLinearChains w₄) .rewrites) (nodeCount ((zipLinearChains w₄) .graph)) (weight ((zipLinearChains w₄) .graph))
+      within = round-sum (w .rewrites) (weight (w .graph)) (w₁ .rewrites) (weight (w₁ .graph)) (w₂ .rewrites) (weight (w₂ .graph))
+          (nodeCount (w₂ .graph)) (w₃ .rewrites) (weight (w₃ .graph)) (nodeCount (w₃ .graph)) (w₄ .rewrites) (nodeCount (w₄ .graph))
+          ((zipLinearChains w₄) .rewrites) (nodeCount ((zipLinearChains w₄) .graph)) (weight ((zipLinearChains w₄) .graph))
           (k₁ .paid) (k₂ .paid) (k₃ .added) (k₃ .tame .light) (t₂ .light) (order-weight (w₃ .graph)) (k₄ .paid) (k₅ .paid) (t₅ .light);
     }
 
 -- the rounds
-rounds-end : (P : Graph → ℕ → Type 0) (least n : ℕ) (sig : List ℕ) (w : Work) → P (w .graph) (w .rewrites) → P ((roundsFrom least zero n sig w) .graph) ((roundsFrom least zero n sig w) .rewrites)
+rounds-end : (P : Graph → ℕ → Type 0) (least n : ℕ) (sig : List ℕ) (w : Work) → P (w .graph) (w .rewrites)
+    → P ((roundsFrom least zero n sig w) .graph) ((roundsFrom least zero n sig w) .rewrites)
 unfolding roundsFrom simplified
 rounds-end P least n sig w p = p
 
-rounds-turn : (P : Graph → ℕ → Type 0) (least remaining n : ℕ) (sig : List ℕ) (w : Work) → P ((simplifyGraphOnce least w) .graph) ((simplifyGraphOnce least w) .rewrites)
-    → ((m : ℕ) (l : List ℕ) → P ((roundsFrom least remaining m l (simplifyGraphOnce least w)) .graph) ((roundsFrom least remaining m l (simplifyGraphOnce least w)) .rewrites))
+rounds-turn : (P : Graph → ℕ → Type 0) (least remaining n : ℕ) (sig : List ℕ) (w : Work)
+    → P ((simplifyGraphOnce least w) .graph) ((simplifyGraphOnce least w) .rewrites)
+    → ((m : ℕ) (l : List ℕ) → P ((roundsFrom least remaining m l (simplifyGraphOnce least w)) .graph)
+    ((roundsFrom least remaining m l (simplifyGraphOnce least w)) .rewrites))
     → P ((roundsFrom least (suc remaining) n sig w) .graph) ((roundsFrom least (suc remaining) n sig w) .rewrites)
 unfolding roundsFrom simplified
 rounds-turn P least remaining n sig w p q = byTest (eqb ((simplifyGraphOnce least w) .rewrites) (w .rewrites))
@@ -168,7 +186,9 @@ within-none : (w : Work) (top : ℕ) → Good (w .graph) → Bounds top 0 w (w .
 within-none w top h = record { tame = tame-same (w .graph) h; within = omega arith }
 
 rounds-next : (least : ℕ) → 3 < least → (top remaining n : ℕ) (sig : List ℕ) (w : Work) → Good (w .graph) → weight (w .graph) ≤ top
-    → ((m : ℕ) (l : List ℕ) → Good ((simplifyGraphOnce least w) .graph) → weight ((simplifyGraphOnce least w) .graph) ≤ top → Bounds top remaining (simplifyGraphOnce least w) ((roundsFrom least remaining m l (simplifyGraphOnce least w)) .graph) ((roundsFrom least remaining m l (simplifyGraphOnce least w)) .rewrites))
+    → ((m : ℕ) (l : List ℕ) → Good ((simplifyGraphOnce least w) .graph) → weight ((simplifyGraphOnce least w) .graph) ≤ top
+    → Bounds top remaining (simplifyGraphOnce least w) ((roundsFrom least remaining m l (simplifyGraphOnce least w)) .graph)
+    ((roundsFrom least remaining m l (simplifyGraphOnce least w)) .rewrites))
     → Bounds top (suc remaining) w ((roundsFrom least (suc remaining) n sig w) .graph) ((roundsFrom least (suc remaining) n sig w) .rewrites)
 rounds-next least pos top remaining n sig w h l ih =
     let k = round-within least pos w h in
@@ -179,7 +199,8 @@ rounds-next least pos top remaining n sig w h l ih =
 pub rounds-within : (least : ℕ) → 3 < least → (top remaining n : ℕ) (sig : List ℕ) (w : Work) → Good (w .graph) → weight (w .graph) ≤ top
     → Bounds top remaining w ((roundsFrom least remaining n sig w) .graph) ((roundsFrom least remaining n sig w) .rewrites)
 rounds-within least pos top zero n sig w h l = rounds-end (Bounds top 0 w) least n sig w (within-none w top h)
-rounds-within least pos top (suc remaining) n sig w h l = rounds-next least pos top remaining n sig w h l (λ m s g k. rounds-within least pos top remaining m s (simplifyGraphOnce least w) g k)
+rounds-within least pos top (suc remaining) n sig w h l = rounds-next least pos top remaining n sig w h l (λ m s g k. rounds-within
+    least pos top remaining m s (simplifyGraphOnce least w) g k)
 
 -- THE WHOLE CALL
 abbrev pub begun : Graph → Work
@@ -198,7 +219,13 @@ pub simplify-bound : (least : ℕ) → 3 < least → (g : Graph) → Good g → 
 unfolding simplifyGraphFull
 simplify-bound least pos g h =
     let k = zip-paid (begun g) h in
-    omega (arith, k .paid, k .tame .light, order-weight g, (rounds-within least pos (weight g) 100 0 [] (zipLinearChains (begun g)) (k .tame .good) (k .tame .light)) .within)
+    omega (
+      arith,
+      k .paid,
+      k .tame .light,
+      order-weight g,
+      (rounds-within least pos (weight g) 100 0 [] (zipLinearChains (begun g)) (k .tame .good) (k .tame .light)) .within,
+    )
 
 -- Room: a graph that starts with Φ ≤ 6144 and N ≤ 10240, and all that becomes of it
 pub record Small (g : Graph) : Type 0 where
@@ -224,7 +251,8 @@ tame-fits {g} {g′} h t = small-fits g′ (t .good) (small-tame h t)
 pub diamonds-fit : (fuel : ℕ) (w : Work) → Good (w .graph) → Small (w .graph) → Fits ((transformUntilComplete tryMergeDiamond fuel w) .graph)
 diamonds-fit fuel w h s = tame-fits s ((diamonds-paid fuel w h) .tame)
 
-pub tails-fit : (least : ℕ) → 3 < least → (fuel : ℕ) (w : Work) → Good (w .graph) → Small (w .graph) → Fits ((transformUntilComplete (tryMergeTails least) fuel w) .graph)
+pub tails-fit : (least : ℕ) → 3 < least → (fuel : ℕ) (w : Work) → Good (w .graph) → Small (w .graph)
+    → Fits ((transformUntilComplete (tryMergeTails least) fuel w) .graph)
 tails-fit least pos fuel w h s = tame-fits s ((tails-paid least pos fuel w h) .tame)
 
 pub splits-fit : (fuel : ℕ) (tried : List ℕ) (w : Work) → Good (w .graph) → Small (w .graph) → Fits ((splitUntilComplete fuel tried w) .graph)
@@ -236,10 +264,12 @@ merges-fit fuel w h s = tame-fits s ((merges-paid fuel w h) .tame)
 pub zips-fit : (fuel : ℕ) (ss : List ℕ) (w : Work) → Good (w .graph) → Small (w .graph) → Fits ((zipStarts fuel ss w) .graph)
 zips-fit fuel ss w h s = tame-fits s ((starts-paid fuel ss w h) .tame)
 
-pub round-fits : (least : ℕ) → 3 < least → (w : Work) → Good (w .graph) → Small (w .graph) → Fits ((simplifyGraphOnce least w) .graph) × Small ((simplifyGraphOnce least w) .graph)
+pub round-fits : (least : ℕ) → 3 < least → (w : Work) → Good (w .graph) → Small (w .graph) → Fits ((simplifyGraphOnce least w) .graph)
+    × Small ((simplifyGraphOnce least w) .graph)
 round-fits least pos w h s = let t = (round-within least pos w h) .tame in (tame-fits s t, small-tame s t)
 
-pub rounds-fit : (least : ℕ) → 3 < least → (remaining n : ℕ) (sig : List ℕ) (w : Work) → Good (w .graph) → Small (w .graph) → Fits ((roundsFrom least remaining n sig w) .graph)
+pub rounds-fit : (least : ℕ) → 3 < least → (remaining n : ℕ) (sig : List ℕ) (w : Work) → Good (w .graph) → Small (w .graph)
+    → Fits ((roundsFrom least remaining n sig w) .graph)
 rounds-fit least pos remaining n sig w h s = tame-fits s ((rounds-within least pos (weight (w .graph)) remaining n sig w h (omega arith)) .tame)
 
 pub simplify-fits : (least : ℕ) → 3 < least → (g : Graph) → Good g → Small g → Fits ((simplifyGraphFull least g) .graph)

@@ -85,10 +85,16 @@ sum-point x b (suc n) = byTest (eqb n x)
 pub sum-one : (x n : ℕ) → x < n → sumTo (λ v. bit (eqb x v)) n ≡ 1
 unfolding bit
 sum-one x n l =
-    omega (arith, sum-at (λ v. bit (eqb x v)) (λ _. 0) x n l (λ v k. rw (ne-eqb x v (λ e. k (sym e)))) refl, sum-zero (λ _. 0) n (λ v h. refl), ap bit (eq-eqb x x refl))
+    omega (
+      arith,
+      sum-at (λ v. bit (eqb x v)) (λ _. 0) x n l (λ v k. rw (ne-eqb x v (λ e. k (sym e)))) refl,
+      sum-zero (λ _. 0) n (λ v h. refl),
+      ap bit (eq-eqb x x refl),
+    )
 
 -- what is kept and what goes
-pub sum-kept : (h : ℕ → ℕ) (n : ℕ) (gone : List ℕ) → Distinct gone → ((v : ℕ) → List·Memᴰ v gone → v < n) → sumTo (λ v. cond (keeps gone v) (h v) 0) n + total h gone ≡ sumTo h n
+pub sum-kept : (h : ℕ → ℕ) (n : ℕ) (gone : List ℕ) → Distinct gone → ((v : ℕ) → List·Memᴰ v gone → v < n)
+    → sumTo (λ v. cond (keeps gone v) (h v) 0) n + total h gone ≡ sumTo h n
 unfolding total
 sum-kept h n [] d b = omega (arith, sum-same (λ v. cond (keeps [] v) (h v) 0) h n (λ v l. rw (keeps-other [] v List·Memᴰ·not-nil)))
 sum-kept h n (x ∷ gone) d b =
@@ -165,12 +171,20 @@ module _ (p : ℕ → Bool) (g : Graph) where
   unfolding keepIf
   fewer v t [] = omega arith
   fewer v t (e ∷ es) = byTest (both e)
-      (λ k. rw (keepIf-yes both e es k) (omega (arith, count-cons (λ (x : Edge). eqb (x .from) (rank p v)) (remapEdge p e) (map (remapEdge p) (keepIf both es)), count-cons (λ (x : Edge). eqb (x .from) v) e es, fewer v t es, one k)))
+      (λ k. rw (keepIf-yes both e es k) (omega (
+        arith,
+        count-cons (λ (x : Edge). eqb (x .from) (rank p v)) (remapEdge p e)
+            (map (remapEdge p) (keepIf both es)),
+        count-cons (λ (x : Edge). eqb (x .from) v) e es,
+        fewer v t es,
+        one k,
+      )))
       (λ k. rw (keepIf-no both e es k) (omega (arith, count-cons (λ (x : Edge). eqb (x .from) v) e es, fewer v t es)))
     where
       one : both e ≡ true → bit (eqb ((remapEdge p e) .from) (rank p v)) ≤ bit (eqb (e .from) v)
       one k = unfold remapEdge bit in (byTest (eqb (rank p (e .from)) (rank p v))
-          (λ y. rw (eq-eqb (e .from) v (rank-inj p (e .from) v ((and-split _ _ k) .0) t (eqb-true _ _ y))) (omega (arith, bit-le (eqb (rank p (e .from)) (rank p v)))))
+          (λ y. rw (eq-eqb (e .from) v (rank-inj p (e .from) v ((and-split _ _ k) .0) t (eqb-true _ _ y)))
+          (omega (arith, bit-le (eqb (rank p (e .from)) (rank p v)))))
           (λ y. rw y (omega arith)))
 
   pub fewer-out : (v : ℕ) → p v ≡ true → outDegree (compactVertices p g) (rank p v) ≤ outDegree g v
@@ -180,7 +194,8 @@ module _ (p : ℕ → Bool) (g : Graph) where
   pub branching-restrict : branching (compactVertices p g) ≤ branching g
   unfolding branching
   branching-restrict =
-      rw (order-restrict p g) (sum-restrict p (λ v. outDegree (compactVertices p g) v - 1) (λ v. outDegree g v - 1) (nodeCount g) (λ v l t. omega (arith, fewer-out v t)))
+      rw (order-restrict p g) (sum-restrict p (λ v. outDegree (compactVertices p g) v - 1) (λ v. outDegree g v - 1) (nodeCount g) (λ v l t.
+      omega (arith, fewer-out v t)))
 
   -- a sink of the restriction is one of what is kept
   pub sink-part : (v : ℕ) → v < nodeCount g → p v ≡ true → ends (compactVertices p g) (rank p v) ≡ true → IsSink (partOf p g) v

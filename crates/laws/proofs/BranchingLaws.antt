@@ -34,7 +34,8 @@ use Rattle.laws.proofs.ZipLaws.{Chained}
 use Rattle.laws.proofs.ZipCounts.{distinct-chain, below, zip-surplus}
 
 -- from the sinks and edges less vertices
-fewer-branches : (g g′ : Graph) → Bounded g → Bounded g′ → length (g′ .edges) + nodeCount g ≤ length (g .edges) + nodeCount g′ → sinks g′ ≤ sinks g → branching g′ ≤ branching g
+fewer-branches : (g g′ : Graph) → Bounded g → Bounded g′ → length (g′ .edges) + nodeCount g ≤ length (g .edges) + nodeCount g′
+    → sinks g′ ≤ sinks g → branching g′ ≤ branching g
 fewer-branches g g′ b b′ h k = omega (arith, branching-is g b, branching-is g′ b′)
 
 total-mem : (f : ℕ → ℕ) (l : List ℕ) (x : ℕ) → List·Memᴰ x l → f x ≤ total f l
@@ -65,7 +66,8 @@ module _ (g g′ : Graph) (bottom : ℕ) (sound : Sound g) (once : Single (g .ed
   G₁ = P.G g b₁ (sound .rank) (sound .ranks) bottom suf onlyOut cuts
 
   -- a new vertex leads to the bottom or to the suffix vertex of its block
-  block-leads : (v k m : ℕ) → P.Block g bottom suf (nodeCount g) (incomingNodes g bottom) k m → k ≤ v → v < k + P.width g bottom suf m → ((w : ℕ) → (partOf (keeps (incomingNodes g bottom)) G₁) .Ed v w → ⊥) → ⊥
+  block-leads : (v k m : ℕ) → P.Block g bottom suf (nodeCount g) (incomingNodes g bottom) k m → k ≤ v → v < k + P.width g bottom suf m
+      → ((w : ℕ) → (partOf (keeps (incomingNodes g bottom)) G₁) .Ed v w → ⊥) → ⊥
   block-leads v k m b l u h =
       let put = P.put g b₁ (sound .rank) (sound .ranks) bottom suf onlyOut cuts k m in
       let newEdge = P.link′ g b₁ (sound .rank) (sound .ranks) bottom suf onlyOut cuts in
@@ -77,15 +79,21 @@ module _ (g g′ : Graph) (bottom : ℕ) (sound : Sound g) (once : Single (g .ed
 
   split-sink : (v : ℕ) → IsSink (partOf (keeps (incomingNodes g bottom)) G₁) v → ((v < nodeCount g) × ((w : ℕ) → HasEdge g v w → ⊥)) ⊎ ((v ≡ 0) × (1 ≤ 0))
   split-sink v h = byOrder (nodeCount g) v
-      (λ l. let a = P.block-at g bottom suf (nodeCount g) (incomingNodes g bottom) v l (omega (arith, P.sizeG g b₁ (sound .rank) (sound .ranks) bottom suf onlyOut cuts, h .0 .0)) in
+      (λ l. let a = P.block-at g bottom suf (nodeCount g) (incomingNodes g bottom) v l
+      (omega (arith, P.sizeG g b₁ (sound .rank) (sound .ranks) bottom suf onlyOut cuts, h .0 .0)) in
       absurd (block-leads v (a .0) (a .1) (a .2) (a .3) (a .4) (h .1)))
-      (λ l. inl (l, sink-old g b₁ (P.c g b₁ (sound .rank) (sound .ranks) bottom suf onlyOut cuts) (P.local g b₁ (sound .rank) (sound .ranks) bottom suf onlyOut cuts) v l h))
+      (λ l. inl (
+        l,
+        sink-old g b₁ (P.c g b₁ (sound .rank) (sound .ranks) bottom suf onlyOut cuts)
+            (P.local g b₁ (sound .rank) (sound .ranks) bottom suf onlyOut cuts) v l h,
+      ))
 
   sinks-split : sinks g′ ≤ sinks g
   sinks-split = rw (← (Q.parts g g′ bottom sound once did) .1) (unfold applyChange removeVerticesById in
       (omega (
         arith,
-        sinks-by g G₁ (incomingNodes g bottom) 0 0 (omega (arith, P.sizeG g b₁ (sound .rank) (sound .ranks) bottom suf onlyOut cuts)) (Q.once-prevs g g′ bottom sound once did)
+        sinks-by g G₁ (incomingNodes g bottom) 0 0 (omega (arith, P.sizeG g b₁ (sound .rank) (sound .ranks) bottom suf onlyOut cuts))
+            (Q.once-prevs g g′ bottom sound once did)
             (P.prev-old g b₁ (sound .rank) (sound .ranks) bottom suf onlyOut cuts) split-sink,
       )))
 
@@ -93,28 +101,40 @@ module _ (g g′ : Graph) (bottom : ℕ) (sound : Sound g) (once : Single (g .ed
   split-branching = fewer-branches g g′ b₁ ((split-keeps′ g g′ bottom sound did) .sound .bounded) (split-surplus g g′ bottom sound once did) sinks-split
 
 -- merge
-module _ (g : Graph) (bottom : ℕ) (bounded : Bounded g) (r : ℕ → ℕ) (ranks : Ranks g r) (inside : bottom < nodeCount g) (ok : isMerge g (incomingNodes g bottom) ≡ true) (once : Single (g .edges)) where
+module _ (g : Graph) (bottom : ℕ) (bounded : Bounded g) (r : ℕ → ℕ) (ranks : Ranks g r) (inside : bottom < nodeCount g) (ok :
+    isMerge g (incomingNodes g bottom) ≡ true) (once : Single (g .edges)) where
   abbrev G₂ : Graph
   G₂ = M.G g bottom bounded r ranks inside ok
 
   pub old-one : (v : ℕ) → List·Memᴰ v (bottom ∷ incomingNodes g bottom) → v < nodeCount g
-  old-one v m = ⊎-elim (λ (i : v ≡ bottom). rw i inside) (λ n. (M.edge-old g bottom bounded r ranks inside ok v bottom (of-mem-ins g v bottom n)) .0) (List·Memᴰ·cases-cons m)
+  old-one v m = ⊎-elim (λ (i : v ≡ bottom). rw i inside) (λ n.
+      (M.edge-old g bottom bounded r ranks inside ok v bottom (of-mem-ins g v bottom n)) .0) (List·Memᴰ·cases-cons m)
 
-  merge-sink : (v : ℕ) → IsSink (partOf (keeps (bottom ∷ incomingNodes g bottom)) G₂) v → ((v < nodeCount g) × ((w : ℕ) → HasEdge g v w → ⊥)) ⊎ ((v ≡ nodeCount g) × (1 ≤ bit (ends g bottom)))
+  merge-sink : (v : ℕ) → IsSink (partOf (keeps (bottom ∷ incomingNodes g bottom)) G₂) v
+      → ((v < nodeCount g) × ((w : ℕ) → HasEdge g v w → ⊥)) ⊎ ((v ≡ nodeCount g) × (1 ≤ bit (ends g bottom)))
   merge-sink v h = byOrder (nodeCount g) v
       (λ l. let e : v ≡ nodeCount g = omega (arith, h .0 .0, order-grown g (mergeChange g bottom (incomingNodes g bottom)), one-new) in
-      inr (e, ends-one g bottom (λ w k. h .1 w (rw e (M.G-out g bottom bounded r ranks inside ok w k), h .0 .1, M.out-kept g bottom bounded r ranks inside ok w k))))
+      inr (
+        e,
+        ends-one g bottom (λ w k. h .1 w (
+          rw e (M.G-out g bottom bounded r ranks inside ok w k),
+          h .0 .1,
+          M.out-kept g bottom bounded r ranks inside ok w k,
+        )),
+      ))
       (λ l. inl (l, (M.sink-N g bottom bounded r ranks inside ok v h (M.is-common g bottom bounded r ranks inside ok v (h .0 .1) l)) .1))
     where
       one-new : length ((mergeChange g bottom (incomingNodes g bottom)) .verts) ≡ 1
       one-new = unfold mergeChange in refl
 
   pub merge-branching : branching (applyChange g (mergeChange g bottom (incomingNodes g bottom))) ≤ branching g
-  merge-branching = fewer-branches g (applyChange g (mergeChange g bottom (incomingNodes g bottom))) bounded (M.bounded-merge g bottom bounded r ranks inside ok) (surplus-merge g bottom bounded r ranks inside ok once)
+  merge-branching = fewer-branches g (applyChange g (mergeChange g bottom (incomingNodes g bottom))) bounded
+      (M.bounded-merge g bottom bounded r ranks inside ok) (surplus-merge g bottom bounded r ranks inside ok once)
       (unfold applyChange removeVerticesById mergeChange in
       (omega (
         arith,
-        sinks-by g G₂ (bottom ∷ incomingNodes g bottom) (nodeCount g) (bit (ends g bottom)) (omega (arith, order-grown g (mergeChange g bottom (incomingNodes g bottom))))
+        sinks-by g G₂ (bottom ∷ incomingNodes g bottom) (nodeCount g) (bit (ends g bottom))
+            (omega (arith, order-grown g (mergeChange g bottom (incomingNodes g bottom))))
             (distinct-gone g bottom bounded r ranks inside ok once) old-one merge-sink,
         total-mem (λ v. bit (ends g v)) (bottom ∷ incomingNodes g bottom) bottom (List·Memᴰ·head refl),
       )))
@@ -128,7 +148,8 @@ module _ (g : Graph) (bounded : Bounded g) (r : ℕ → ℕ) (ranks : Ranks g r)
   lst = lastOf s (y ∷ ys)
 
   lst-in : List·Memᴰ lst (y ∷ ys)
-  lst-in = ⊎-elim (λ (e : lst ≡ s). absurd (Z.s-not-last g bounded r ranks s y ys chained (sym e))) (λ m. m) (List·Memᴰ·cases-cons (Z.last-in g bounded r ranks s (y ∷ ys)))
+  lst-in = ⊎-elim (λ (e : lst ≡ s). absurd (Z.s-not-last g bounded r ranks s y ys chained (sym e))) (λ m.
+      m) (List·Memᴰ·cases-cons (Z.last-in g bounded r ranks s (y ∷ ys)))
 
   zip-sink : (v : ℕ) → IsSink (partOf (keeps (y ∷ ys)) G₃) v → ((v < nodeCount g) × ((w : ℕ) → HasEdge g v w → ⊥)) ⊎ ((v ≡ s) × (1 ≤ bit (ends g lst)))
   zip-sink v h = byTest (eqb v s)
@@ -142,11 +163,13 @@ module _ (g : Graph) (bounded : Bounded g) (r : ℕ → ℕ) (ranks : Ranks g r)
       ))
 
   pub zip-branching : branching (mergeLinearChain g s (y ∷ ys)) ≤ branching g
-  zip-branching = fewer-branches g (mergeLinearChain g s (y ∷ ys)) bounded (Z.bounded-zip g bounded r ranks s y ys chained) (zip-surplus g bounded r ranks s y ys chained)
+  zip-branching = fewer-branches g (mergeLinearChain g s (y ∷ ys)) bounded (Z.bounded-zip g bounded r ranks s y ys chained)
+      (zip-surplus g bounded r ranks s y ys chained)
       (unfold mergeLinearChain removeVerticesById in
       (omega (
         arith,
-        sinks-by g G₃ (y ∷ ys) s (bit (ends g lst)) (omega (arith, Z.order-G g bounded r ranks s y ys chained)) ((distinct-chain g bounded r ranks s (y ∷ ys) chained) .1)
+        sinks-by g G₃ (y ∷ ys) s (bit (ends g lst)) (omega (arith, Z.order-G g bounded r ranks s y ys chained))
+            ((distinct-chain g bounded r ranks s (y ∷ ys) chained) .1)
             (below g bounded r ranks s y ys chained) zip-sink,
         total-mem (λ v. bit (ends g v)) (y ∷ ys) lst lst-in,
       )))

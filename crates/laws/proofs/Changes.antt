@@ -10,13 +10,16 @@ use lib.Dec.{ltb}
 use lib.ListN.{length, getD, length-map}
 use borrow.Author.Tests.{ltb-true, lt-ltb}
 use Rattle.defs.specs.Lists.{keepIf}
-use Rattle.defs.specs.SeqGraph.{Edge, Graph, nodeCount, vertexSequence, keeps, Change, withAdditions, applyChange, removeVerticesById, compactVertices, addOrUpdateEdges, remapEdge}
+use Rattle.defs.specs.SeqGraph.{Edge, Graph, nodeCount, vertexSequence, keeps, Change, withAdditions, applyChange, removeVerticesById}
+use Rattle.defs.specs.SeqGraph.{compactVertices, addOrUpdateEdges, remapEdge}
 use Rattle.defs.specs.Strings.{HasEdge, Spells}
 use Rattle.laws.proofs.Walks.{Net, Pt, start, at, stop, Go, IsSource, IsSink, Steps, single, cast, Tour, hit, pass, Replaces, kept, reads, byTest}
 use Rattle.laws.proofs.ListLaws.{clash, and-split, and-true, byOrder}
-use Rattle.laws.proofs.Nets.{Ranks, ranks-restrict, closed, netOf, partOf, Bounded, reads-restrict, of-reads-restrict, spells-reads, reads-spells, bounded-restrict}
+use Rattle.laws.proofs.Nets.{Ranks, ranks-restrict, closed, netOf, partOf, Bounded, reads-restrict, of-reads-restrict, spells-reads}
+use Rattle.laws.proofs.Nets.{reads-spells, bounded-restrict}
 use Rattle.laws.proofs.Edges.{Linked, raiseAll-keeps, raiseAll-adds, of-raiseAll, keeps-not, not-keeps, keeps-other, order-grown, seq-grown-old}
-use Rattle.laws.proofs.Counts.{total, total-append, total-one, total-same, Distinct, total-kept, Single, single-raiseAll, single-renumber, count-raiseAll, length-both, gone-raiseAll}
+use Rattle.laws.proofs.Counts.{total, total-append, total-one, total-same, Distinct, total-kept, Single, single-raiseAll}
+use Rattle.laws.proofs.Counts.{single-renumber, count-raiseAll, length-both, gone-raiseAll}
 use Rattle.laws.proofs.Cycles.{distinct-length}
 
 -- two nets agree on the common vertices
@@ -30,7 +33,8 @@ pub record Agree (N M : Net) (common : ℕ → Bool) : Type 0 where
 
 -- each tour over vertices that are not common has a walk in the other net
 abbrev pub Via : Net → Net → (ℕ → Bool) → Type 0
-Via N M common = (p q : Pt) (s : List ℕ) (x : ℕ) → kept common p ≡ true → Go N p (at x) → common x ≡ false → Tour N common (at x) q s → Steps M p q (N .lab x ++ s)
+Via N M common = (p q : Pt) (s : List ℕ) (x : ℕ) → kept common p ≡ true → Go N p (at x) → common x ≡ false → Tour N common (at x) q s
+    → Steps M p q (N .lab x ++ s)
 
 pub agree-replaces : (N M : Net) (common : ℕ → Bool) → Agree N M common → Via N M common → Replaces N M common
 agree-replaces N M common a via start q s t (hit {q = start} h k) = absurd h
@@ -107,7 +111,8 @@ module _ (g : Graph) (bounded : Bounded g) (c : Change) where
 
     -- an edge from or to a new vertex is a link
     pub of-U-new : (u v : ℕ) → U .Ed u v → (nodeCount g ≤ u) ⊎ (nodeCount g ≤ v) → Linked (c .edges) u v
-    of-U-new u v h n = of-grown u v (h .0) (λ k. let b = linked-old u v k in absurd (⊎-elim (λ (i : nodeCount g ≤ u). omega arith) (λ (i : nodeCount g ≤ v). omega arith) n)) (λ k. k)
+    of-U-new u v h n = of-grown u v (h .0) (λ k. let b = linked-old u v k in
+        absurd (⊎-elim (λ (i : nodeCount g ≤ u). omega arith) (λ (i : nodeCount g ≤ v). omega arith) n)) (λ k. k)
 
     pub forth : Agree N U common
     forth = record {
@@ -135,10 +140,12 @@ module _ (g : Graph) (bounded : Bounded g) (c : Change) where
 
     -- what is left to show of a rewrite: the tours over the vertices that go, and over the new ones
     abbrev pub Forth : Type 0
-    Forth = (p q : Pt) (s : List ℕ) (x : ℕ) → kept common p ≡ true → Go N p (at x) → List·Memᴰ x (c .gone) → Tour N common (at x) q s → Steps U p q (vertexSequence g x ++ s)
+    Forth = (p q : Pt) (s : List ℕ) (x : ℕ) → kept common p ≡ true → Go N p (at x) → List·Memᴰ x (c .gone) → Tour N common (at x) q s
+        → Steps U p q (vertexSequence g x ++ s)
 
     abbrev pub Back : Type 0
-    Back = (p q : Pt) (s : List ℕ) (y : ℕ) → kept common p ≡ true → Go U p (at y) → nodeCount g ≤ y → Tour U common (at y) q s → Steps N p q (vertexSequence (withAdditions c g) y ++ s)
+    Back = (p q : Pt) (s : List ℕ) (y : ℕ) → kept common p ≡ true → Go U p (at y) → nodeCount g ≤ y → Tour U common (at y) q s
+        → Steps N p q (vertexSequence (withAdditions c g) y ++ s)
 
     via-forth : Forth → Via N U common
     via-forth f p q s x t h k w = f p q s x t h (not-keeps _ x (byTest (keep x) (λ y. clash (is-common x y (old-of p h)) k) (λ y. y))) w
@@ -167,8 +174,10 @@ module _ (g : Graph) (bounded : Bounded g) (c : Change) where
     pub spells-change : Forth → Back → {s : List ℕ} → Spells g s ↔ Spells (applyChange g c) s
     unfolding applyChange removeVerticesById
     spells-change f b = (
-      λ w. reads-spells (applyChange g c) bounded-change (reads-restrict keep (withAdditions c g) bounded-grown (reads N U common (agree-replaces N U common forth (via-forth f)) (spells-reads g w))),
-      λ w. reads-spells g bounded (reads U N common (agree-replaces U N common back (via-back b)) (of-reads-restrict keep (withAdditions c g) bounded-grown (spells-reads (applyChange g c) w))),
+      λ w. reads-spells (applyChange g c) bounded-change (reads-restrict keep (withAdditions c g) bounded-grown
+          (reads N U common (agree-replaces N U common forth (via-forth f)) (spells-reads g w))),
+      λ w. reads-spells g bounded (reads U N common (agree-replaces U N common back (via-back b))
+          (of-reads-restrict keep (withAdditions c g) bounded-grown (spells-reads (applyChange g c) w))),
     )
 
     pub ranks-change : (r : ℕ → ℕ) → Ranks (withAdditions c g) r → (r′ : ℕ → ℕ) × Ranks (applyChange g c) r′
@@ -180,7 +189,8 @@ module _ (g : Graph) (bounded : Bounded g) (c : Change) where
     unfolding withAdditions
     total-grown f = total-append f (g .verts) (c .verts)
 
-    pub weight-change : (f : List ℕ → ℕ) → Distinct (c .gone) → total f ((applyChange g c) .verts) + total (λ v. f (vertexSequence g v)) (c .gone) ≡ total f (g .verts) + total f (c .verts)
+    pub weight-change : (f : List ℕ → ℕ) → Distinct (c .gone) → total f ((applyChange g c) .verts)
+        + total (λ v. f (vertexSequence g v)) (c .gone) ≡ total f (g .verts) + total f (c .verts)
     unfolding applyChange removeVerticesById compactVertices
     weight-change f d =
         omega (
@@ -197,7 +207,14 @@ module _ (g : Graph) (bounded : Bounded g) (c : Change) where
         gone-less v m = unfold nodeCount in (old-less v (l .old v m))
 
     pub order-change : Distinct (c .gone) → nodeCount (applyChange g c) + length (c .gone) ≡ nodeCount g + length (c .verts)
-    order-change d = unfold nodeCount in omega (arith, weight-change (λ _. 1) d, total-one ((applyChange g c) .verts), total-one (c .gone), total-one (g .verts), total-one (c .verts))
+    order-change d = unfold nodeCount in omega (
+      arith,
+      weight-change (λ _. 1) d,
+      total-one ((applyChange g c) .verts),
+      total-one (c .gone),
+      total-one (g .verts),
+      total-one (c .verts),
+    )
 
   pub single-change : Single (g .edges) → Single ((applyChange g c) .edges)
   unfolding applyChange removeVerticesById compactVertices withAdditions
@@ -205,10 +222,16 @@ module _ (g : Graph) (bounded : Bounded g) (c : Change) where
 
   pub edges-change : length ((applyChange g c) .edges) ≤ length (c .edges) + length (keepIf (λ e. keep (e .from) && keep (e .to)) (g .edges))
   unfolding applyChange removeVerticesById compactVertices withAdditions
-  edges-change = omega (arith, length-map (keepIf (λ e. keep (e .from) && keep (e .to)) (addOrUpdateEdges (c .edges) (g .edges))) (remapEdge keep), count-raiseAll keep (c .edges) (g .edges))
+  edges-change = omega (
+    arith,
+    length-map (keepIf (λ e. keep (e .from) && keep (e .to)) (addOrUpdateEdges (c .edges) (g .edges)))
+        (remapEdge keep),
+    count-raiseAll keep (c .edges) (g .edges),
+  )
 
   -- Room inside a change: while all is added and nothing has gone yet, there are no more edges than before and afterwards together, and likewise vertices.
-  pub edges-grown : ((u v : ℕ) → Linked (c .edges) u v → (keep u ≡ true) × (keep v ≡ true)) → length ((withAdditions c g) .edges) ≤ length ((applyChange g c) .edges) + length (g .edges)
+  pub edges-grown : ((u v : ℕ) → Linked (c .edges) u v → (keep u ≡ true) × (keep v ≡ true))
+      → length ((withAdditions c g) .edges) ≤ length ((applyChange g c) .edges) + length (g .edges)
   unfolding applyChange removeVerticesById compactVertices withAdditions
   edges-grown k =
       let both : Edge → Bool = λ e. keep (e .from) && keep (e .to) in
@@ -222,7 +245,8 @@ module _ (g : Graph) (bounded : Bounded g) (c : Change) where
         gone-raiseAll keep ns es (λ n m. k (n .from) (n .to) (n, m, refl, refl)),
       )
 
-  pub verts-grown : Distinct (c .gone) → ((v : ℕ) → List·Memᴰ v (c .gone) → v < nodeCount g) → nodeCount (applyChange g c) + length (c .gone) ≡ nodeCount g + length (c .verts) → nodeCount (withAdditions c g) ≤ nodeCount (applyChange g c) + nodeCount g
+  pub verts-grown : Distinct (c .gone) → ((v : ℕ) → List·Memᴰ v (c .gone) → v < nodeCount g) → nodeCount (applyChange g c)
+      + length (c .gone) ≡ nodeCount g + length (c .verts) → nodeCount (withAdditions c g) ≤ nodeCount (applyChange g c) + nodeCount g
   verts-grown d o e = omega (arith, order-grown g c, e, distinct-length (nodeCount g) (c .gone) d o)
 
   module _ (l : Local g c) where

@@ -12,7 +12,9 @@ use Rattle.defs.specs.Lists.{elemOf, concat, upFrom, firstOf}
 use Rattle.defs.specs.SeqGraph.{Edge, Graph, nodeCount, vertexSequence, keeps, compactVertices, removeVerticesById}
 use Rattle.defs.specs.Zip.{Work, zipLinearChains, lastOf}
 use Rattle.defs.specs.Simplify.{simplifyGraphFull, sequenceBytes, emptyVertices}
-use Rattle.defs.specs.Cleanup.{beforeChoice, removeSingletonOrphanVertices, referenceSourceVertex, referenceSinkVertex, singletonOrphans, removeOrphans, either, forward, reached, removeVerticesNotConnectedToRef, justReference, someVariation, choiceGraph, removePathsNotConnectedToRef, withDummyVertex, afterChoice, cleanupSeqGraph}
+use Rattle.defs.specs.Cleanup.{beforeChoice, removeSingletonOrphanVertices, referenceSourceVertex, referenceSinkVertex, singletonOrphans}
+use Rattle.defs.specs.Cleanup.{removeOrphans, either, forward, reached, removeVerticesNotConnectedToRef, justReference, someVariation}
+use Rattle.defs.specs.Cleanup.{choiceGraph, removePathsNotConnectedToRef, withDummyVertex, afterChoice, cleanupSeqGraph}
 use Rattle.defs.specs.Strings.{HasEdge, IsPath, Spells, SpellsBetween, spelled}
 use Rattle.laws.proofs.Walks.{byTest}
 use Rattle.laws.proofs.Nets.{bounded-restrict, closed, ranks-restrict}
@@ -27,8 +29,15 @@ use Rattle.laws.proofs.Between.{between-sound, between-spells, unreache
 
 -- the invariants, up to the graph of the choice
 pub restrict-good : (p : ℕ → Bool) (g : Graph) → Good g → Good (compactVertices p g)
-restrict-good p g (s, o) =
-    (record { bounded = bounded-restrict p g (s .bounded); rank = closed p g (s .bounded) (s .rank); ranks = ranks-restrict p g (s .bounded) (s .rank) (s .ranks) }, unfold compactVertices in (single-renumber p (g .edges) o))
+restrict-good p g (s, o) = (
+  record {
+    bounded = bounded-restrict p g (s .bounded);
+    rank = closed p g (s .bounded) (s .rank);
+    ranks =
+        ranks-restrict p g (s .bounded) (s .rank) (s .ranks);
+  },
+  unfold compactVertices in (single-renumber p (g .edges) o),
+)
 
 orphans-zero : (g : Graph) → removeOrphans zero g ≡ g
 unfolding removeOrphans
@@ -38,29 +47,36 @@ pub orphans-nil : (fuel : ℕ) (g : Graph) → singletonOrphans g ≡ [] → rem
 unfolding removeOrphans
 orphans-nil fuel g t = rw (t, removeOrphans)
 
-pub orphans-cons : (fuel : ℕ) (g : Graph) (v : ℕ) (vs : List ℕ) → singletonOrphans g ≡ v ∷ vs → removeOrphans (suc fuel) g ≡ removeOrphans fuel (removeVerticesById (v ∷ vs) g)
+pub orphans-cons : (fuel : ℕ) (g : Graph) (v : ℕ) (vs : List ℕ) → singletonOrphans g ≡ v ∷ vs → removeOrphans (suc fuel) g
+    ≡ removeOrphans fuel (removeVerticesById (v ∷ vs) g)
 unfolding removeOrphans
 orphans-cons fuel g v vs t = rw (t, removeOrphans)
 
-orphans-turn : (P : Graph → Type 0) → ((p : ℕ → Bool) (g : Graph) → P g → P (compactVertices p g)) → (fuel : ℕ) (g : Graph) → P g → ((a : Graph) → P a → P (removeOrphans fuel a)) → P (removeOrphans (suc fuel) g)
+orphans-turn : (P : Graph → Type 0) → ((p : ℕ → Bool) (g : Graph) → P g → P (compactVertices p g)) → (fuel : ℕ) (g : Graph) → P g
+    → ((a : Graph) → P a → P (removeOrphans fuel a)) → P (removeOrphans (suc fuel) g)
 unfolding removeVerticesById
-orphans-turn P k fuel g h ih = byList (singletonOrphans g) (λ t. rw (orphans-nil fuel g t) h) (λ v vs t. rw (orphans-cons fuel g v vs t) (ih (removeVerticesById (v ∷ vs) g) (k (keeps (v ∷ vs)) g h)))
+orphans-turn P k fuel g h ih = byList (singletonOrphans g) (λ t. rw (orphans-nil fuel g t) h) (λ v vs t.
+    rw (orphans-cons fuel g v vs t) (ih (removeVerticesById (v ∷ vs) g) (k (keeps (v ∷ vs)) g h)))
 
 -- what restrictions keep, the removal of orphans keeps
 pub orphans-keep : (P : Graph → Type 0) → ((p : ℕ → Bool) (g : Graph) → P g → P (compactVertices p g)) → (fuel : ℕ) (g : Graph) → P g → P (removeOrphans fuel g)
 orphans-keep P k zero g h = rw (orphans-zero g) h
 orphans-keep P k (suc fuel) g h = orphans-turn P k fuel g h (λ a p. orphans-keep P k fuel a p)
 
-pub connected-keeps : (P : Graph → Type 0) → ((p : ℕ → Bool) (g : Graph) → P g → P (compactVertices p g)) → (g : Graph) → P g → P (removeVerticesNotConnectedToRef g)
+pub connected-keeps : (P : Graph → Type 0) → ((p : ℕ → Bool) (g : Graph) → P g → P (compactVertices p g)) → (g : Graph) → P g
+    → P (removeVerticesNotConnectedToRef g)
 unfolding removeVerticesNotConnectedToRef
-connected-keeps P k g h = byOption (referenceSourceVertex g) (λ t. rw (t, removeVerticesNotConnectedToRef) h) (λ s t. rw (t, removeVerticesNotConnectedToRef) (k (λ v. elemOf v (reached either g s)) g h))
+connected-keeps P k g h = byOption (referenceSourceVertex g) (λ t. rw (t, removeVerticesNotConnectedToRef) h) (λ s t.
+    rw (t, removeVerticesNotConnectedToRef) (k (λ v. elemOf v (reached either g s)) g h))
 
 pub choice-good : (g : Graph) → Good g → Good (choiceGraph g)
 unfolding choiceGraph beforeChoice removeSingletonOrphanVertices
 choice-good g h =
     let g₁ = (zipLinearChains (begun g)) .graph in
     let g₂ = removeOrphans (suc (nodeCount g₁)) g₁ in
-    (simplify-tame 10 (omega arith) (removeVerticesNotConnectedToRef g₂) (connected-keeps Good restrict-good g₂ (orphans-keep Good restrict-good (suc (nodeCount g₁)) g₁ ((zip-paid (begun g) h) .tame .good)))) .good
+    (simplify-tame 10 (omega arith) (removeVerticesNotConnectedToRef g₂)
+    (connected-keeps Good restrict-good g₂ (orphans-keep Good restrict-good (suc (nodeCount g₁)) g₁
+    ((zip-paid (begun g) h) .tame .good)))) .good
 
 -- the choice
 first-in : (p : ℕ → Bool) (l : List ℕ) (v : ℕ) → firstOf p l ≡ some v → List·Memᴰ v l
@@ -105,12 +121,21 @@ module _ (g : Graph) (sound : Sound g) (v : List ℕ) (is : g .verts ≡ v ∷ [
 
   says : {x : List ℕ} (f : ℕ) (os : List ℕ) → IsPath g f os → spelled g (f ∷ os) ≡ x → v ≡ x
   unfolding spelled concat
-  says f [] h e = let i : f ≡ 0 = omega (arith, one, h) in sym (append-nil v) ∙ (ap (λ z. z ++ []) (sym seq-zero) ∙ (ap (λ z. vertexSequence g z ++ []) (sym i) ∙ e))
+  says f [] h e = let i : f ≡ 0 = omega (arith, one, h) in sym (append-nil v)
+      ∙ (ap (λ z. z ++ []) (sym seq-zero) ∙ (ap (λ z. vertexSequence g z ++ []) (sym i) ∙ e))
   says f (w ∷ ws) h e = absurd (no-edge f w (h .1))
 
   spells-v : Spells g v
   unfolding spelled concat lastOf
-  spells-v = record { first = 0; others = []; path = omega (arith, one); source = λ u l. no-edge u 0 l; sink = λ w l. no-edge 0 w l; spell = ap (λ z. z ++ []) seq-zero ∙ append-nil v }
+  spells-v = record {
+    first = 0;
+    others = [];
+    path = omega (arith, one);
+    source = λ u l. no-edge u 0 l;
+    sink = λ w l. no-edge 0 w l;
+    spell =
+        ap (λ z. z ++ []) seq-zero ∙ append-nil v;
+  }
 
   pub ends-of : (a b : ℕ) → HasEdge H a b → (a ≡ 0) × (b ≡ 1)
   ends-of a b (e, m, p, q) = let i = List·Memᴰ·eq-of-singleton m in (sym p ∙ ap (λ (x : Edge). x .from) i, sym q ∙ ap (λ (x : Edge). x .to) i)
@@ -129,7 +154,8 @@ module _ (g : Graph) (sound : Sound g) (v : List ℕ) (is : g .verts ≡ v ∷ [
     spell = append-nil v;
   }
 
-  says-H : {x : List ℕ} (f : ℕ) (os : List ℕ) → IsPath H f os → ((u : ℕ) → HasEdge H u f → ⊥) → ((w : ℕ) → HasEdge H (lastOf f os) w → ⊥) → spelled H (f ∷ os) ≡ x → v ≡ x
+  says-H : {x : List ℕ} (f : ℕ) (os : List ℕ) → IsPath H f os → ((u : ℕ) → HasEdge H u f → ⊥) → ((w : ℕ) → HasEdge H (lastOf f os) w → ⊥)
+      → spelled H (f ∷ os) ≡ x → v ≡ x
   unfolding spelled concat lastOf nodeCount vertexSequence
   says-H zero [] h a b e = absurd (b 1 the-edge)
   says-H (suc zero) [] h a b e = absurd (a 0 the-edge)
@@ -143,7 +169,8 @@ module _ (g : Graph) (sound : Sound g) (v : List ℕ) (is : g .verts ≡ v ∷ [
     λ w. spells-as (says-H (w .first) (w .others) (w .path) (w .source) (w .sink) (w .spell)) spells-v,
   )
 
-sink-big : (k : ℕ) (vs : List (List ℕ)) (es : List Edge) → (length vs ≡ 1 → ⊥) → withDummyVertex record { k = k; verts = vs; edges = es } ≡ record { k = k; verts = vs; edges = es }
+sink-big : (k : ℕ) (vs : List (List ℕ)) (es : List Edge) → (length vs ≡ 1 → ⊥) → withDummyVertex record { k = k; verts = vs; edges = es }
+    ≡ record { k = k; verts = vs; edges = es }
 unfolding withDummyVertex
 sink-big k [] es n = refl
 sink-big k (v ∷ []) es n = absurd (n refl)
@@ -152,7 +179,8 @@ sink-big k (v ∷ w ∷ ws) es n = refl
 pub sink-nil : (g : Graph) → g .verts ≡ [] → withDummyVertex g ≡ g
 sink-nil g t = sink-big (g .k) (g .verts) (g .edges) (λ e. omega (arith, ap length t))
 
-pub sink-one : (g : Graph) (v : List ℕ) → g .verts ≡ v ∷ [] → withDummyVertex g ≡ record { k = g .k; verts = v ∷ [] ∷ []; edges = record { from = 0; to = 1; support = 0; isRef = true } ∷ [] }
+pub sink-one : (g : Graph) (v : List ℕ) → g .verts ≡ v ∷ [] → withDummyVertex g
+    ≡ record { k = g .k; verts = v ∷ [] ∷ []; edges = record { from = 0; to = 1; support = 0; isRef = true } ∷ [] }
 unfolding withDummyVertex
 sink-one g v t = rw (t, withDummyVertex)
 
@@ -188,7 +216,8 @@ finish-chosen h (some s) none e = absurd (omega (arith, bad))
     bad = cc
 finish-chosen h (some s) (some t) e = (s, t, refl, refl)
 
-finish-is : (h : Work) (a b : Option ℕ) (s t : ℕ) → a ≡ some s → b ≡ some t → (afterChoice h a b) .graph ≡ withDummyVertex ((simplifyGraphFull 10 (removePathsNotConnectedToRef (h .graph) s t)) .graph)
+finish-is : (h : Work) (a b : Option ℕ) (s t : ℕ) → a ≡ some s → b ≡ some t → (afterChoice h a b) .graph
+    ≡ withDummyVertex ((simplifyGraphFull 10 (removePathsNotConnectedToRef (h .graph) s t)) .graph)
 unfolding afterChoice
 finish-is h a b s t p q = rw (p, q)
 
@@ -203,19 +232,24 @@ finish-plain h (some s) (some t) e = absurd (omega (arith, bad))
 
 pub chosen : (g : Graph) → (cleanupSeqGraph g) .status ≡ someVariation → Choice (choiceGraph g)
 unfolding cleanupSeqGraph choiceGraph
-chosen g e = let z = finish-chosen (beforeChoice g) (referenceSourceVertex (choiceGraph g)) (referenceSinkVertex (choiceGraph g)) e in record { source = z .0; sink = z .1; isSource = z .2; isSink = z .3 }
+chosen g e = let z = finish-chosen (beforeChoice g) (referenceSourceVertex (choiceGraph g)) (referenceSinkVertex (choiceGraph g)) e in
+    record { source = z .0; sink = z .1; isSource = z .2; isSink = z .3 }
 
 -- with status 1 the answer is the graph of the choice
 pub cleanup-plain : (g : Graph) → (cleanupSeqGraph g) .status ≡ justReference → (cleanupSeqGraph g) .graph ≡ choiceGraph g
 unfolding cleanupSeqGraph choiceGraph
 cleanup-plain g e = finish-plain (beforeChoice g) (referenceSourceVertex (choiceGraph g)) (referenceSinkVertex (choiceGraph g)) e
 
-pub cleanup-is : (g : Graph) (c : Choice (choiceGraph g)) → (cleanupSeqGraph g) .graph ≡ withDummyVertex ((simplifyGraphFull 10 (removePathsNotConnectedToRef (choiceGraph g) (c .source) (c .sink))) .graph)
+pub cleanup-is : (g : Graph) (c : Choice (choiceGraph g)) → (cleanupSeqGraph g) .graph
+    ≡ withDummyVertex ((simplifyGraphFull 10 (removePathsNotConnectedToRef (choiceGraph g) (c .source) (c .sink))) .graph)
 unfolding cleanupSeqGraph choiceGraph
-cleanup-is g c = finish-is (beforeChoice g) (referenceSourceVertex (choiceGraph g)) (referenceSinkVertex (choiceGraph g)) (c .source) (c .sink) (c .isSource) (c .isSink)
+cleanup-is g c = finish-is (beforeChoice g) (referenceSourceVertex (choiceGraph g)) (referenceSinkVertex (choiceGraph g)) (c .source)
+    (c .sink) (c .isSource) (c .isSink)
 
 -- THE STRINGS, for any graph in which a choice is made
-pub finished-spells : (h : Graph) → Good h → (c : Choice h) (x : List ℕ) → Spells (withDummyVertex ((simplifyGraphFull 10 (removePathsNotConnectedToRef h (c .source) (c .sink))) .graph)) x ↔ SpellsBetween h (c .source) (c .sink) x
+pub finished-spells : (h : Graph) → Good h → (c : Choice h) (x : List ℕ)
+    → Spells (withDummyVertex ((simplifyGraphFull 10 (removePathsNotConnectedToRef h (c .source) (c .sink))) .graph)) x
+    ↔ SpellsBetween h (c .source) (c .sink) x
 finished-spells h (z, o) c x =
     let s = c .source in
     let t = c .sink in
@@ -228,10 +262,12 @@ finished-spells h (z, o) c x =
     let e = withSink-spells ((simplifyGraphFull 10 m) .graph) ((Rattle.laws.proofs.Whole.simplify-keeps m ms) .sound) x in
     (λ w. b .0 (d .1 (e .1 w)), λ a. e .0 (d .0 (b .1 a)))
 
-pub cleanup-spells : (g : Graph) → Good g → (c : Choice (choiceGraph g)) (x : List ℕ) → Spells ((cleanupSeqGraph g) .graph) x ↔ SpellsBetween (choiceGraph g) (c .source) (c .sink) x
+pub cleanup-spells : (g : Graph) → Good g → (c : Choice (choiceGraph g)) (x : List ℕ) → Spells ((cleanupSeqGraph g) .graph) x
+    ↔ SpellsBetween (choiceGraph g) (c .source) (c .sink) x
 cleanup-spells g h c x = rw (cleanup-is g c) (finished-spells (choiceGraph g) (choice-good g h) c x)
 
-pub cleanup-varies : (g : Graph) → Good g → (cleanupSeqGraph g) .status ≡ someVariation → (c : Choice (choiceGraph g)) × ((x : List ℕ) → Spells ((cleanupSeqGraph g) .graph) x ↔ SpellsBetween (choiceGraph g) (c .source) (c .sink) x)
+pub cleanup-varies : (g : Graph) → Good g → (cleanupSeqGraph g) .status ≡ someVariation → (c : Choice (choiceGraph g))
+    × ((x : List ℕ) → Spells ((cleanupSeqGraph g) .graph) x ↔ SpellsBetween (choiceGraph g) (c .source) (c .sink) x)
 cleanup-varies g h e = (chosen g e, cleanup-spells g h (chosen g e))
 
 -- a sink that can't be reached: the answer is empty
@@ -251,7 +287,8 @@ pub between-good : (h : Graph) (s t : ℕ) → Good h → Good (removePathsNotCo
 unfolding removePathsNotConnectedToRef
 between-good h s t k = restrict-good _ h k
 
-pub cleanup-empty : (g : Graph) → Good g → (c : Choice (choiceGraph g)) → elemOf (c .sink) (reached forward (choiceGraph g) (c .source)) ≡ false → nodeCount ((cleanupSeqGraph g) .graph) ≡ 0
+pub cleanup-empty : (g : Graph) → Good g → (c : Choice (choiceGraph g)) → elemOf (c .sink) (reached forward (choiceGraph g) (c .source))
+    ≡ false → nodeCount ((cleanupSeqGraph g) .graph) ≡ 0
 cleanup-empty g h c e = rw (cleanup-is g c)
     (let k = choice-good g h in
     let z = k .0 in

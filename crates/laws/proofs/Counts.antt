@@ -74,7 +74,8 @@ module _ {A : Type 0} where
       (λ t. rw (keepAt-yes p i x xs t, keepAt-yes q i x xs (h i (omega arith) ∙ t), ih))
       (λ t. rw (keepAt-no p i x xs t, keepAt-no q i x xs (h i (omega arith) ∙ t), ih))
 
-  keepAt-point : (f : A → ℕ) (p q : ℕ → Bool) (d : A) (xs : List A) (i j : ℕ) → j < length xs → ((v : ℕ) → (v ≡ i + j → ⊥) → q v ≡ p v) → p (i + j) ≡ true → q (i + j) ≡ false
+  keepAt-point : (f : A → ℕ) (p q : ℕ → Bool) (d : A) (xs : List A) (i j : ℕ) → j < length xs → ((v : ℕ) → (v ≡ i + j → ⊥) → q v ≡ p v)
+      → p (i + j) ≡ true → q (i + j) ≡ false
       → total f (keepAt p i xs) ≡ f (getD xs j d) + total f (keepAt q i xs)
   unfolding total
   keepAt-point f p q d [] i j h same t u = absurd (not-suc-le-zero h)
@@ -141,7 +142,8 @@ module _ (p : ℕ → Bool) where
   abbrev both : Edge → Bool
   both e = p (e .from) && p (e .to)
 
-  apart : (es : List Edge) (e : Edge) → both e ≡ true → Linked (map (remapEdge p) (keepIf both es)) (rank p (e .from)) (rank p (e .to)) → Linked es (e .from) (e .to)
+  apart : (es : List Edge) (e : Edge) → both e ≡ true → Linked (map (remapEdge p) (keepIf both es)) (rank p (e .from)) (rank p (e .to))
+      → Linked es (e .from) (e .to)
   unfolding remapEdge
   apart es e t (f, m, a, b) =
       let k = Memᴰ·of-map (remapEdge p) _ m in
@@ -173,10 +175,15 @@ module _ (p : ℕ → Bool) where
   pub count-raiseAll : (ns es : List Edge) → length (keepIf both (addOrUpdateEdges ns es)) ≤ length ns + length (keepIf both es)
   unfolding addOrUpdateEdges
   count-raiseAll [] es = omega arith
-  count-raiseAll (n ∷ ns) es = omega (arith, count-raiseAll ns (addOrUpdateEdge (n .from) (n .to) (n .support) (n .isRef) es), count-raise (n .from) (n .to) (n .support) (n .isRef) es)
+  count-raiseAll (n ∷ ns) es = omega (
+    arith,
+    count-raiseAll ns (addOrUpdateEdge (n .from) (n .to) (n .support) (n .isRef) es),
+    count-raise (n .from) (n .to) (n .support) (n .isRef) es,
+  )
 
 -- the members that pass one of several tests
-pub length-flat : {A B : Type 0} (q : B → A → Bool) (es : List A) (vs : List B) → length (concat (map (λ v. keepIf (q v) es) vs)) ≡ total (λ e. total (λ v. bit (q v e)) vs) es
+pub length-flat : {A B : Type 0} (q : B → A → Bool) (es : List A) (vs : List B) → length (concat (map (λ v. keepIf (q v) es) vs))
+    ≡ total (λ e. total (λ v. bit (q v e)) vs) es
 unfolding concat total
 length-flat q es [] = sym (total-zero es)
 length-flat q es (v ∷ vs) =
@@ -242,11 +249,14 @@ module _ (p : ℕ → Bool) where
   gone-raise u v s r [] a b = rw (a, b)
   gone-raise u v s r (e ∷ es) a b = byTest (hasEnds u v e)
       (λ t. rw (raise-yes u v s r e es t) (gone-cons _ es ∙ sym (gone-cons e es)))
-      (λ t. rw (raise-no u v s r e es t) (gone-cons e (addOrUpdateEdge u v s r es) ∙ (ap (λ z. bit (goes e) + z) (gone-raise u v s r es a b) ∙ sym (gone-cons e es))))
+      (λ t. rw (raise-no u v s r e es t) (gone-cons e (addOrUpdateEdge u v s r es)
+      ∙ (ap (λ z. bit (goes e) + z) (gone-raise u v s r es a b) ∙ sym (gone-cons e es))))
 
-  pub gone-raiseAll : (ns es : List Edge) → ((n : Edge) → List·Memᴰ n ns → (p (n .from) ≡ true) × (p (n .to) ≡ true)) → length (keepIf goes (addOrUpdateEdges ns es)) ≡ length (keepIf goes es)
+  pub gone-raiseAll : (ns es : List Edge) → ((n : Edge) → List·Memᴰ n ns → (p (n .from) ≡ true) × (p (n .to) ≡ true))
+      → length (keepIf goes (addOrUpdateEdges ns es)) ≡ length (keepIf goes es)
   unfolding addOrUpdateEdges
   gone-raiseAll [] es k = refl
   gone-raiseAll (n ∷ ns) es k =
       let a = k n (List·Memᴰ·head refl) in
-      gone-raiseAll ns (addOrUpdateEdge (n .from) (n .to) (n .support) (n .isRef) es) (λ x m. k x (List·Memᴰ·tail m)) ∙ gone-raise (n .from) (n .to) (n .support) (n .isRef) es (a .0) (a .1)
+      gone-raiseAll ns (addOrUpdateEdge (n .from) (n .to) (n .support) (n .isRef) es) (λ x m. k x (List·Memᴰ·tail m))
+      ∙ gone-raise (n .from) (n .to) (n .support) (n .isRef) es (a .0) (a .1)

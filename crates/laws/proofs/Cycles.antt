@@ -40,12 +40,14 @@ pub anyOf-mem : {A : Type 0} (p : A → Bool) (l : List A) {x : A} → List·Mem
 unfolding anyOf
 anyOf-mem p [] m t = absurd (List·Memᴰ·not-nil m)
 anyOf-mem p (y ∷ ys) {x} m t =
-    byTest (p y) (λ e. rw (e, anyOf)) (λ e. rw (e, anyOf) (⊎-elim (λ (i : x ≡ y). clash (ap p (sym i) ∙ t) e) (λ n. anyOf-mem p ys n t) (List·Memᴰ·cases-cons m)))
+    byTest (p y) (λ e. rw (e, anyOf)) (λ e. rw (e, anyOf) (⊎-elim (λ (i : x ≡ y). clash (ap p (sym i) ∙ t) e) (λ n. anyOf-mem p ys n t)
+    (List·Memᴰ·cases-cons m)))
 
 pub mem-upFrom : (i n v : ℕ) → i ≤ v → v < i + n → List·Memᴰ v (upFrom i n)
 unfolding upFrom
 mem-upFrom i zero v h l = absurd (omega arith)
-mem-upFrom i (suc n) v h l = byTest (eqb v i) (λ t. List·Memᴰ·head (eqb-true v i t)) (λ t. let k = eqb-false v i t in List·Memᴰ·tail (mem-upFrom (suc i) n v (omega arith) (omega arith)))
+mem-upFrom i (suc n) v h l = byTest (eqb v i) (λ t. List·Memᴰ·head (eqb-true v i t)) (λ t. let k = eqb-false v i t in
+    List·Memᴰ·tail (mem-upFrom (suc i) n v (omega arith) (omega arith)))
 
 pub below-upFrom : (i n v : ℕ) → List·Memᴰ v (upFrom i n) → v < i + n
 unfolding upFrom
@@ -123,8 +125,15 @@ module _ (g : Graph) where
 
     pub ranked-or-closed : Ranks g rounds ⊎ Closed g
     ranked-or-closed = byTest (anyOf (alive (nodeCount g)) (upFrom 0 (nodeCount g)))
-        (λ t. let x = anyOf-true (alive (nodeCount g)) (upFrom 0 (nodeCount g)) t in inr (left-closes (x .0) (omega (arith, below-upFrom 0 (nodeCount g) (x .0) (x .1))) (x .2)))
+        (λ t. let x = anyOf-true (alive (nodeCount g)) (upFrom 0 (nodeCount g)) t in
+        inr (left-closes (x .0) (omega (arith, below-upFrom 0 (nodeCount g) (x .0) (x .1))) (x .2)))
         (λ t. inl λ u v l.
         let b : (u < nodeCount g) × (v < nodeCount g) = rw (l .2, l .3) at (bounded (l .0) (l .1)) in
-        let d : alive (nodeCount g) v ≡ false = byTest (alive (nodeCount g) v) (λ y. clash (anyOf-mem (alive (nodeCount g)) (upFrom 0 (nodeCount g)) (mem-upFrom 0 (nodeCount g) v (omega arith) (omega (arith, b .1))) y) t) (λ y. y) in
-        omega (arith, shift (λ i. alive i u) (λ i. alive i v) (alive-zero v (b .1)) (λ i y. alive-next i u v l y) (nodeCount g), rank-no (λ i. alive i v) (nodeCount g) d))
+        let d : alive (nodeCount g) v ≡ false = byTest (alive (nodeCount g) v) (λ y.
+        clash (anyOf-mem (alive (nodeCount g)) (upFrom 0 (nodeCount g))
+        (mem-upFrom 0 (nodeCount g) v (omega arith) (omega (arith, b .1))) y) t) (λ y. y) in
+        omega (
+          arith,
+          shift (λ i. alive i u) (λ i. alive i v) (alive-zero v (b .1)) (λ i y. alive-next i u v l y) (nodeCount g),
+          rank-no (λ i. alive i v) (nodeCount g) d,
+        ))

@@ -12,8 +12,10 @@ use lib.Dec.{eqb, ltb, leb}
 use lib.ListN.{length, getD, length-map, length-append, drop}
 use borrow.Author.Tests.{eqb-true, eq-eqb, ltb-true, leb-true, not-true}
 use Rattle.defs.specs.Lists.{keepIf, headOr, allOf, bit, commonPrefix, commonSuffix}
-use Rattle.defs.specs.SeqGraph.{Edge, Graph, nodeCount, vertexSequence, edgesInto, edgesFrom, outgoingNodes, outDegree, inDegree, Change, withAdditions, applyChange}
-use Rattle.defs.specs.Rewrites.{MidPlan, EdgeData, midPlan, hasRemaining, nonEmpty, prefixToSuffix, isNone, onlyIf, splitAndUpdateWith, splitAndUpdate, isDiamond, tryMergeDiamond, isTails, tryMergeTails}
+use Rattle.defs.specs.SeqGraph.{Edge, Graph, nodeCount, vertexSequence, edgesInto, edgesFrom, outgoingNodes, outDegree, inDegree, Change}
+use Rattle.defs.specs.SeqGraph.{withAdditions, applyChange}
+use Rattle.defs.specs.Rewrites.{MidPlan, EdgeData, midPlan, hasRemaining, nonEmpty, prefixToSuffix, isNone, onlyIf, splitAndUpdateWith}
+use Rattle.defs.specs.Rewrites.{splitAndUpdate, isDiamond, tryMergeDiamond, isTails, tryMergeTails}
 use Rattle.defs.specs.Strings.{HasEdge}
 use Rattle.laws.proofs.SplitForms.{splitOf, diamond-parts, tails-parts}
 use Rattle.laws.proofs.Walks.{Pt, start, at, stop, Go, byTest}
@@ -93,15 +95,18 @@ module _ (f : ℕ → MidPlan) (mids : List ℕ) where
       bad = cc
   consumed-some (p ∷ ps) x e = (p, List·Memᴰ·head refl)
 
-  pub left-at : (m : ℕ) → List·Memᴰ m mids → ((i : ℕ) × (i < length lefts) × (getD (map (λ p. p .remaining) lefts) i [] ≡ (f m) .remaining)) ⊎ (((f m) .remaining ≡ []) × (l : EdgeData) × (prefixToSuffix others ≡ some l))
+  pub left-at : (m : ℕ) → List·Memᴰ m mids → ((i : ℕ) × (i < length lefts) × (getD (map (λ p. p .remaining) lefts) i [] ≡ (f m) .remaining))
+      ⊎ (((f m) .remaining ≡ []) × (l : EdgeData) × (prefixToSuffix others ≡ some l))
   unfolding hasRemaining
   left-at m k = byTest (hasRemaining (f m))
-      (λ t. inl (let r = mem-at [] (Memᴰ·map (λ (p : MidPlan). p .remaining) (mem-keepIf hasRemaining (Memᴰ·map f k) t)) in (r .0, rw (length-map lefts (λ (p : MidPlan). p .remaining)) at (r .1), r .2)))
+      (λ t. inl (let r = mem-at [] (Memᴰ·map (λ (p : MidPlan). p .remaining) (mem-keepIf hasRemaining (Memᴰ·map f k) t)) in
+      (r .0, rw (length-map lefts (λ (p : MidPlan). p .remaining)) at (r .1), r .2)))
       (λ t. inr (let x = some-consumed others (mem-keepIf (λ p. not (hasRemaining p)) (Memᴰ·map f k) (rw t)) in (empty-is ((f m) .remaining) t, x .0, x .1)))
 
   pub of-left : (i : ℕ) → i < length lefts → (m : ℕ) × List·Memᴰ m mids × (getD (map (λ p. p .remaining) lefts) i [] ≡ (f m) .remaining)
   of-left i h =
-      let a = Memᴰ·of-map (λ (p : MidPlan). p .remaining) lefts (at-mem [] (map (λ (p : MidPlan). p .remaining) lefts) i (rw (length-map lefts (λ (p : MidPlan). p .remaining)) h)) in
+      let a = Memᴰ·of-map (λ (p : MidPlan). p .remaining) lefts
+      (at-mem [] (map (λ (p : MidPlan). p .remaining) lefts) i (rw (length-map lefts (λ (p : MidPlan). p .remaining)) h)) in
       let b = of-keepIf hasRemaining (map f mids) (a .1) in
       let d = Memᴰ·of-map f mids (b .0) in
       (d .0, d .1, sym (a .2) ∙ ap (λ (p : MidPlan). p .remaining) (sym (d .2)))
@@ -122,7 +127,8 @@ loads-le (p ∷ ps) = omega arith
 -- what both kinds have
 module _ (g : Graph) (bounded : Bounded g) (r : ℕ → ℕ) (ranks : Ranks g r) (top : ℕ) (bottom : Option ℕ)
     (onlyIn : (m : ℕ) → List·Memᴰ m (outgoingNodes g top) → inDegree g m ≡ 1) (two : 1 < length (outgoingNodes g top))
-    (exits : (m : ℕ) → List·Memᴰ m (outgoingNodes g top) → Go (netOf g) (at m) (exitOf bottom)) (onlyExit : (m : ℕ) (q : Pt) → List·Memᴰ m (outgoingNodes g top) → Go (netOf g) (at m) q → q ≡ exitOf bottom)
+    (exits : (m : ℕ) → List·Memᴰ m (outgoingNodes g top) → Go (netOf g) (at m) (exitOf bottom)) (onlyExit : (m : ℕ) (q : Pt)
+    → List·Memᴰ m (outgoingNodes g top) → Go (netOf g) (at m) q → q ≡ exitOf bottom)
     (wanted : List ℕ → List ℕ → Bool)
     (fuelFor : (p s : List ℕ) → wanted p s ≡ true → ((nonEmpty p ≡ true) ⊎ (nonEmpty s ≡ true)) × (nonEmpty s ≡ false → (b : ℕ) × (bottom ≡ some b)))
     (g′ : Graph) (did : splitOf g top bottom (outgoingNodes g top) wanted ≡ some g′) where
@@ -151,8 +157,10 @@ module _ (g : Graph) (bounded : Bounded g) (r : ℕ → ℕ) (ranks : Ranks g r)
   pub split-keeps : Keeps g g′
   unfolding splitAndUpdate
   split-keeps = rw (← is-wanted .1)
-      (S.split-keeps g bounded r ranks (nonEmpty prefix) (nonEmpty suffix) top bottom (keepIf hasRemaining (map plan mids)) (prefixToSuffix (keepIf (λ p. not (hasRemaining p)) (map plan mids))) prefix suffix mids
-      (empty-is prefix) (λ e. let b = (fuelFor prefix suffix (is-wanted .0)) .1 e in (empty-is suffix e, b .0, b .1)) ((fuelFor prefix suffix (is-wanted .0)) .0)
+      (S.split-keeps g bounded r ranks (nonEmpty prefix) (nonEmpty suffix) top bottom (keepIf hasRemaining (map plan mids))
+      (prefixToSuffix (keepIf (λ p. not (hasRemaining p)) (map plan mids))) prefix suffix mids
+      (empty-is prefix) (λ e. let b = (fuelFor prefix suffix (is-wanted .0)) .1 e in (empty-is suffix e, b .0, b .1))
+      ((fuelFor prefix suffix (is-wanted .0)) .0)
       (λ m. (plan m) .remaining) (λ m k. cut g mids m k prefix suffix refl refl)
       (left-at plan mids) (of-left plan mids) (of-gone plan mids)
       (λ m k. of-mem-outs g top m k) (λ u m k h. only-in g u top m (onlyIn m k) h (of-mem-outs g top m k)) some-mid
@@ -172,7 +180,8 @@ module _ (g : Graph) (bounded : Bounded g) (r : ℕ → ℕ) (ranks : Ranks g r)
   unfolding splitAndUpdate
   split-weight′ f d = rw (← is-wanted .1)
       (S.split-weight g bounded r ranks (nonEmpty prefix) (nonEmpty suffix) top bottom lefts′ (prefixToSuffix others′) prefix suffix mids
-      (empty-is prefix) (λ e. let b = (fuelFor prefix suffix (is-wanted .0)) .1 e in (empty-is suffix e, b .0, b .1)) ((fuelFor prefix suffix (is-wanted .0)) .0)
+      (empty-is prefix) (λ e. let b = (fuelFor prefix suffix (is-wanted .0)) .1 e in (empty-is suffix e, b .0, b .1))
+      ((fuelFor prefix suffix (is-wanted .0)) .0)
       (λ m. (plan m) .remaining) cut-all
       (left-at plan mids) (of-left plan mids) (of-gone plan mids)
       (λ m k. of-mem-outs g top m k) (λ u m k h. only-in g u top m (onlyIn m k) h (of-mem-outs g top m k)) some-mid
@@ -191,7 +200,8 @@ module _ (g : Graph) (bounded : Bounded g) (r : ℕ → ℕ) (ranks : Ranks g r)
   one-total (x ∷ l) = omega arith
 
   -- the bytes: for each middle but one a prefix and a suffix are saved
-  pub bytes-split : Distinct mids → total length (g′ .verts) + total (λ _. length prefix + length suffix) mids ≡ total length (g .verts) + (length prefix + length suffix)
+  pub bytes-split : Distinct mids → total length (g′ .verts) + total (λ _. length prefix + length suffix) mids ≡ total length (g .verts)
+      + (length prefix + length suffix)
   unfolding splitAndUpdate splitAndUpdateWith
   bytes-split d =
       let f : ℕ → ℕ = λ m. length ((plan m) .remaining) in
@@ -203,7 +213,13 @@ module _ (g : Graph) (bounded : Bounded g) (r : ℕ → ℕ) (ranks : Ranks g r)
         one-total prefix,
         one-total suffix,
         sum-left,
-        total-same (λ m. length (vertexSequence g m)) (λ m. (length prefix + length suffix) + f m) mids (λ m k. omega (arith, ap length (cut-all m k), length-append prefix ((plan m) .remaining ++ suffix), length-append ((plan m) .remaining) suffix)),
+        total-same (λ m. length (vertexSequence g m)) (λ m. (length prefix + length suffix) + f m) mids (λ m k.
+            omega (
+              arith,
+              ap length (cut-all m k),
+              length-append prefix ((plan m) .remaining ++ suffix),
+              length-append ((plan m) .remaining) suffix,
+            )),
         total-add (λ _. length prefix + length suffix) f mids,
       )
 
@@ -225,7 +241,8 @@ module _ (g : Graph) (bounded : Bounded g) (r : ℕ → ℕ) (ranks : Ranks g r)
       let b = of-keepIf hasRemaining (map plan mids) (a .1) in
       heft-full x (ap nonEmpty (sym (a .2)) ∙ b .1))
 
-  pub heft-split : Distinct mids → total heft (g′ .verts) + total (λ _. length prefix + length suffix) mids ≤ total heft (g .verts) + (length prefix + length suffix)
+  pub heft-split : Distinct mids → total heft (g′ .verts) + total (λ _. length prefix + length suffix) mids ≤ total heft (g .verts)
+      + (length prefix + length suffix)
   unfolding splitAndUpdate splitAndUpdateWith
   heft-split d =
       let f : ℕ → ℕ = λ m. length ((plan m) .remaining) in
@@ -238,7 +255,14 @@ module _ (g : Graph) (bounded : Bounded g) (r : ℕ → ℕ) (ranks : Ranks g r)
         heft-one suffix,
         heft-lefts,
         sum-left,
-        total-le (λ m. (length prefix + length suffix) + f m) (λ m. heft (vertexSequence g m)) mids (λ m k. omega (arith, length-heft (vertexSequence g m), ap length (cut-all m k), length-append prefix ((plan m) .remaining ++ suffix), length-append ((plan m) .remaining) suffix)),
+        total-le (λ m. (length prefix + length suffix) + f m) (λ m. heft (vertexSequence g m)) mids (λ m k.
+            omega (
+              arith,
+              length-heft (vertexSequence g m),
+              ap length (cut-all m k),
+              length-append prefix ((plan m) .remaining ++ suffix),
+              length-append ((plan m) .remaining) suffix,
+            )),
         total-add (λ _. length prefix + length suffix) f mids,
       )
 
@@ -246,7 +270,8 @@ module _ (g : Graph) (bounded : Bounded g) (r : ℕ → ℕ) (ranks : Ranks g r)
   unfolding splitAndUpdate
   split-order′ d = rw (← is-wanted .1)
       (S.split-order g bounded r ranks (nonEmpty prefix) (nonEmpty suffix) top bottom lefts′ (prefixToSuffix others′) prefix suffix mids
-      (empty-is prefix) (λ e. let b = (fuelFor prefix suffix (is-wanted .0)) .1 e in (empty-is suffix e, b .0, b .1)) ((fuelFor prefix suffix (is-wanted .0)) .0)
+      (empty-is prefix) (λ e. let b = (fuelFor prefix suffix (is-wanted .0)) .1 e in (empty-is suffix e, b .0, b .1))
+      ((fuelFor prefix suffix (is-wanted .0)) .0)
       (λ m. (plan m) .remaining) cut-all
       (left-at plan mids) (of-left plan mids) (of-gone plan mids)
       (λ m k. of-mem-outs g top m k) (λ u m k h. only-in g u top m (onlyIn m k) h (of-mem-outs g top m k)) some-mid
@@ -256,20 +281,23 @@ module _ (g : Graph) (bounded : Bounded g) (r : ℕ → ℕ) (ranks : Ranks g r)
   unfolding splitAndUpdate
   split-sinks d = rw (← is-wanted .1)
       (S.sinks-split g bounded r ranks (nonEmpty prefix) (nonEmpty suffix) top bottom lefts′ (prefixToSuffix others′) prefix suffix mids
-      (empty-is prefix) (λ e. let b = (fuelFor prefix suffix (is-wanted .0)) .1 e in (empty-is suffix e, b .0, b .1)) ((fuelFor prefix suffix (is-wanted .0)) .0)
+      (empty-is prefix) (λ e. let b = (fuelFor prefix suffix (is-wanted .0)) .1 e in (empty-is suffix e, b .0, b .1))
+      ((fuelFor prefix suffix (is-wanted .0)) .0)
       (λ m. (plan m) .remaining) cut-all
       (left-at plan mids) (of-left plan mids) (of-gone plan mids)
       (λ m k. of-mem-outs g top m k) (λ u m k h. only-in g u top m (onlyIn m k) h (of-mem-outs g top m k)) some-mid
       exits onlyExit d)
 
   abbrev pub Room : Change → Type 0
-  Room d = (applyChange g d ≡ g′) × (nodeCount (withAdditions d g) ≤ nodeCount g′ + nodeCount g) × (length ((withAdditions d g) .edges) ≤ length (g′ .edges) + length (g .edges))
+  Room d = (applyChange g d ≡ g′) × (nodeCount (withAdditions d g) ≤ nodeCount g′ + nodeCount g)
+      × (length ((withAdditions d g) .edges) ≤ length (g′ .edges) + length (g .edges))
 
   pub room-split : Distinct mids → Room c
   unfolding splitAndUpdate
   room-split d =
       let z = S.split-room g bounded r ranks (nonEmpty prefix) (nonEmpty suffix) top bottom lefts′ (prefixToSuffix others′) prefix suffix mids
-      (empty-is prefix) (λ e. let b = (fuelFor prefix suffix (is-wanted .0)) .1 e in (empty-is suffix e, b .0, b .1)) ((fuelFor prefix suffix (is-wanted .0)) .0)
+      (empty-is prefix) (λ e. let b = (fuelFor prefix suffix (is-wanted .0)) .1 e in (empty-is suffix e, b .0, b .1))
+      ((fuelFor prefix suffix (is-wanted .0)) .0)
       (λ m. (plan m) .remaining) cut-all
       (left-at plan mids) (of-left plan mids) (of-gone plan mids)
       (λ m k. of-mem-outs g top m k) (λ u m k h. only-in g u top m (onlyIn m k) h (of-mem-outs g top m k)) some-mid
@@ -281,7 +309,8 @@ module _ (g : Graph) (bounded : Bounded g) (r : ℕ → ℕ) (ranks : Ranks g r)
   plans-are = omega (arith, length-parts hasRemaining (map plan mids), length-map mids plan, loads-le others′)
 
   -- edges less vertices, by what the middles lead to
-  pub surplus-split : Distinct mids → length (g′ .edges) + nodeCount g + total (outDegree g) mids + bit (nonEmpty suffix) ≤ length (g .edges) + nodeCount g′ + bit (nonEmpty suffix && not (isNone bottom)) + length mids
+  pub surplus-split : Distinct mids → length (g′ .edges) + nodeCount g + total (outDegree g) mids
+      + bit (nonEmpty suffix) ≤ length (g .edges) + nodeCount g′ + bit (nonEmpty suffix && not (isNone bottom)) + length mids
   unfolding splitAndUpdate
   surplus-split d =
       omega (
@@ -317,14 +346,21 @@ diamond-keeps g g′ top sound did =
     let a = and-split (ltb 1 (length mids)) _ (h .0) in
     let d = and-split (allOf (λ m. eqb (inDegree g m) 1 && (ltb 0 (outDegree g m) && allOf (eqb b) (outgoingNodes g m))) mids) _ (a .1) in
     let each : (m : ℕ) → List·Memᴰ m mids → (inDegree g m ≡ 1) × (0 < outDegree g m) × (allOf (eqb b) (outgoingNodes g m) ≡ true) = λ m k.
-    let x = and-split (eqb (inDegree g m) 1) _ (allOf-mem (λ m. eqb (inDegree g m) 1 && (ltb 0 (outDegree g m) && allOf (eqb b) (outgoingNodes g m))) mids (d .0) k) in
+    let x = and-split (eqb (inDegree g m) 1) _ (allOf-mem (λ m. eqb (inDegree g m) 1
+    && (ltb 0 (outDegree g m) && allOf (eqb b) (outgoingNodes g m))) mids (d .0) k) in
     let y = and-split (ltb 0 (outDegree g m)) _ (x .1) in
     (eqb-true _ _ (x .0), ltb-true _ _ (y .0), y .1) in
-    let exit : (m v : ℕ) → List·Memᴰ m mids → HasEdge g m v → v ≡ b = λ m v k l. sym (eqb-true b v (allOf-mem (eqb b) (outgoingNodes g m) ((each m k) .2) (mem-outs g m v l))) in
+    let exit : (m v : ℕ) → List·Memᴰ m mids → HasEdge g m v → v ≡ b = λ m v k l.
+    sym (eqb-true b v (allOf-mem (eqb b) (outgoingNodes g m) ((each m k) .2) (mem-outs g m v l))) in
     split-keeps g (sound .bounded) (sound .rank) (sound .ranks) top (some b)
     (λ m k. (each m k) .0) (ltb-true _ _ (a .0))
     (λ m k. let o = some-out g m ((each m k) .1) in rw (exit m (o .0) k (o .1)) at (o .1))
-    (λ m. elim [ start ↦ λ k l. absurd l | at v ↦ λ k l. ap at (exit m v k l) | stop ↦ λ k l. let o = some-out g m ((each m k) .1) in absurd (l .1 (o .0) (o .1)) ])
+    (λ m. elim [
+      | start ↦ λ k l. absurd l
+      | at v ↦ λ k l. ap at (exit m v k l)
+      | stop ↦ λ k l. let o = some-out g m ((each m k) .1) in
+          absurd (l .1 (o .0) (o .1))
+    ])
     (λ p s. nonEmpty p || nonEmpty s) (λ p s t. (or-cases _ _ t, λ _. (b, refl)))
     g′ (h .1)
 
@@ -387,23 +423,30 @@ module _ (least : ℕ) (pos : 3 < least) (g g′ : Graph) (top : ℕ) (sound : S
   onlyExit m (at v) k l = absurd (no-out g m v (((tests .1) m k) .0) l)
   onlyExit m stop k l = refl
 
-  enough′ : (p s : List ℕ) → leb least (length s) ≡ true → ((nonEmpty p ≡ true) ⊎ (nonEmpty s ≡ true)) × (nonEmpty s ≡ false → (b : ℕ) × (_≡_ {A = Option ℕ} none (some b)))
+  enough′ : (p s : List ℕ) → leb least (length s) ≡ true → ((nonEmpty p ≡ true) ⊎ (nonEmpty s ≡ true))
+      × (nonEmpty s ≡ false → (b : ℕ) × (_≡_ {A = Option ℕ} none (some b)))
   enough′ p s t = let n = leb-true least (length s) t in (inr (long-is s (omega arith)), λ e. clash (long-is s (omega arith)) e)
 
   abbrev pre : List ℕ
-  pre = prefix g (sound .bounded) (sound .rank) (sound .ranks) top none (λ m k. ((tests .1) m k) .1) (tests .0) exits onlyExit (λ p s. leb least (length s)) enough′ g′ (parts .1)
+  pre = prefix g (sound .bounded) (sound .rank) (sound .ranks) top none (λ m k. ((tests .1) m k) .1) (tests .0) exits onlyExit (λ p s.
+      leb least (length s)) enough′ g′ (parts .1)
 
   abbrev suf : List ℕ
-  suf = suffix g (sound .bounded) (sound .rank) (sound .ranks) top none (λ m k. ((tests .1) m k) .1) (tests .0) exits onlyExit (λ p s. leb least (length s)) enough′ g′ (parts .1)
+  suf = suffix g (sound .bounded) (sound .rank) (sound .ranks) top none (λ m k. ((tests .1) m k) .1) (tests .0) exits onlyExit (λ p s.
+      leb least (length s)) enough′ g′ (parts .1)
 
   bytes-tails : total length (g′ .verts) + total (λ _. length pre + length suf) tails ≡ total length (g .verts) + (length pre + length suf)
-  bytes-tails = bytes-split g (sound .bounded) (sound .rank) (sound .ranks) top none (λ m k. ((tests .1) m k) .1) (tests .0) exits onlyExit (λ p s. leb least (length s)) enough′ g′ (parts .1) (distinct-outs g top once)
+  bytes-tails = bytes-split g (sound .bounded) (sound .rank) (sound .ranks) top none (λ m k. ((tests .1) m k) .1) (tests .0) exits onlyExit
+      (λ p s. leb least (length s)) enough′ g′ (parts .1) (distinct-outs g top once)
 
-  surplus-tails : length (g′ .edges) + nodeCount g + total (outDegree g) tails + bit (nonEmpty suf) ≤ length (g .edges) + nodeCount g′ + bit (nonEmpty suf && not (isNone none)) + length tails
-  surplus-tails = surplus-split g (sound .bounded) (sound .rank) (sound .ranks) top none (λ m k. ((tests .1) m k) .1) (tests .0) exits onlyExit (λ p s. leb least (length s)) enough′ g′ (parts .1) (distinct-outs g top once)
+  surplus-tails : length (g′ .edges) + nodeCount g + total (outDegree g) tails + bit (nonEmpty suf) ≤ length (g .edges) + nodeCount g′
+      + bit (nonEmpty suf && not (isNone none)) + length tails
+  surplus-tails = surplus-split g (sound .bounded) (sound .rank) (sound .ranks) top none (λ m k. ((tests .1) m k) .1) (tests .0) exits
+      onlyExit (λ p s. leb least (length s)) enough′ g′ (parts .1) (distinct-outs g top once)
 
   long : least ≤ length suf
-  long = leb-true least (length suf) ((is-wanted g (sound .bounded) (sound .rank) (sound .ranks) top none (λ m k. ((tests .1) m k) .1) (tests .0) exits onlyExit (λ p s. leb least (length s)) enough′ g′ (parts .1)) .0)
+  long = leb-true least (length suf) ((is-wanted g (sound .bounded) (sound .rank) (sound .ranks) top none (λ m k. ((tests .1) m k) .1)
+      (tests .0) exits onlyExit (λ p s. leb least (length s)) enough′ g′ (parts .1)) .0)
 
   no-bottom : bit (nonEmpty suf && not (isNone none)) ≡ 0
   unfolding isNone
@@ -415,15 +458,32 @@ module _ (least : ℕ) (pos : 3 < least) (g g′ : Graph) (top : ℕ) (sound : S
 
   pub tails-surplus : length (g′ .edges) + nodeCount g + total length (g′ .verts) / 4 ≤ length (g .edges) + nodeCount g′ + total length (g .verts) / 4
   tails-surplus =
-      omega (arith, bytes-tails, surplus-tails, no-bottom, one-suffix, tests .0, total-const (length pre + length suf) tails 4 (omega (arith, long)) (omega (arith, tests .0)), total-times 4 tails)
+      omega (
+        arith,
+        bytes-tails,
+        surplus-tails,
+        no-bottom,
+        one-suffix,
+        tests .0,
+        total-const (length pre + length suf) tails 4 (omega (arith, long)) (omega (arith, tests .0)),
+        total-times 4 tails,
+      )
 
   pub tails-bytes-fall : total length (g′ .verts) < total length (g .verts)
-  tails-bytes-fall = omega (arith, bytes-tails, total-const (length pre + length suf) tails 4 (omega (arith, long)) (omega (arith, tests .0)), total-times 4 tails, tests .0)
+  tails-bytes-fall = omega (
+    arith,
+    bytes-tails,
+    total-const (length pre + length suf) tails 4 (omega (arith, long))
+        (omega (arith, tests .0)),
+    total-times 4 tails,
+    tests .0,
+  )
 
   pub tails-heft : total heft (g′ .verts) < total heft (g .verts)
   tails-heft = omega (
     arith,
-    heft-split g (sound .bounded) (sound .rank) (sound .ranks) top none (λ m k. ((tests .1) m k) .1) (tests .0) exits onlyExit (λ p s. leb least (length s)) enough′ g′ (parts .1) (distinct-outs g top once),
+    heft-split g (sound .bounded) (sound .rank) (sound .ranks) top none (λ m k. ((tests .1) m k) .1) (tests .0) exits onlyExit (λ p s.
+        leb least (length s)) enough′ g′ (parts .1) (distinct-outs g top once),
     total-const (length pre + length suf) tails 4 (omega (arith, long)) (omega (arith, tests .0)),
     total-times 4 tails,
     tests .0,
@@ -450,14 +510,17 @@ module _ (least : ℕ) (pos : 3 < least) (g g′ : Graph) (top : ℕ) (sound : S
         no-bottom,
         one-suffix,
         none-out,
-        split-sinks g (sound .bounded) (sound .rank) (sound .ranks) top none (λ m k. ((tests .1) m k) .1) (tests .0) exits onlyExit (λ p s. leb least (length s)) enough′ g′ (parts .1) (distinct-outs g top once),
+        split-sinks g (sound .bounded) (sound .rank) (sound .ranks) top none (λ m k. ((tests .1) m k) .1) (tests .0) exits onlyExit (λ p s.
+            leb least (length s)) enough′ g′ (parts .1) (distinct-outs g top once),
         total-same (λ v. bit (ends g v)) (λ _. 1) tails all-end,
         total-one tails,
         is-none,
       )
 
-  pub tails-room : (d : Change) × (applyChange g d ≡ g′) × (nodeCount (withAdditions d g) ≤ nodeCount g′ + nodeCount g) × (length ((withAdditions d g) .edges) ≤ length (g′ .edges) + length (g .edges))
-  tails-room = let z = room-split g (sound .bounded) (sound .rank) (sound .ranks) top none (λ m k. ((tests .1) m k) .1) (tests .0) exits onlyExit (λ p s. leb least (length s)) enough′ g′ (parts .1) (distinct-outs g top once) in (_, z .0, z .1, z .2)
+  pub tails-room : (d : Change) × (applyChange g d ≡ g′) × (nodeCount (withAdditions d g) ≤ nodeCount g′ + nodeCount g)
+      × (length ((withAdditions d g) .edges) ≤ length (g′ .edges) + length (g .edges))
+  tails-room = let z = room-split g (sound .bounded) (sound .rank) (sound .ranks) top none (λ m k. ((tests .1) m k) .1) (tests .0) exits
+      onlyExit (λ p s. leb least (length s)) enough′ g′ (parts .1) (distinct-outs g top once) in (_, z .0, z .1, z .2)
 
 pub or-long : (a b : List ℕ) → (nonEmpty a || nonEmpty b) ≡ true → 1 ≤ length a + length b
 unfolding nonEmpty
@@ -486,7 +549,8 @@ module _ (g g′ : Graph) (top : ℕ) (sound : Sound g) (once : Single (g .edges
       let d = and-split (allOf (λ m. eqb (inDegree g m) 1 && (ltb 0 (outDegree g m) && allOf (eqb foot) (outgoingNodes g m))) midsᵈ) _ (a .1) in (
         ltb-true _ _ (a .0),
         λ m k.
-            let x = and-split (eqb (inDegree g m) 1) _ (allOf-mem (λ m. eqb (inDegree g m) 1 && (ltb 0 (outDegree g m) && allOf (eqb foot) (outgoingNodes g m))) midsᵈ (d .0) k) in
+            let x = and-split (eqb (inDegree g m) 1) _ (allOf-mem (λ m. eqb (inDegree g m) 1
+            && (ltb 0 (outDegree g m) && allOf (eqb foot) (outgoingNodes g m))) midsᵈ (d .0) k) in
             let y = and-split (ltb 0 (outDegree g m)) _ (x .1) in
             (eqb-true _ _ (x .0), ltb-true _ _ (y .0), y .1),
       )
@@ -502,7 +566,8 @@ module _ (g g′ : Graph) (top : ℕ) (sound : Sound g) (once : Single (g .edges
   onlyExitᵈ m (at v) k l = ap at (exitᵈ m v k l)
   onlyExitᵈ m stop k l = let o = some-out g m (((testsᵈ .1) m k) .1) in absurd (l .1 (o .0) (o .1))
 
-  enoughᵈ : (p s : List ℕ) → both p s ≡ true → ((nonEmpty p ≡ true) ⊎ (nonEmpty s ≡ true)) × (nonEmpty s ≡ false → (b : ℕ) × (_≡_ {A = Option ℕ} (some foot) (some b)))
+  enoughᵈ : (p s : List ℕ) → both p s ≡ true → ((nonEmpty p ≡ true) ⊎ (nonEmpty s ≡ true))
+      × (nonEmpty s ≡ false → (b : ℕ) × (_≡_ {A = Option ℕ} (some foot) (some b)))
   enoughᵈ p s t = (or-cases _ _ t, λ _. (foot, refl))
 
   abbrev preᵈ : List ℕ
@@ -512,16 +577,27 @@ module _ (g g′ : Graph) (top : ℕ) (sound : Sound g) (once : Single (g .edges
   sufᵈ = commonSuffix (map (drop (length preᵈ)) (map (vertexSequence g) midsᵈ))
 
   longᵈ : 1 ≤ length preᵈ + length sufᵈ
-  longᵈ = or-long preᵈ sufᵈ ((is-wanted g (sound .bounded) (sound .rank) (sound .ranks) top (some foot) (λ m k. ((testsᵈ .1) m k) .0) (testsᵈ .0) exitsᵈ onlyExitᵈ both enoughᵈ g′ (partsᵈ .1)) .0)
+  longᵈ = or-long preᵈ sufᵈ ((is-wanted g (sound .bounded) (sound .rank) (sound .ranks) top (some foot) (λ m k. ((testsᵈ .1) m k) .0)
+      (testsᵈ .0) exitsᵈ onlyExitᵈ both enoughᵈ g′ (partsᵈ .1)) .0)
 
   savedᵈ : length preᵈ + length sufᵈ + 1 ≤ total (λ _. length preᵈ + length sufᵈ) midsᵈ
   savedᵈ = omega (arith, total-const (length preᵈ + length sufᵈ) midsᵈ 1 longᵈ (omega (arith, testsᵈ .0)), total-times 1 midsᵈ, testsᵈ .0)
 
   pub diamond-bytes : total length (g′ .verts) < total length (g .verts)
-  diamond-bytes = omega (arith, savedᵈ, bytes-split g (sound .bounded) (sound .rank) (sound .ranks) top (some foot) (λ m k. ((testsᵈ .1) m k) .0) (testsᵈ .0) exitsᵈ onlyExitᵈ both enoughᵈ g′ (partsᵈ .1) (distinct-outs g top once))
+  diamond-bytes = omega (
+    arith,
+    savedᵈ,
+    bytes-split g (sound .bounded) (sound .rank) (sound .ranks) top (some foot) (λ m k.
+        ((testsᵈ .1) m k) .0) (testsᵈ .0) exitsᵈ onlyExitᵈ both enoughᵈ g′ (partsᵈ .1) (distinct-outs g top once),
+  )
 
   pub diamond-heft : total heft (g′ .verts) < total heft (g .verts)
-  diamond-heft = omega (arith, savedᵈ, heft-split g (sound .bounded) (sound .rank) (sound .ranks) top (some foot) (λ m k. ((testsᵈ .1) m k) .0) (testsᵈ .0) exitsᵈ onlyExitᵈ both enoughᵈ g′ (partsᵈ .1) (distinct-outs g top once))
+  diamond-heft = omega (
+    arith,
+    savedᵈ,
+    heft-split g (sound .bounded) (sound .rank) (sound .ranks) top (some foot) (λ m k.
+        ((testsᵈ .1) m k) .0) (testsᵈ .0) exitsᵈ onlyExitᵈ both enoughᵈ g′ (partsᵈ .1) (distinct-outs g top once),
+  )
 
   has-foot : (b : Bool) → bit (b && not (isNone (some foot))) ≡ bit b
   unfolding isNone bit
@@ -532,7 +608,8 @@ module _ (g g′ : Graph) (top : ℕ) (sound : Sound g) (once : Single (g .edges
   diamond-surplus =
       omega (
         arith,
-        surplus-split g (sound .bounded) (sound .rank) (sound .ranks) top (some foot) (λ m k. ((testsᵈ .1) m k) .0) (testsᵈ .0) exitsᵈ onlyExitᵈ both enoughᵈ g′ (partsᵈ .1) (distinct-outs g top once),
+        surplus-split g (sound .bounded) (sound .rank) (sound .ranks) top (some foot) (λ m k. ((testsᵈ .1) m k) .0) (testsᵈ .0) exitsᵈ
+            onlyExitᵈ both enoughᵈ g′ (partsᵈ .1) (distinct-outs g top once),
         has-foot (nonEmpty sufᵈ),
         total-le (λ _. 1) (outDegree g) midsᵈ (λ m k. ((testsᵈ .1) m k) .1),
         total-one midsᵈ,
@@ -550,8 +627,11 @@ module _ (g g′ : Graph) (top : ℕ) (sound : Sound g) (once : Single (g .edges
         branching-is g′ ((diamond-keeps g g′ top sound did) .sound .bounded),
         diamond-surplus,
         not-none,
-        split-sinks g (sound .bounded) (sound .rank) (sound .ranks) top (some foot) (λ m k. ((testsᵈ .1) m k) .0) (testsᵈ .0) exitsᵈ onlyExitᵈ both enoughᵈ g′ (partsᵈ .1) (distinct-outs g top once),
+        split-sinks g (sound .bounded) (sound .rank) (sound .ranks) top (some foot) (λ m k. ((testsᵈ .1) m k) .0) (testsᵈ .0) exitsᵈ
+            onlyExitᵈ both enoughᵈ g′ (partsᵈ .1) (distinct-outs g top once),
       )
 
-  pub diamond-room : (d : Change) × (applyChange g d ≡ g′) × (nodeCount (withAdditions d g) ≤ nodeCount g′ + nodeCount g) × (length ((withAdditions d g) .edges) ≤ length (g′ .edges) + length (g .edges))
-  diamond-room = let z = room-split g (sound .bounded) (sound .rank) (sound .ranks) top (some foot) (λ m k. ((testsᵈ .1) m k) .0) (testsᵈ .0) exitsᵈ onlyExitᵈ both enoughᵈ g′ (partsᵈ .1) (distinct-outs g top once) in (_, z .0, z .1, z .2)
+  pub diamond-room : (d : Change) × (applyChange g d ≡ g′) × (nodeCount (withAdditions d g) ≤ nodeCount g′ + nodeCount g)
+      × (length ((withAdditions d g) .edges) ≤ length (g′ .edges) + length (g .edges))
+  diamond-room = let z = room-split g (sound .bounded) (sound .rank) (sound .ranks) top (some foot) (λ m k. ((testsᵈ .1) m k) .0)
+      (testsᵈ .0) exitsᵈ onlyExitᵈ both enoughᵈ g′ (partsᵈ .1) (distinct-outs g top once) in (_, z .0, z .1, z .2)

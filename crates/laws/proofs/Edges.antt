@@ -6,13 +6,15 @@ use native.Mathlib.Nat.{not-suc-le-zero}
 use mathlib.Core.Path.{_≡_, refl, sym, ap, _∙_, subst}
 use mathlib.Core.Logic.{_⊎_, inl, inr, ⊎-elim}
 use mathlib.Core.Bool.{Bool, true, false, _&&_, _||_, not, false≢true}
-use mathlib.Core.List.{List, [], _∷_, _++_, map, List·Memᴰ, List·Memᴰ·head, List·Memᴰ·tail, List·Memᴰ·not-nil, List·Memᴰ·cases-cons, List·Memᴰ·eq-of-singleton, Memᴰ·map, Memᴰ·of-map}
+use mathlib.Core.List.{List, [], _∷_, _++_, map, List·Memᴰ, List·Memᴰ·head, List·Memᴰ·tail, List·Memᴰ·not-nil, List·Memᴰ·cases-cons}
+use mathlib.Core.List.{List·Memᴰ·eq-of-singleton, Memᴰ·map, Memᴰ·of-map}
 use lib.Dec.{eqb, ltb}
 use lib.ListN.{length, getD, List·getD-append, length-append}
 use lib.Seq.{getD-append-add}
 use borrow.Author.Tests.{eqb-true, eqb-false, eq-eqb, ne-eqb, not-true, not-false}
 use Rattle.defs.specs.Lists.{keepIf, elemOf, allOf}
-use Rattle.defs.specs.SeqGraph.{Edge, Graph, nodeCount, vertexSequence, hasEnds, addOrUpdateEdge, addOrUpdateEdges, edgesInto, edgesFrom, incomingNodes, outgoingNodes, outDegree, inDegree, keeps, Change, withAdditions}
+use Rattle.defs.specs.SeqGraph.{Edge, Graph, nodeCount, vertexSequence, hasEnds, addOrUpdateEdge, addOrUpdateEdges, edgesInto, edgesFrom}
+use Rattle.defs.specs.SeqGraph.{incomingNodes, outgoingNodes, outDegree, inDegree, keeps, Change, withAdditions}
 use Rattle.defs.specs.Strings.{HasEdge}
 use Rattle.laws.proofs.Walks.{byTest}
 use Rattle.laws.proofs.ListLaws.{clash, and-split, and-true, mem-keepIf, of-keepIf}
@@ -30,7 +32,13 @@ linked-cases e es a b (f, m, p, q) k h =
 
 module _ (u v s : ℕ) (r : Bool) where
   pub raise-yes : (e : Edge) (es : List Edge) → hasEnds u v e ≡ true
-      → addOrUpdateEdge u v s r (e ∷ es) ≡ record { from = e .from; to = e .to; support = Rattle.defs.specs.SeqGraph.saturatingAdd (e .support) s; isRef = e .isRef || r } ∷ es
+      → addOrUpdateEdge u v s r (e ∷ es) ≡ record {
+        from = e .from;
+        to = e .to;
+        support =
+            Rattle.defs.specs.SeqGraph.saturatingAdd (e .support) s;
+        isRef = e .isRef || r;
+      } ∷ es
   unfolding addOrUpdateEdge
   raise-yes e es t = rw (t, addOrUpdateEdge)
 
@@ -63,7 +71,8 @@ module _ (u v s : ℕ) (r : Bool) where
   of-raise (e ∷ es) a b l k h =
       byTest (hasEnds u v e)
       (λ t. linked-cases _ es a b (rw (raise-yes e es t) at l) (λ p q. k (e, List·Memᴰ·head refl, p, q)) (λ m. k (linked-tail a b m)))
-      (λ t. linked-cases e (addOrUpdateEdge u v s r es) a b (rw (raise-no e es t) at l) (λ p q. k (e, List·Memᴰ·head refl, p, q)) (λ m. of-raise es a b m (λ n. k (linked-tail a b n)) h))
+      (λ t. linked-cases e (addOrUpdateEdge u v s r es) a b (rw (raise-no e es t) at l) (λ p q. k (e, List·Memᴰ·head refl, p, q)) (λ m.
+      of-raise es a b m (λ n. k (linked-tail a b n)) h))
 
 pub raiseAll-keeps : (ns es : List Edge) (a b : ℕ) → Linked es a b → Linked (addOrUpdateEdges ns es) a b
 unfolding addOrUpdateEdges

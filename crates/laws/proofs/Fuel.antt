@@ -26,7 +26,8 @@ module _ (f : Graph → ℕ → Option Graph) (Inv : Graph → Type 0) (μ : Gra
   unfoldable pub Done : Work → Type 0
   Done r = Inv (r .graph) × (firstAt (f (r .graph)) 0 (nodeCount (r .graph)) ≡ none)
 
-  done-turn : (fuel : ℕ) (w : Work) → Inv (w .graph) → μ (w .graph) < suc fuel → ((a : Graph) → Inv a → μ a < fuel → Done (transformUntilComplete f fuel (again w a))) → Done (transformUntilComplete f (suc fuel) w)
+  done-turn : (fuel : ℕ) (w : Work) → Inv (w .graph) → μ (w .graph) < suc fuel
+      → ((a : Graph) → Inv a → μ a < fuel → Done (transformUntilComplete f fuel (again w a))) → Done (transformUntilComplete f (suc fuel) w)
   unfolding Done
   done-turn fuel w h l ih = byOption (firstAt (f (w .graph)) 0 (nodeCount (w .graph)))
       (λ t. rw (until-none f fuel w t) (h, t))
@@ -61,6 +62,7 @@ merge-falls g g′ v (s, o) did =
       omega (arith, order-merge g v (s .bounded) (s .rank) (s .ranks) i (h .0) o, ap nodeCount (h .1)),
     )
 
-pub merges-done : (w : Work) → Good (w .graph) → Done tryMergeCommonSuffices Good nodeCount merge-falls (transformUntilComplete tryMergeCommonSuffices (fuelFor (w .graph)) w)
+pub merges-done : (w : Work) → Good (w .graph) → Done tryMergeCommonSuffices Good nodeCount merge-falls
+    (transformUntilComplete tryMergeCommonSuffices (fuelFor (w .graph)) w)
 unfolding fuelFor nodeCount
 merges-done w h = until-done tryMergeCommonSuffices Good nodeCount merge-falls (fuelFor (w .graph)) w h (omega (arith, order-enough (w .graph .verts)))

@@ -13,7 +13,8 @@ use borrow.Author.Tests.{ltb-true}
 use Rattle.defs.specs.Lists.{concat}
 use Rattle.defs.specs.SeqGraph.{Edge, Graph, nodeCount, incomingNodes, edgesInto, edgesFrom, keeps, Change, withAdditions, applyChange}
 use Rattle.defs.specs.Zip.{lastOf, moveFrom}
-use Rattle.defs.specs.Rewrites.{mergesSuffices, isMerge, tryMergeDiamond, tryMergeTails, trySplitCommonSuffix, tryMergeCommonSuffices, mergeChange, redirectedTo, redirectedFrom, newEdge, edgeData}
+use Rattle.defs.specs.Rewrites.{mergesSuffices, isMerge, tryMergeDiamond, tryMergeTails, trySplitCommonSuffix, tryMergeCommonSuffices}
+use Rattle.defs.specs.Rewrites.{mergeChange, redirectedTo, redirectedFrom, newEdge, edgeData}
 use Rattle.defs.specs.Strings.{HasEdge}
 use Rattle.laws.proofs.ListLaws.{given-some, and-split}
 use Rattle.laws.proofs.Nets.{Bounded, Ranks}
@@ -56,19 +57,30 @@ split-through g g′ v (s, o) did =
       edges = omega (arith, edges-local g (s .bounded) c l, ap (λ (x : Graph). length (x .edges)) q);
     }
 
-module _ (g : Graph) (bottom : ℕ) (bounded : Bounded g) (r : ℕ → ℕ) (ranks : Ranks g r) (inside : bottom < nodeCount g) (ok : isMerge g (incomingNodes g bottom) ≡ true) where
-  merge-stays : (u v : ℕ) → Linked ((mergeChange g bottom (incomingNodes g bottom)) .edges) u v → (keeps (bottom ∷ incomingNodes g bottom) u ≡ true) × (keeps (bottom ∷ incomingNodes g bottom) v ≡ true)
+module _ (g : Graph) (bottom : ℕ) (bounded : Bounded g) (r : ℕ → ℕ) (ranks : Ranks g r) (inside : bottom < nodeCount g) (ok :
+    isMerge g (incomingNodes g bottom) ≡ true) where
+  merge-stays : (u v : ℕ) → Linked ((mergeChange g bottom (incomingNodes g bottom)) .edges) u v
+      → (keeps (bottom ∷ incomingNodes g bottom) u ≡ true) × (keeps (bottom ∷ incomingNodes g bottom) v ≡ true)
   unfolding mergeChange redirectedTo redirectedFrom newEdge edgeData
   merge-stays u v (e, m, p, q) = ⊎-elim
       (λ k. let a = Memᴰ·of-map (redirectedTo (nodeCount g)) (concat (map (edgesInto g) (incomingNodes g bottom))) k in
       let b = M.of-mem-flat (edgesInto g) (incomingNodes g bottom) (a .1) in
       let d = of-edgesInto g (b .0) (a .0) (b .2) in
-      let i : v ≡ nodeCount g = sym q ∙ sym (ap (λ (e : Edge). e .to) (a .2)) in
-      (M.into-kept g bottom bounded r ranks inside ok u (b .0) (b .1) (a .0, d .0, ap (λ (e : Edge). e .from) (a .2) ∙ p, d .1), rw i (M.new-kept g bottom bounded r ranks inside ok)))
+      let i : v ≡ nodeCount g = sym q ∙ sym (ap (λ (e : Edge). e .to) (a .2)) in (
+        M.into-kept g bottom bounded r ranks inside ok u (b .0) (b .1) (a .0, d .0, ap (λ (e : Edge). e .from) (a .2) ∙ p, d .1),
+        rw i (M.new-kept g bottom bounded r ranks inside ok),
+      ))
       (λ k. let a = Memᴰ·of-map (redirectedFrom (nodeCount g)) (edgesFrom g bottom) k in
       let d = of-edgesFrom g bottom (a .0) (a .1) in
-      let i : u ≡ nodeCount g = sym p ∙ sym (ap (λ (e : Edge). e .from) (a .2)) in
-      (rw i (M.new-kept g bottom bounded r ranks inside ok), M.out-kept g bottom bounded r ranks inside ok v (a .0, d .0, d .1, ap (λ (e : Edge). e .to) (a .2) ∙ q)))
+      let i : u ≡ nodeCount g = sym p ∙ sym (ap (λ (e : Edge). e .from) (a .2)) in (
+        rw i (M.new-kept g bottom bounded r ranks inside ok),
+        M.out-kept g bottom bounded r ranks inside ok v (
+          a .0,
+          d .0,
+          d .1,
+          ap (λ (e : Edge). e .to) (a .2) ∙ q,
+        ),
+      ))
       (List·Memᴰ·append-cases (map (redirectedTo (nodeCount g)) (concat (map (edgesInto g) (incomingNodes g bottom)))) m)
 
   merge-through′ : Single (g .edges) → Through g (applyChange g (mergeChange g bottom (incomingNodes g bottom)))
@@ -76,8 +88,10 @@ module _ (g : Graph) (bottom : ℕ) (bounded : Bounded g) (r : ℕ → ℕ) (ran
       let c = mergeChange g bottom (incomingNodes g bottom) in
       record { by = c; is = refl; vertices = fits; edges = edges-grown g bounded c (unfold mergeChange in merge-stays) }
     where
-      fits : nodeCount (withAdditions (mergeChange g bottom (incomingNodes g bottom)) g) ≤ nodeCount (applyChange g (mergeChange g bottom (incomingNodes g bottom))) + nodeCount g
-      fits = verts-grown g bounded (mergeChange g bottom (incomingNodes g bottom)) (unfold mergeChange in (distinct-gone g bottom bounded r ranks inside ok once)) (unfold mergeChange in (old-one g bottom bounded r ranks inside ok once))
+      fits : nodeCount (withAdditions (mergeChange g bottom (incomingNodes g bottom)) g) ≤ nodeCount
+          (applyChange g (mergeChange g bottom (incomingNodes g bottom))) + nodeCount g
+      fits = verts-grown g bounded (mergeChange g bottom (incomingNodes g bottom)) (unfold mergeChange in
+          (distinct-gone g bottom bounded r ranks inside ok once)) (unfold mergeChange in (old-one g bottom bounded r ranks inside ok once))
           (unfold mergeChange in (omega (arith, order-merge g bottom bounded r ranks inside ok once)))
 
 pub merge-through : (g g′ : Graph) (v : ℕ) → Good g → tryMergeCommonSuffices g v ≡ some g′ → Through g g′
@@ -96,7 +110,8 @@ pub zip-through : (g : Graph) (bounded : Bounded g) (r : ℕ → ℕ) (ranks : R
 zip-through g bounded r ranks s y ys c = (Z.order-G g bounded r ranks s y ys c, length-map (g .edges) (moveFrom (lastOf s (y ∷ ys)) (s ∷ y ∷ ys) s))
 
 -- from Φ ≤ 6144 and N ≤ 10240
-pub inside-fits : {g g′ : Graph} → Good g → Small g → Tame g g′ → (t : Through g g′) → (nodeCount (withAdditions (t .by) g) ≤ 20480) × (length ((withAdditions (t .by) g) .edges) ≤ 32768)
+pub inside-fits : {g g′ : Graph} → Good g → Small g → Tame g g′ → (t : Through g g′) → (nodeCount (withAdditions (t .by) g) ≤ 20480)
+    × (length ((withAdditions (t .by) g) .edges) ≤ 32768)
 inside-fits {g} {g′} h s t w =
     let a = small-fits g h s in
     let b = tame-fits s t in

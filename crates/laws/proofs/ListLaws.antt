@@ -54,7 +54,8 @@ module _ {A : Type 0} (p : A → Bool) where
   of-keepIf [] m = absurd (List·Memᴰ·not-nil m)
   of-keepIf (y ∷ ys) {x} m =
       byTest (p y)
-      (λ py. ⊎-elim (λ (e : x ≡ y). (List·Memᴰ·head e, ap p e ∙ py)) (λ m′. let r = of-keepIf ys m′ in (List·Memᴰ·tail (r .0), r .1)) (List·Memᴰ·cases-cons (rw (keepIf-yes y ys py) at m)))
+      (λ py. ⊎-elim (λ (e : x ≡ y). (List·Memᴰ·head e, ap p e ∙ py)) (λ m′. let r = of-keepIf ys m′ in (List·Memᴰ·tail (r .0), r .1))
+      (List·Memᴰ·cases-cons (rw (keepIf-yes y ys py) at m)))
       (λ py. let r = of-keepIf ys (rw (keepIf-no y ys py) at m) in (List·Memᴰ·tail (r .0), r .1))
 
 -- ranks
@@ -105,7 +106,8 @@ module _ (p : ℕ → Bool) where
         (λ t. rw (keepAt-yes i x xs t) (omega (arith, rank-yes i t, ih)))
         (λ t. rw (keepAt-no i x xs t) (omega (arith, rank-no i t, ih))))
 
-    pub getD-keepAt : (xs : List A) (i j n : ℕ) (d : A) → p (i + j) ≡ true → rank p (i + j) ≡ rank p i + n → j < length xs → getD (keepAt p i xs) n d ≡ getD xs j d
+    pub getD-keepAt : (xs : List A) (i j n : ℕ) (d : A) → p (i + j) ≡ true → rank p (i + j) ≡ rank p i + n → j < length xs
+        → getD (keepAt p i xs) n d ≡ getD xs j d
     getD-keepAt [] i j n d t r h = absurd (not-suc-le-zero h)
     getD-keepAt (x ∷ xs) i zero n d t r h =
         let z : n ≡ 0 = omega (arith, simp add-zero at r) in
@@ -137,7 +139,9 @@ module _ (p : ℕ → Bool) where
         next : (j : ℕ) → i + suc j ≡ suc i + j
         next j = omega arith
 
-        first : p i ≡ true → (m : ℕ) → m < suc (length (keepAt p (suc i) xs)) → ((n′ : ℕ) → n′ < length (keepAt p (suc i) xs) → (j : ℕ) × (j < length xs) × (p (suc i + j) ≡ true) × (rank p (suc i + j) ≡ rank p (suc i) + n′))
+        first : p i ≡ true → (m : ℕ) → m < suc (length (keepAt p (suc i) xs))
+            → ((n′ : ℕ) → n′ < length (keepAt p (suc i) xs) → (j : ℕ) × (j < length xs) × (p (suc i + j) ≡ true)
+            × (rank p (suc i + j) ≡ rank p (suc i) + n′))
             → (j : ℕ) × (j < suc (length xs)) × (p (i + j) ≡ true) × (rank p (i + j) ≡ rank p i + m)
         first u zero l ih = (0, omega arith, simp add-zero u, simp add-zero)
         first u (suc m) l ih =

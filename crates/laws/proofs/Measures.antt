@@ -18,7 +18,8 @@ use Rattle.laws.proofs.SplitForms.{splitOf, diamond-parts, tails-parts}
 use Rattle.laws.proofs.Edges.{of-mem-ins, nonempty}
 use Rattle.laws.proofs.Counts.{total, Single, heft, heft-append}
 use Rattle.laws.proofs.Changes.{single-change}
-use Rattle.laws.proofs.Diamonds.{diamond-keeps, tails-keeps, diamond-bytes, diamond-heft, diamond-surplus, tails-surplus, tails-bytes-fall, tails-heft, diamond-branching, tails-branching}
+use Rattle.laws.proofs.Diamonds.{diamond-keeps, tails-keeps, diamond-bytes, diamond-heft, diamond-surplus, tails-surplus}
+use Rattle.laws.proofs.Diamonds.{tails-bytes-fall, tails-heft, diamond-branching, tails-branching}
 use Rattle.laws.proofs.Branching.{branching}
 use Rattle.laws.proofs.BranchingLaws.{split-branching, merge-branching, zip-branching}
 use Rattle.laws.proofs.Splits.{split-keeps′}
@@ -83,7 +84,8 @@ tame-then h k = record {
 
 -- from sums over the vertices
 tame-by : (g g′ : Graph) → Good g′ → total heft (g′ .verts) ≤ total heft (g .verts) → total length (g′ .verts) ≤ total length (g .verts)
-    → length (g′ .edges) + nodeCount g + total length (g′ .verts) / 4 ≤ length (g .edges) + nodeCount g′ + total length (g .verts) / 4 → branching g′ ≤ branching g → Tame g g′
+    → length (g′ .edges) + nodeCount g + total length (g′ .verts) / 4 ≤ length (g .edges) + nodeCount g′ + total length (g .verts) / 4
+    → branching g′ ≤ branching g → Tame g g′
 unfolding load
 tame-by g g′ h l b r s = record {
   good = h;
@@ -98,9 +100,11 @@ tame-less : (g g′ : Graph) → Good g′ → total heft (g′ .verts) ≤ tota
 tame-less g g′ h l b r s = tame-by g g′ h l b (omega arith) s
 
 -- a diamond takes a byte at least
-pub diamond-tame : (g g′ : Graph) (v : ℕ) → Good g → tryMergeDiamond g v ≡ some g′ → Tame g g′ × (sequenceBytes (g′ .verts) < sequenceBytes (g .verts)) × (weight g′ < weight g)
+pub diamond-tame : (g g′ : Graph) (v : ℕ) → Good g → tryMergeDiamond g v ≡ some g′ → Tame g g′
+    × (sequenceBytes (g′ .verts) < sequenceBytes (g .verts)) × (weight g′ < weight g)
 diamond-tame g g′ v (s, o) did = (
-  tame-less g g′ ((diamond-keeps g g′ v s did) .sound, single) (omega (arith, diamond-heft g g′ v s o did)) (omega (arith, diamond-bytes g g′ v s o did)) (diamond-surplus g g′ v s o did) (diamond-branching g g′ v s o did),
+  tame-less g g′ ((diamond-keeps g g′ v s did) .sound, single) (omega (arith, diamond-heft g g′ v s o did))
+      (omega (arith, diamond-bytes g g′ v s o did)) (diamond-surplus g g′ v s o did) (diamond-branching g g′ v s o did),
   omega (arith, diamond-bytes g g′ v s o did, bytes-is (g .verts), bytes-is (g′ .verts)),
   omega (arith, diamond-heft g g′ v s o did, weight-is g, weight-is g′),
 )
@@ -109,9 +113,12 @@ diamond-tame g g′ v (s, o) did = (
     single = unfold splitOf in (let h = diamond-parts g g′ v did in let k = given-some _ _ g′ (h .1) in rw (← k .1) (single-change g (s .bounded) _ o))
 
 -- a set of tails takes a byte at least
-pub tails-tame : (least : ℕ) → 3 < least → (g g′ : Graph) (v : ℕ) → Good g → tryMergeTails least g v ≡ some g′ → Tame g g′ × (sequenceBytes (g′ .verts) < sequenceBytes (g .verts)) × (weight g′ < weight g)
+pub tails-tame : (least : ℕ) → 3 < least → (g g′ : Graph) (v : ℕ) → Good g → tryMergeTails least g v ≡ some g′ → Tame g g′
+    × (sequenceBytes (g′ .verts) < sequenceBytes (g .verts)) × (weight g′ < weight g)
 tails-tame least pos g g′ v (s, o) did = (
-  tame-by g g′ ((tails-keeps least (omega arith) g g′ v s did) .sound, single) (omega (arith, tails-heft least pos g g′ v s o did)) (omega (arith, tails-bytes-fall least pos g g′ v s o did)) (tails-surplus least pos g g′ v s o did) (tails-branching least pos g g′ v s o did),
+  tame-by g g′ ((tails-keeps least (omega arith) g g′ v s did) .sound, single) (omega (arith, tails-heft least pos g g′ v s o did))
+      (omega (arith, tails-bytes-fall least pos g g′ v s o did)) (tails-surplus least pos g g′ v s o did)
+      (tails-branching least pos g g′ v s o did),
   omega (arith, tails-bytes-fall least pos g g′ v s o did, bytes-is (g .verts), bytes-is (g′ .verts)),
   omega (arith, tails-heft least pos g g′ v s o did, weight-is g, weight-is g′),
 )
@@ -122,7 +129,8 @@ tails-tame least pos g g′ v (s, o) did = (
 -- a split adds a vertex at least
 pub split-tame : (g g′ : Graph) (v : ℕ) → Good g → trySplitCommonSuffix g v ≡ some g′ → Tame g g′ × (nodeCount g < nodeCount g′)
 split-tame g g′ v (s, o) did = (
-  tame-less g g′ ((split-keeps′ g g′ v s did) .sound, split-single g g′ v s o did) (split-heft g g′ v s o did) (split-bytes g g′ v s o did) (split-surplus g g′ v s o did) (split-branching g g′ v s o did),
+  tame-less g g′ ((split-keeps′ g g′ v s did) .sound, split-single g g′ v s o did) (split-heft g g′ v s o did) (split-bytes g g′ v s o did)
+      (split-surplus g g′ v s o did) (split-branching g g′ v s o did),
   split-order g g′ v s o did,
 )
 
@@ -142,15 +150,20 @@ merge-tame g g′ v (s, o) did =
     let c = applyChange g (mergeChange g v (incomingNodes g v)) in
     let q : c ≡ g′ = h .1 in (
       rw q at (tame-less g c ((rw (← q) at (merge-keeps′ g g′ v s did) .sound), single-merge g v (s .bounded) (s .rank) (s .ranks) i (h .0) o)
-          (weight-merge g v (s .bounded) (s .rank) (s .ranks) i (h .0) o heft heft-append) (weight-merge g v (s .bounded) (s .rank) (s .ranks) i (h .0) o length length-sub)
+          (weight-merge g v (s .bounded) (s .rank) (s .ranks) i (h .0) o heft heft-append)
+          (weight-merge g v (s .bounded) (s .rank) (s .ranks) i (h .0) o length length-sub)
           (surplus-merge g v (s .bounded) (s .rank) (s .ranks) i (h .0) o) (merge-branching g v (s .bounded) (s .rank) (s .ranks) i (h .0) o)),
       omega (arith, order-merge g v (s .bounded) (s .rank) (s .ranks) i (h .0) o, ap nodeCount q),
     )
 
 -- a zipped chain takes a vertex at least
-pub zip-tame : (g : Graph) (s y : ℕ) (ys : List ℕ) → Good g → Chained g s (y ∷ ys) → Tame g (mergeLinearChain g s (y ∷ ys)) × (nodeCount (mergeLinearChain g s (y ∷ ys)) < nodeCount g)
+pub zip-tame : (g : Graph) (s y : ℕ) (ys : List ℕ) → Good g → Chained g s (y ∷ ys) → Tame g (mergeLinearChain g s (y ∷ ys))
+    × (nodeCount (mergeLinearChain g s (y ∷ ys)) < nodeCount g)
 zip-tame g s y ys (z, o) c = (
-  tame-less g (mergeLinearChain g s (y ∷ ys)) ((zip-keeps g (z .bounded) (z .rank) (z .ranks) s y ys c) .sound, zip-single g (z .bounded) (z .rank) (z .ranks) s y ys c o)
+  tame-less g (mergeLinearChain g s (y ∷ ys)) (
+    (zip-keeps g (z .bounded) (z .rank) (z .ranks) s y ys c) .sound,
+    zip-single g (z .bounded) (z .rank) (z .ranks) s y ys c o,
+  )
       (zip-weight g (z .bounded) (z .rank) (z .ranks) s y ys c heft heft-append) (zip-weight g (z .bounded) (z .rank) (z .ranks) s y ys c length length-sub)
       (zip-surplus g (z .bounded) (z .rank) (z .ranks) s y ys c) (zip-branching g (z .bounded) (z .rank) (z .ranks) s y ys c),
   omega (arith, zip-order g (z .bounded) (z .rank) (z .ranks) s y ys c),

@@ -7,19 +7,25 @@ use mathlib.Core.Path.{_≡_, refl, sym, ap, _∙_, subst}
 use mathlib.Core.Logic.{_⊎_, inl, inr, ⊎-elim, _↔_}
 use mathlib.Core.Bool.{Bool, true, false, cond, _&&_, true≢false}
 use mathlib.Core.Option.{some}
-use mathlib.Core.List.{List, [], _∷_, _++_, map, append-assoc, append-nil, List·Memᴰ, List·Memᴰ·head, List·Memᴰ·tail, List·Memᴰ·not-nil, List·Memᴰ·cases-cons, List·Memᴰ·append-cases, Memᴰ·append-left, Memᴰ·append-right, Memᴰ·map, Memᴰ·of-map}
+use mathlib.Core.List.{List, [], _∷_, _++_, map, append-assoc, append-nil, List·Memᴰ, List·Memᴰ·head, List·Memᴰ·tail, List·Memᴰ·not-nil}
+use mathlib.Core.List.{List·Memᴰ·cases-cons, List·Memᴰ·append-cases, Memᴰ·append-left, Memᴰ·append-right, Memᴰ·map, Memᴰ·of-map}
 use lib.Dec.{eqb, ltb}
 use lib.ListN.{length, getD}
 use borrow.Author.Tests.{eqb-true, ltb-true, eq-eqb, ne-eqb}
 use Rattle.defs.specs.Lists.{headOr, concat, sameList, allOf}
-use Rattle.defs.specs.SeqGraph.{Edge, Graph, nodeCount, vertexSequence, edgesInto, edgesFrom, incomingNodes, outDegree, inDegree, keeps, Change, withAdditions, applyChange, removeVerticesById, compactVertices}
+use Rattle.defs.specs.SeqGraph.{Edge, Graph, nodeCount, vertexSequence, edgesInto, edgesFrom, incomingNodes, outDegree, inDegree, keeps}
+use Rattle.defs.specs.SeqGraph.{Change, withAdditions, applyChange, removeVerticesById, compactVertices}
 use Rattle.defs.specs.Rewrites.{mergesSuffices, isMerge, tryMergeCommonSuffices, mergeChange, redirectedTo, redirectedFrom, newEdge, edgeData}
 use Rattle.defs.specs.Strings.{HasEdge, Spells}
 use Rattle.laws.proofs.Sound.{Sound, Keeps}
-use Rattle.laws.proofs.Walks.{Net, Pt, start, at, stop, Go, text, IsSource, IsSink, Steps, stay, step, single, then, cast, Reads, Tour, hit, pass, Replaces, kept, reads, byTest}
+use Rattle.laws.proofs.Walks.{Net, Pt, start, at, stop, Go, text, IsSource, IsSink, Steps, stay, step, single, then, cast, Reads}
+use Rattle.laws.proofs.Walks.{Tour, hit, pass, Replaces, kept, reads, byTest}
 use Rattle.laws.proofs.ListLaws.{clash, given-some, and-split, byOrder}
-use Rattle.laws.proofs.Nets.{Ranks, ranks-restrict, closed, netOf, partOf, Bounded, reads-restrict, of-reads-restrict, spells-reads, reads-spells, bounded-restrict}
-use Rattle.laws.proofs.Edges.{Linked, raiseAll-keeps, raiseAll-adds, of-raiseAll, keeps-not, not-keeps, keeps-other, allOf-mem, mem-ins, of-mem-ins, of-edgesInto, of-edgesFrom, in-edgesInto, in-edgesFrom, only-out, some-in, nonempty, order-grown, seq-grown-old, seq-grown-new}
+use Rattle.laws.proofs.Nets.{Ranks, ranks-restrict, closed, netOf, partOf, Bounded, reads-restrict, of-reads-restrict, spells-reads}
+use Rattle.laws.proofs.Nets.{reads-spells, bounded-restrict}
+use Rattle.laws.proofs.Edges.{Linked, raiseAll-keeps, raiseAll-adds, of-raiseAll, keeps-not, not-keeps, keeps-other, allOf-mem}
+use Rattle.laws.proofs.Edges.{mem-ins, of-mem-ins, of-edgesInto, of-edgesFrom, in-edgesInto, in-edgesFrom, only-out, some-in}
+use Rattle.laws.proofs.Edges.{nonempty, order-grown, seq-grown-old, seq-grown-new}
 
 pub sameList-eq : (a b : List ℕ) → sameList a b ≡ true → a ≡ b
 unfolding sameList
@@ -41,9 +47,11 @@ pub of-mem-flat : {A B : Type 0} (f : B → List A) (l : List B) {x : A} → Lis
 unfolding concat
 of-mem-flat f [] m = absurd (List·Memᴰ·not-nil m)
 of-mem-flat {A} {B} f (c ∷ cs) {x} m =
-    ⊎-elim {C = (b : B) × List·Memᴰ b (c ∷ cs) × List·Memᴰ x (f b)} (λ k. (c, List·Memᴰ·head refl, k)) (λ k. let r = of-mem-flat f cs k in (r .0, List·Memᴰ·tail (r .1), r .2)) (List·Memᴰ·append-cases (f c) m)
+    ⊎-elim {C = (b : B) × List·Memᴰ b (c ∷ cs) × List·Memᴰ x (f b)} (λ k. (c, List·Memᴰ·head refl, k)) (λ k. let r = of-mem-flat f cs k in
+    (r .0, List·Memᴰ·tail (r .1), r .2)) (List·Memᴰ·append-cases (f c) m)
 
-module _ (g : Graph) (bottom : ℕ) (bounded : Bounded g) (r : ℕ → ℕ) (ranks : Ranks g r) (inside : bottom < nodeCount g) (ok : isMerge g (incomingNodes g bottom) ≡ true) where
+module _ (g : Graph) (bottom : ℕ) (bounded : Bounded g) (r : ℕ → ℕ) (ranks : Ranks g r) (inside : bottom < nodeCount g) (ok :
+    isMerge g (incomingNodes g bottom) ≡ true) where
   abbrev pub prevs : List ℕ
   prevs = incomingNodes g bottom
 
@@ -63,13 +71,15 @@ module _ (g : Graph) (bottom : ℕ) (bounded : Bounded g) (r : ℕ → ℕ) (ran
   abbrev pub common : ℕ → Bool
   common = keeps (new ∷ bottom ∷ prevs)
 
-  pub ok-parts : (0 < length prevs) × ((u : ℕ) → List·Memᴰ u prevs → (vertexSequence g u ≡ vertexSequence g (headOr 0 prevs)) × (outDegree g u ≡ 1) × (0 < inDegree g u))
+  pub ok-parts : (0 < length prevs) × ((u : ℕ) → List·Memᴰ u prevs → (vertexSequence g u ≡ vertexSequence g (headOr 0 prevs))
+      × (outDegree g u ≡ 1) × (0 < inDegree g u))
   unfolding isMerge
   ok-parts =
       let h = and-split _ _ ok in (
         ltb-true _ _ (h .0),
         λ u m.
-            let k = and-split _ _ (allOf-mem (λ p. sameList (vertexSequence g p) (vertexSequence g (headOr 0 prevs)) && (eqb (outDegree g p) 1 && ltb 0 (inDegree g p))) prevs (h .1) m) in
+            let k = and-split _ _ (allOf-mem (λ p. sameList (vertexSequence g p) (vertexSequence g (headOr 0 prevs))
+            && (eqb (outDegree g p) 1 && ltb 0 (inDegree g p))) prevs (h .1) m) in
             let j = and-split _ _ (k .1) in
             (sameList-eq _ _ (k .0), eqb-true _ _ (j .0), ltb-true _ _ (j .1)),
       )
@@ -82,7 +92,8 @@ module _ (g : Graph) (bottom : ℕ) (bounded : Bounded g) (r : ℕ → ℕ) (ran
   edge-old u v (e, m, p, q) = rw (← p, ← q) (bounded e m)
 
   -- the edges of the grown graph
-  pub of-G : {X : Type 0} (u v : ℕ) → HasEdge G u v → (HasEdge g u v → X) → ((b : ℕ) → List·Memᴰ b prevs → HasEdge g u b → v ≡ new → X) → (u ≡ new → HasEdge g bottom v → X) → X
+  pub of-G : {X : Type 0} (u v : ℕ) → HasEdge G u v → (HasEdge g u v → X) → ((b : ℕ) → List·Memᴰ b prevs → HasEdge g u b → v ≡ new → X)
+      → (u ≡ new → HasEdge g bottom v → X) → X
   unfolding mergeChange withAdditions redirectedTo redirectedFrom newEdge edgeData
   of-G {X} u v h old toMid out =
       of-raiseAll (c .edges) (g .edges) u v h old λ (e, m, p, q).
@@ -109,8 +120,13 @@ module _ (g : Graph) (bottom : ℕ) (bounded : Bounded g) (r : ℕ → ℕ) (ran
   pub G-out : (v : ℕ) → HasEdge g bottom v → HasEdge G new v
   unfolding mergeChange withAdditions redirectedFrom newEdge
   G-out v (e, k, p, q) =
-      raiseAll-adds (c .edges) (g .edges) new v
-      (redirectedFrom new e, Memᴰ·append-right (map (redirectedTo new) (concat (map (edgesInto g) prevs))) (Memᴰ·map (redirectedFrom new) (in-edgesFrom g bottom e k p)), refl, q)
+      raiseAll-adds (c .edges) (g .edges) new v (
+        redirectedFrom new e,
+        Memᴰ·append-right (map (redirectedTo new) (concat (map (edgesInto g) prevs)))
+            (Memᴰ·map (redirectedFrom new) (in-edgesFrom g bottom e k p)),
+        refl,
+        q,
+      )
 
   -- vertices
   pub not-bottom : List·Memᴰ bottom prevs → ⊥
@@ -192,19 +208,25 @@ module _ (g : Graph) (bottom : ℕ) (bounded : Bounded g) (r : ℕ → ℕ) (ran
   out-common v h = is-common v (out-kept v h) ((edge-old bottom v h) .1)
 
   -- from a predecessor that u leads to, over the bottom
-  pub over-bottom : (u x : ℕ) (q : Pt) (s : List ℕ) → common u ≡ true → List·Memᴰ x prevs → HasEdge g u x → Tour N common (at bottom) q s → Steps U (at u) q (vertexSequence g x ++ (vertexSequence g bottom ++ s))
+  pub over-bottom : (u x : ℕ) (q : Pt) (s : List ℕ) → common u ≡ true → List·Memᴰ x prevs → HasEdge g u x → Tour N common (at bottom) q s
+      → Steps U (at u) q (vertexSequence g x ++ (vertexSequence g bottom ++ s))
   over-bottom u x q s t m e (hit {q = start} h k) = absurd h
   over-bottom u x q s t m e (hit {q = at v} h k) =
       cast (rw (old-text v ((edge-old bottom v h) .1), seq-prev x m, append-nil, append-assoc))
       (step {q = at new} (step-in u x t m e) (step {q = at v} (G-out v h, new-kept, common-keep v k) stay))
   over-bottom u x q s t m e (hit {q = stop} h k) =
       cast (rw (seq-prev x m, append-nil, append-nil))
-      (step {q = at new} (step-in u x t m e) (step {q = stop} ((new-G, new-kept), λ w l. of-G new w (l .0) (λ i. omega (arith, edge-old new w i)) (λ b n i j. omega (arith, edge-old new b i)) (λ i j. h .1 w j)) stay))
+      (step {q = at new} (step-in u x t m e) (step {q = stop} (
+        (new-G, new-kept),
+        λ w l.
+            of-G new w (l .0) (λ i. omega (arith, edge-old new w i)) (λ b n i j. omega (arith, edge-old new b i)) (λ i j. h .1 w j),
+      ) stay))
   over-bottom u x q s t m e (pass {q = start} h k w) = absurd h
   over-bottom u x q s t m e (pass {q = at v} h k w) = clash (out-common v h) k
   over-bottom u x q s t m e (pass {q = stop} h k w) = absurd (true≢false k)
 
-  pub over-prev : (u x : ℕ) (q : Pt) (s : List ℕ) → common u ≡ true → List·Memᴰ x prevs → HasEdge g u x → Tour N common (at x) q s → Steps U (at u) q (vertexSequence g x ++ s)
+  pub over-prev : (u x : ℕ) (q : Pt) (s : List ℕ) → common u ≡ true → List·Memᴰ x prevs → HasEdge g u x → Tour N common (at x) q s
+      → Steps U (at u) q (vertexSequence g x ++ s)
   over-prev u x q s t m e (hit {q = start} h k) = absurd h
   over-prev u x q s t m e (hit {q = at v} h k) = absurd (keeps-not _ v k (List·Memᴰ·tail (List·Memᴰ·head (prev-out x v m h))))
   over-prev u x q s t m e (hit {q = stop} h k) = absurd (h .1 bottom (of-mem-ins g x bottom m))
@@ -270,7 +292,8 @@ module _ (g : Graph) (bottom : ℕ) (bounded : Bounded g) (r : ℕ → ℕ) (ran
   pub from-new : {X : Type 0} (v : ℕ) → U .Ed new v → (HasEdge g bottom v → X) → X
   from-new v h f = of-G new v (h .0) (λ i. absurd (omega (arith, edge-old new v i))) (λ b n i j. absurd (omega (arith, edge-old new b i))) (λ i j. f j)
 
-  pub over-new : (u b : ℕ) (q : Pt) (s : List ℕ) → List·Memᴰ b prevs → HasEdge g u b → Tour U common (at new) q s → Steps N (at u) q (vertexSequence g b ++ (vertexSequence g bottom ++ s))
+  pub over-new : (u b : ℕ) (q : Pt) (s : List ℕ) → List·Memᴰ b prevs → HasEdge g u b → Tour U common (at new) q s
+      → Steps N (at u) q (vertexSequence g b ++ (vertexSequence g bottom ++ s))
   over-new u b q s m e (hit {q = start} h k) = absurd h
   over-new u b q s m e (hit {q = at v} h k) =
       from-new v h λ l. rw (← old-text v ((edge-old bottom v l) .1)) (step {q = at b} e (step {q = at bottom} (of-mem-ins g b bottom m) (single {q = at v} l)))
@@ -328,7 +351,11 @@ module _ (g : Graph) (bottom : ℕ) (bounded : Bounded g) (r : ℕ → ℕ) (ran
   bounded-merge = bounded-restrict keep G boundedG
 
   pub merge-spells : {s : List ℕ} → Spells g s ↔ Spells (applyChange g c) s
-  merge-spells = (λ w. reads-spells (applyChange g c) bounded-merge (merge-keeps-strings (spells-reads g w)), λ w. reads-spells g bounded (merge-adds-no-string (spells-reads (applyChange g c) w)))
+  merge-spells = (
+    λ w. reads-spells (applyChange g c) bounded-merge (merge-keeps-strings (spells-reads g w)),
+    λ w.
+        reads-spells g bounded (merge-adds-no-string (spells-reads (applyChange g c) w)),
+  )
 
   pub rankG : ℕ → ℕ
   rankG v = cond (eqb v new) (r bottom) (r v)

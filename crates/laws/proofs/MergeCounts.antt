@@ -11,7 +11,8 @@ use lib.Dec.{eqb, ltb}
 use lib.ListN.{length, getD, length-append, length-map, List·getD-append}
 use borrow.Author.Tests.{eqb-true, eqb-false, eq-eqb, ne-eqb}
 use Rattle.defs.specs.Lists.{keepIf, keepAt, bit, headOr, concat, rank, upFrom}
-use Rattle.defs.specs.SeqGraph.{Edge, Graph, nodeCount, vertexSequence, edgesInto, edgesFrom, incomingNodes, keeps, Change, withAdditions, applyChange, removeVerticesById, compactVertices, addOrUpdateEdges, remapEdge}
+use Rattle.defs.specs.SeqGraph.{Edge, Graph, nodeCount, vertexSequence, edgesInto, edgesFrom, incomingNodes, keeps, Change, withAdditions}
+use Rattle.defs.specs.SeqGraph.{applyChange, removeVerticesById, compactVertices, addOrUpdateEdges, remapEdge}
 use Rattle.defs.specs.Rewrites.{isMerge, mergeChange, redirectedTo, redirectedFrom}
 use Rattle.defs.specs.Strings.{HasEdge}
 use Rattle.laws.proofs.Walks.{byTest}
@@ -19,7 +20,8 @@ use Rattle.laws.proofs.ListLaws.{clash, and-split, byOrder, of-keepIf}
 use Rattle.laws.proofs.Nets.{Bounded, Ranks}
 use Rattle.laws.proofs.Edges.{Linked, keeps-not, not-keeps, keeps-other, keeps-gone, mem-ins, of-mem-ins, order-grown, seq-grown-old}
 use Rattle.laws.proofs.Counts
-use Rattle.laws.proofs.Counts.{total, total-le, total-add, total-append, total-one, length-keepIf, Distinct, total-kept, Single, single-raiseAll, single-renumber, count-raiseAll, length-flat, times-none, times-le, bit-le}
+use Rattle.laws.proofs.Counts.{total, total-le, total-add, total-append, total-one, length-keepIf, Distinct, total-kept, Single}
+use Rattle.laws.proofs.Counts.{single-raiseAll, single-renumber, count-raiseAll, length-flat, times-none, times-le, bit-le}
 use Rattle.laws.proofs.Merge as M
 
 -- no vertex is twice before another
@@ -51,7 +53,8 @@ unfolding headOr total
 total-head f [] h = absurd (omega arith)
 total-head f (x ∷ xs) h = omega arith
 
-module _ (g : Graph) (bottom : ℕ) (bounded : Bounded g) (r : ℕ → ℕ) (ranks : Ranks g r) (inside : bottom < nodeCount g) (ok : isMerge g (incomingNodes g bottom) ≡ true) (once : Single (g .edges)) where
+module _ (g : Graph) (bottom : ℕ) (bounded : Bounded g) (r : ℕ → ℕ) (ranks : Ranks g r) (inside : bottom < nodeCount g) (ok :
+    isMerge g (incomingNodes g bottom) ≡ true) (once : Single (g .edges)) where
   abbrev prevs : List ℕ
   prevs = incomingNodes g bottom
 
@@ -83,13 +86,21 @@ module _ (g : Graph) (bottom : ℕ) (bounded : Bounded g) (r : ℕ → ℕ) (ran
       byTest (eqb (e .to) bottom)
       (λ t. let i = eqb-true (e .to) bottom t in
       rw (t, ne-eqb (e .from) bottom (λ j. omega (arith, ranks (e .from) (e .to) l, ap r i, ap r j)))
-      (omega (arith, and-no (keep (e .from)) (keep (e .to)) (keeps-gone (bottom ∷ prevs) (e .to) (List·Memᴰ·head i)), times-none (e .to) prevs (λ n. M.not-bottom g bottom bounded r ranks inside ok (rw i at n)))))
+      (omega (
+        arith,
+        and-no (keep (e .from)) (keep (e .to)) (keeps-gone (bottom ∷ prevs) (e .to) (List·Memᴰ·head i)),
+        times-none (e .to) prevs (λ n. M.not-bottom g bottom bounded r ranks inside ok (rw i at n)),
+      )))
       (λ t. byTest (eqb (e .from) bottom)
       (λ t₁. let i = eqb-true (e .from) bottom t₁ in
       rw (t, t₁, keeps-gone (bottom ∷ prevs) (e .from) (List·Memᴰ·head i))
       (omega (arith, times-none (e .to) prevs (λ n. omega (arith, ranks (e .from) (e .to) l, ap r i, ranks (e .to) bottom (of-mem-ins g (e .to) bottom n))))))
       (λ t₁. byTest (keep (e .to))
-      (λ t₂. rw (t, t₁) (omega (arith, bit-le (keep (e .from) && keep (e .to)), times-none (e .to) prevs (λ n. keeps-not (bottom ∷ prevs) (e .to) t₂ (List·Memᴰ·tail n)))))
+      (λ t₂. rw (t, t₁) (omega (
+        arith,
+        bit-le (keep (e .from) && keep (e .to)),
+        times-none (e .to) prevs (λ n. keeps-not (bottom ∷ prevs) (e .to) t₂ (List·Memᴰ·tail n)),
+      )))
       (λ t₂. rw (t, t₁) (omega (arith, and-no (keep (e .from)) (keep (e .to)) t₂, times-le (e .to) prevs distinct-prevs)))))
 
   abbrev stays : Edge → Bool
@@ -137,11 +148,13 @@ module _ (g : Graph) (bottom : ℕ) (bounded : Bounded g) (r : ℕ → ℕ) (ran
   gone-below : (v : ℕ) → List·Memᴰ v (bottom ∷ prevs) → v < length (G .verts)
   unfolding withAdditions nodeCount
   gone-below v m =
-      let l : v < length (g .verts) = ⊎-elim (λ (i : v ≡ bottom). rw i inside) (λ n. let h = of-mem-ins g v bottom n in rw (h .2) at ((bounded (h .0) (h .1)) .0)) (List·Memᴰ·cases-cons m) in
+      let l : v < length (g .verts) = ⊎-elim (λ (i : v ≡ bottom). rw i inside) (λ n. let h = of-mem-ins g v bottom n in
+      rw (h .2) at ((bounded (h .0) (h .1)) .0)) (List·Memᴰ·cases-cons m) in
       omega (arith, length-append (g .verts) (c .verts))
 
   head-old : headOr 0 prevs < nodeCount g
-  head-old = let h = of-mem-ins g (headOr 0 prevs) bottom (mem-head prevs ((M.ok-parts g bottom bounded r ranks inside ok) .0)) in rw (h .2) at ((bounded (h .0) (h .1)) .0)
+  head-old = let h = of-mem-ins g (headOr 0 prevs) bottom (mem-head prevs ((M.ok-parts g bottom bounded r ranks inside ok) .0)) in
+      rw (h .2) at ((bounded (h .0) (h .1)) .0)
 
   -- what a vertex weighs, by any weight under which a joined sequence weighs no more than its parts
   module _ (f : List ℕ → ℕ) (sub : (a b : List ℕ) → f (a ++ b) ≤ f a + f b) where

@@ -57,7 +57,8 @@ module _ (p : ℕ → Bool) (g : Graph) where
   unfolding compactVertices
   edge-restrict e m s t = Memᴰ·map (remapEdge p) (mem-keepIf (λ (e : Edge). p (e .from) && p (e .to)) m (and-true _ _ s t))
 
-  pub of-edge-restrict : (e : Edge) → List·Memᴰ e ((compactVertices p g) .edges) → (f : Edge) × List·Memᴰ f (g .edges) × (p (f .from) ≡ true) × (p (f .to) ≡ true) × (remapEdge p f ≡ e)
+  pub of-edge-restrict : (e : Edge) → List·Memᴰ e ((compactVertices p g) .edges) → (f : Edge) × List·Memᴰ f (g .edges)
+      × (p (f .from) ≡ true) × (p (f .to) ≡ true) × (remapEdge p f ≡ e)
   unfolding compactVertices
   of-edge-restrict e m =
       let r = Memᴰ·of-map (remapEdge p) _ m in
@@ -69,7 +70,8 @@ module _ (p : ℕ → Bool) (g : Graph) where
   unfolding remapEdge
   link-restrict u w (e, m, a, b) s t = (remapEdge p e, edge-restrict e m (rw a s) (rw b t), ap (rank p) a, ap (rank p) b)
 
-  pub of-link-restrict : (a b : ℕ) → HasEdge (compactVertices p g) a b → (u : ℕ) × (w : ℕ) × HasEdge g u w × (p u ≡ true) × (p w ≡ true) × (rank p u ≡ a) × (rank p w ≡ b)
+  pub of-link-restrict : (a b : ℕ) → HasEdge (compactVertices p g) a b → (u : ℕ) × (w : ℕ) × HasEdge g u w × (p u ≡ true) × (p w ≡ true)
+      × (rank p u ≡ a) × (rank p w ≡ b)
   unfolding remapEdge
   of-link-restrict a b h =
       let r = of-edge-restrict (h .0) (h .1) in
@@ -96,14 +98,22 @@ module _ (p : ℕ → Bool) (g : Graph) where
     closed-is : (r : ℕ → ℕ) (u : ℕ) → u < nodeCount g → p u ≡ true → closed r (rank p u) ≡ r u
     unfolding rank
     closed-is r u h t =
-        getD-keepAt p (map r (upFrom 0 (nodeCount g))) 0 u (rank p u) 0 (rw zero-add t) (simp zero-add) (rw (length-map (upFrom 0 (nodeCount g)) r, length-upFrom 0 (nodeCount g)) h)
+        getD-keepAt p (map r (upFrom 0 (nodeCount g))) 0 u (rank p u) 0 (rw zero-add t) (simp zero-add)
+        (rw (length-map (upFrom 0 (nodeCount g)) r, length-upFrom 0 (nodeCount g)) h)
         ∙ (getD-upFrom r 0 (nodeCount g) u h ∙ simp zero-add)
 
     pub ranks-restrict : (r : ℕ → ℕ) → Ranks g r → Ranks (compactVertices p g) (closed r)
     ranks-restrict r ranks a b l =
         let k = of-link-restrict a b l in
         let e = bounded (k .2 .0) (k .2 .1) in
-        omega (arith, closed-is r (k .0) (rw (k .2 .2) at (e .0)) (k .3), closed-is r (k .1) (rw (k .2 .3) at (e .1)) (k .4), ranks (k .0) (k .1) (k .2), ap (closed r) (k .5), ap (closed r) (k .6))
+        omega (
+          arith,
+          closed-is r (k .0) (rw (k .2 .2) at (e .0)) (k .3),
+          closed-is r (k .1) (rw (k .2 .3) at (e .1)) (k .4),
+          ranks (k .0) (k .1) (k .2),
+          ap (closed r) (k .5),
+          ap (closed r) (k .6),
+        )
 
     to : Carries (partOf p g) (netOf (compactVertices p g)) Same
     to = record {

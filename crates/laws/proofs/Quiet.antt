@@ -14,32 +14,42 @@ use Rattle.defs.specs.Lists.{keepIf, upFrom, sameList}
 use Rattle.defs.specs.SeqGraph.{Graph, nodeCount, remapNumbers}
 use Rattle.defs.specs.Zip.{Work, isLinearChainStart, linearChain, mergeLinearChain, zipStarts, zipLinearChains}
 use Rattle.defs.specs.Rewrites.{tryMergeDiamond, tryMergeTails, trySplitCommonSuffix, tryMergeCommonSuffices}
-use Rattle.defs.specs.Simplify.{firstAt, transformUntilComplete, firstSplit, splitUntilComplete, fuelFor, simplifyGraphOnce, roundsFrom, Simplified, simplified, graphTopologySignature, simplifyGraphFull, quiet, repeated, full}
+use Rattle.defs.specs.Simplify.{firstAt, transformUntilComplete, firstSplit, splitUntilComplete, fuelFor, simplifyGraphOnce, roundsFrom}
+use Rattle.defs.specs.Simplify.{Simplified, simplified, graphTopologySignature, simplifyGraphFull, quiet, repeated, full}
 use Rattle.laws.proofs.Walks.{byTest}
 use Rattle.laws.proofs.ListLaws.{mem-keepIf}
 use Rattle.laws.proofs.Cycles.{mem-upFrom}
 use Rattle.laws.proofs.Measures.{weight, enough-is}
 use Rattle.laws.proofs.Bound.{begun}
 use Rattle.laws.proofs.Fuels.{Rests, rests, untried-from}
-use Rattle.laws.proofs.Whole.{byOption, byList, again, until-zero, until-none, until-some, splitAll-zero, splitAll-none, splitAll-some, zip-nil, zip-cons, zip-zero, zip-empty}
+use Rattle.laws.proofs.Whole.{byOption, byList, again, until-zero, until-none, until-some, splitAll-zero, splitAll-none}
+use Rattle.laws.proofs.Whole.{splitAll-some, zip-nil, zip-cons, zip-zero, zip-empty}
 
 -- counts never fall
-until-count-turn : (f : Graph → ℕ → Option Graph) (fuel : ℕ) (w : Work) → ((a : Graph) → suc (w .rewrites) ≤ (transformUntilComplete f fuel (again w a)) .rewrites) → w .rewrites ≤ (transformUntilComplete f (suc fuel) w) .rewrites
-until-count-turn f fuel w ih = byOption (firstAt (f (w .graph)) 0 (nodeCount (w .graph))) (λ t. rw (until-none f fuel w t) (omega arith)) (λ a t. rw (until-some f fuel w a t) (omega (arith, ih a)))
+until-count-turn : (f : Graph → ℕ → Option Graph) (fuel : ℕ) (w : Work)
+    → ((a : Graph) → suc (w .rewrites) ≤ (transformUntilComplete f fuel (again w a)) .rewrites)
+    → w .rewrites ≤ (transformUntilComplete f (suc fuel) w) .rewrites
+until-count-turn f fuel w ih = byOption (firstAt (f (w .graph)) 0 (nodeCount (w .graph))) (λ t. rw (until-none f fuel w t) (omega arith))
+    (λ a t. rw (until-some f fuel w a t) (omega (arith, ih a)))
 
 until-count : (f : Graph → ℕ → Option Graph) (fuel : ℕ) (w : Work) → w .rewrites ≤ (transformUntilComplete f fuel w) .rewrites
 until-count f zero w = rw (until-zero f w) (omega arith)
 until-count f (suc fuel) w = until-count-turn f fuel w (λ a. until-count f fuel (again w a))
 
-splits-count-turn : (fuel : ℕ) (l : List ℕ) (w : Work) → ((k : List ℕ) (a : Graph) → suc (w .rewrites) ≤ (splitUntilComplete fuel k (again w a)) .rewrites) → w .rewrites ≤ (splitUntilComplete (suc fuel) l w) .rewrites
-splits-count-turn fuel l w ih = byOption (firstSplit (w .graph) l 0 (nodeCount (w .graph))) (λ t. rw (splitAll-none fuel l w t) (omega arith)) (λ s t. rw (splitAll-some fuel l w s t) (omega (arith, ih (s .tried) (s .graph))))
+splits-count-turn : (fuel : ℕ) (l : List ℕ) (w : Work) → ((k : List ℕ) (a : Graph)
+    → suc (w .rewrites) ≤ (splitUntilComplete fuel k (again w a)) .rewrites) → w .rewrites ≤ (splitUntilComplete (suc fuel) l w) .rewrites
+splits-count-turn fuel l w ih = byOption (firstSplit (w .graph) l 0 (nodeCount (w .graph))) (λ t.
+    rw (splitAll-none fuel l w t) (omega arith)) (λ s t. rw (splitAll-some fuel l w s t) (omega (arith, ih (s .tried) (s .graph))))
 
 splits-count : (fuel : ℕ) (l : List ℕ) (w : Work) → w .rewrites ≤ (splitUntilComplete fuel l w) .rewrites
 splits-count zero l w = rw (splitAll-zero l w) (omega arith)
 splits-count (suc fuel) l w = splits-count-turn fuel l w (λ k a. splits-count fuel k (again w a))
 
-zip-count-turn : (fuel s : ℕ) (ss : List ℕ) (w : Work) → w .rewrites ≤ (zipStarts fuel ss w) .rewrites → ((l : List ℕ) (a : Graph) → suc (w .rewrites) ≤ (zipStarts fuel l (again w a)) .rewrites) → w .rewrites ≤ (zipStarts (suc fuel) (s ∷ ss) w) .rewrites
-zip-count-turn fuel s ss w i₁ i₂ = byList (linearChain (w .graph) s) (λ t. rw (zip-nil fuel s ss w t) i₁) (λ v vs t. rw (zip-cons fuel s ss w v vs t) (omega (arith, i₂ (remapNumbers (v ∷ vs) ss) (mergeLinearChain (w .graph) s (v ∷ vs)))))
+zip-count-turn : (fuel s : ℕ) (ss : List ℕ) (w : Work) → w .rewrites ≤ (zipStarts fuel ss w) .rewrites
+    → ((l : List ℕ) (a : Graph) → suc (w .rewrites) ≤ (zipStarts fuel l (again w a)) .rewrites)
+    → w .rewrites ≤ (zipStarts (suc fuel) (s ∷ ss) w) .rewrites
+zip-count-turn fuel s ss w i₁ i₂ = byList (linearChain (w .graph) s) (λ t. rw (zip-nil fuel s ss w t) i₁) (λ v vs t.
+    rw (zip-cons fuel s ss w v vs t) (omega (arith, i₂ (remapNumbers (v ∷ vs) ss) (mergeLinearChain (w .graph) s (v ∷ vs)))))
 
 zip-count : (fuel : ℕ) (ss : List ℕ) (w : Work) → w .rewrites ≤ (zipStarts fuel ss w) .rewrites
 zip-count zero ss w = rw (zip-zero ss w) (omega arith)
@@ -47,15 +57,34 @@ zip-count (suc fuel) [] w = rw (zip-empty fuel w) (omega arith)
 zip-count (suc fuel) (s ∷ ss) w = zip-count-turn fuel s ss w (zip-count fuel ss w) (λ l a. zip-count fuel l (again w a))
 
 -- a stage that made nothing
-until-idle : (f : Graph → ℕ → Option Graph) (w : Work) → (transformUntilComplete f (fuelFor (w .graph)) w) .rewrites ≡ w .rewrites → (transformUntilComplete f (fuelFor (w .graph)) w ≡ w) × Rests f (w .graph)
+until-idle : (f : Graph → ℕ → Option Graph) (w : Work) → (transformUntilComplete f (fuelFor (w .graph)) w) .rewrites ≡ w .rewrites
+    → (transformUntilComplete f (fuelFor (w .graph)) w ≡ w) × Rests f (w .graph)
 until-idle f w e = byOption (firstAt (f (w .graph)) 0 (nodeCount (w .graph)))
     (λ t. (ap (λ n. transformUntilComplete f n w) (enough-is (w .graph)) ∙ until-none f (weight (w .graph)) w t, rests f (w .graph) t))
-    (λ a t. absurd (omega (arith, e, ap (λ n. (transformUntilComplete f n w) .rewrites) (enough-is (w .graph)), ap (λ (x : Work). x .rewrites) (until-some f (weight (w .graph)) w a t), until-count f (weight (w .graph)) (again w a))))
+    (λ a t. absurd (omega (
+      arith,
+      e,
+      ap (λ n. (transformUntilComplete f n w) .rewrites) (enough-is (w .graph)),
+      ap (λ (x : Work). x .rewrites) (until-some f (weight (w .graph)) w a t),
+      until-count f (weight (w .graph)) (again w a),
+    )))
 
-splits-idle : (w : Work) → (splitUntilComplete (fuelFor (w .graph)) [] w) .rewrites ≡ w .rewrites → (splitUntilComplete (fuelFor (w .graph)) [] w ≡ w) × Rests trySplitCommonSuffix (w .graph)
+splits-idle : (w : Work) → (splitUntilComplete (fuelFor (w .graph)) [] w) .rewrites ≡ w .rewrites
+    → (splitUntilComplete (fuelFor (w .graph)) [] w ≡ w) × Rests trySplitCommonSuffix (w .graph)
 splits-idle w e = byOption (firstSplit (w .graph) [] 0 (nodeCount (w .graph)))
-    (λ t. (ap (λ n. splitUntilComplete n [] w) (enough-is (w .graph)) ∙ splitAll-none (weight (w .graph)) [] w t, λ v h. untried-from (w .graph) [] 0 (nodeCount (w .graph)) t v (omega arith) (omega arith) (unfold Rattle.defs.specs.Lists.elemOf in refl)))
-    (λ s t. absurd (omega (arith, e, ap (λ n. (splitUntilComplete n [] w) .rewrites) (enough-is (w .graph)), ap (λ (x : Work). x .rewrites) (splitAll-some (weight (w .graph)) [] w s t), splits-count (weight (w .graph)) (s .tried) (again w (s .graph)))))
+    (λ t. (
+      ap (λ n. splitUntilComplete n [] w) (enough-is (w .graph)) ∙ splitAll-none (weight (w .graph)) [] w t,
+      λ v h.
+          untried-from (w .graph) [] 0 (nodeCount (w .graph)) t v (omega arith) (omega arith) (unfold Rattle.defs.specs.Lists.elemOf in
+          refl),
+    ))
+    (λ s t. absurd (omega (
+      arith,
+      e,
+      ap (λ n. (splitUntilComplete n [] w) .rewrites) (enough-is (w .graph)),
+      ap (λ (x : Work). x .rewrites) (splitAll-some (weight (w .graph)) [] w s t),
+      splits-count (weight (w .graph)) (s .tried) (again w (s .graph)),
+    )))
 
 -- no chain of two vertices or more begins anywhere
 abbrev pub NoChain : Graph → Type 0
@@ -64,7 +93,8 @@ NoChain g = (s : ℕ) → s < nodeCount g → linearChain g s ≡ []
 Idle : ℕ → List ℕ → Work → Type 0
 Idle fuel ss w = (zipStarts fuel ss w ≡ w) × ((s : ℕ) → List·Memᴰ s ss → linearChain (w .graph) s ≡ [])
 
-starts-turn : (fuel s : ℕ) (ss : List ℕ) (w : Work) → (zipStarts (suc fuel) (s ∷ ss) w) .rewrites ≡ w .rewrites → ((zipStarts fuel ss w) .rewrites ≡ w .rewrites → Idle fuel ss w) → Idle (suc fuel) (s ∷ ss) w
+starts-turn : (fuel s : ℕ) (ss : List ℕ) (w : Work) → (zipStarts (suc fuel) (s ∷ ss) w) .rewrites ≡ w .rewrites
+    → ((zipStarts fuel ss w) .rewrites ≡ w .rewrites → Idle fuel ss w) → Idle (suc fuel) (s ∷ ss) w
 unfolding Idle
 starts-turn fuel s ss w e ih = byList (linearChain (w .graph) s)
     (λ t. let q = zip-nil fuel s ss w t in
@@ -82,7 +112,8 @@ starts-idle (suc fuel) (s ∷ ss) w l e = starts-turn fuel s ss w e (λ k. start
 
 chain-none : (g : Graph) (s : ℕ) → isLinearChainStart g s ≡ false → linearChain g s ≡ []
 unfolding linearChain
-chain-none g s t = byTest (ltb s (nodeCount g)) (λ u. rw (and-false (ltb s (nodeCount g)) (isLinearChainStart g s) t, linearChain)) (λ u. rw (and-false (ltb s (nodeCount g)) (isLinearChainStart g s) t, linearChain))
+chain-none g s t = byTest (ltb s (nodeCount g)) (λ u. rw (and-false (ltb s (nodeCount g)) (isLinearChainStart g s) t, linearChain)) (λ u.
+    rw (and-false (ltb s (nodeCount g)) (isLinearChainStart g s) t, linearChain))
   where
     and-false : (a b : Bool) → b ≡ false → (a && b) ≡ false
     and-false true b e = e
@@ -156,7 +187,9 @@ quiet-repeated e = absurd (omega (arith, bad))
 abbrev Calm : ℕ → Simplified → Type 0
 Calm least r = r .end ≡ quiet → Still least (r .graph)
 
-calm-turn : (least remaining n : ℕ) (sig : List ℕ) (w : Work) → ((m : ℕ) (l : List ℕ) → Calm least (roundsFrom least remaining m l (simplifyGraphOnce least w))) → Calm least (roundsFrom least (suc remaining) n sig w)
+calm-turn : (least remaining n : ℕ) (sig : List ℕ) (w : Work)
+    → ((m : ℕ) (l : List ℕ) → Calm least (roundsFrom least remaining m l (simplifyGraphOnce least w)))
+    → Calm least (roundsFrom least (suc remaining) n sig w)
 unfolding roundsFrom simplified
 calm-turn least remaining n sig w ih = byTest (eqb ((simplifyGraphOnce least w) .rewrites) (w .rewrites))
     (λ t. rw (t, roundsFrom) (λ _. let z = round-idle least w (eqb-true _ _ t) in still-at (sym (z .0)) (z .1)))

@@ -68,7 +68,8 @@ module _ (hasEnds : Edge → ℕ → ℕ → Bool) (g : Graph) where
 
   more-hop : (seen : List ℕ) (u v : ℕ) → v < nodeCount g → elemOf u seen ≡ true → Hop u v → elemOf v (more seen) ≡ true
   more-hop seen u v h t (e, m, j) =
-      in-more seen v h (or-right (elemOf v seen) _ (anyOf-mem (λ e. anyOf (λ u. hasEnds e u v) seen) (g .edges) m (anyOf-mem (λ u. hasEnds e u v) seen (elemOf-true u seen t) j)))
+      in-more seen v h (or-right (elemOf v seen) _ (anyOf-mem (λ e. anyOf (λ u. hasEnds e u v) seen) (g .edges) m
+      (anyOf-mem (λ u. hasEnds e u v) seen (elemOf-true u seen t) j)))
 
   From : List ℕ → ℕ → Type 0
   From seen v = (u : ℕ) × (elemOf u seen ≡ true) × (m : ℕ) × Way m u v
@@ -89,19 +90,29 @@ module _ (hasEnds : Edge → ℕ → ℕ → Bool) (g : Graph) where
     in-grow (suc n) seen (suc m) u v l h t (x, k, w) = in-grow n (more seen) m x v (omega arith) (inside u x k) (more-hop seen u x (inside u x k) t k) w
 
     -- where each hop goes on in an order, no way is longer than there are vertices
-    module _ (Below : ℕ → ℕ → Type 0) (trans : (a b c : ℕ) → Below a b → Below b c → Below a c) (irrefl : (a : ℕ) → Below a a → ⊥) (rises : (u v : ℕ) → Hop u v → Below u v) where
+    module _ (Below : ℕ → ℕ → Type 0) (trans : (a b c : ℕ) → Below a b → Below b c → Below a c) (irrefl : (a : ℕ) → Below a a → ⊥) (rises :
+        (u v : ℕ) → Hop u v → Below u v) where
       Listed : ℕ → ℕ → Type 0
-      Listed m u = (vs : List ℕ) × (length vs ≡ m) × Distinct (u ∷ vs) × ((x : ℕ) → List·Memᴰ x (u ∷ vs) → x < nodeCount g) × ((x : ℕ) → List·Memᴰ x vs → Below u x)
+      Listed m u = (vs : List ℕ) × (length vs ≡ m) × Distinct (u ∷ vs) × ((x : ℕ) → List·Memᴰ x (u ∷ vs) → x < nodeCount g)
+          × ((x : ℕ) → List·Memᴰ x vs → Below u x)
 
       listed-more : (m u w : ℕ) → u < nodeCount g → Hop u w → Listed m w → Listed (suc m) u
       unfolding Listed
       listed-more m u w h k r =
-          let below : (x : ℕ) → List·Memᴰ x (w ∷ r .0) → Below u x = λ x i. ⊎-elim (λ (e : x ≡ w). rw e (rises u w k)) (λ j. trans u w x (rises u w k) (r .4 x j)) (List·Memᴰ·cases-cons i) in
+          let below : (x : ℕ) → List·Memᴰ x (w ∷ r .0) → Below u x = λ x i.
+          ⊎-elim (λ (e : x ≡ w). rw e (rises u w k)) (λ j. trans u w x (rises u w k) (r .4 x j)) (List·Memᴰ·cases-cons i) in
           (w ∷ r .0, ap suc (r .1), (λ i. irrefl u (below u i), r .2), λ x i. ⊎-elim (λ (e : x ≡ u). rw e h) (r .3 x) (List·Memᴰ·cases-cons i), below)
 
       listed : (m u v : ℕ) → u < nodeCount g → Way m u v → Listed m u
       unfolding Listed
-      listed zero u v h e = ([], refl, (λ i. List·Memᴰ·not-nil i, tt), λ x i. ⊎-elim (λ (e : x ≡ u). rw e h) (λ j. absurd (List·Memᴰ·not-nil j)) (List·Memᴰ·cases-cons i), λ x i. absurd (List·Memᴰ·not-nil i))
+      listed zero u v h e = (
+        [],
+        refl,
+        (λ i. List·Memᴰ·not-nil i, tt),
+        λ x i.
+            ⊎-elim (λ (e : x ≡ u). rw e h) (λ j. absurd (List·Memᴰ·not-nil j)) (List·Memᴰ·cases-cons i),
+        λ x i. absurd (List·Memᴰ·not-nil i),
+      )
       listed (suc m) u v h (w, k, y) = listed-more m u w h k (listed m w v (inside u w k) y)
 
       short : (m u v : ℕ) → u < nodeCount g → Way m u v → m < nodeCount g

@@ -11,7 +11,9 @@ use Rattle.defs.specs.Lists.{keepAt, bit}
 use Rattle.defs.specs.SeqGraph.{Edge, Graph, nodeCount, compactVertices}
 use Rattle.defs.specs.Zip.{Work, zipLinearChains}
 use Rattle.defs.specs.Simplify.{sequenceBytes, emptyVertices, simplifyGraphFull}
-use Rattle.defs.specs.Cleanup.{beforeChoice, removeSingletonOrphanVertices, referenceSourceVertex, referenceSinkVertex, removeOrphans, removeVerticesNotConnectedToRef, choiceGraph, removePathsNotConnectedToRef, withDummyVertex, afterChoice, cleanupSeqGraph}
+use Rattle.defs.specs.Cleanup.{beforeChoice, removeSingletonOrphanVertices, referenceSourceVertex, referenceSinkVertex, removeOrphans}
+use Rattle.defs.specs.Cleanup.{removeVerticesNotConnectedToRef, choiceGraph, removePathsNotConnectedToRef, withDummyVertex, afterChoice}
+use Rattle.defs.specs.Cleanup.{cleanupSeqGraph}
 use Rattle.laws.proofs.Walks.{byTest}
 use Rattle.laws.proofs.ListLaws.{keepAt-yes, keepAt-no}
 use Rattle.laws.proofs.Counts.{total, heft, bit-le}
@@ -37,7 +39,13 @@ pub narrow-fits : (g : Graph) → Narrow g → Fits g
 narrow-fits g h = small-fits g (h .good) (narrow-small g h)
 
 pub narrow-tame : {g g′ : Graph} → Narrow g → Tame g g′ → Narrow g′
-narrow-tame h t = record { good = t .good; branches = omega (arith, h .branches, t .branches); few = omega (arith, h .few, t .fewer); size = omega (arith, h .size, t .light) }
+narrow-tame h t = record {
+  good = t .good;
+  branches = omega (arith, h .branches, t .branches);
+  few = omega (arith, h .few, t .fewer);
+  size =
+      omega (arith, h .size, t .light);
+}
 
 total-keepAt : (f : List ℕ → ℕ) (p : ℕ → Bool) (i : ℕ) (xs : List (List ℕ)) → total f (keepAt p i xs) ≤ total f xs
 unfolding total keepAt
@@ -87,7 +95,15 @@ unfolding nodeCount
 two-fit k v = record {
   vertices = omega arith;
   edges = omega arith;
-  single = (record { bounded = λ e m. bound e (List·Memᴰ·eq-of-singleton m); rank = λ v. v; ranks = λ a b l. rise a b (List·Memᴰ·eq-of-singleton (l .1)) (l .2) (l .3) }, (λ l. List·Memᴰ·not-nil (l .1), tt));
+  single = (
+    record {
+      bounded = λ e m. bound e (List·Memᴰ·eq-of-singleton m);
+      rank = λ v. v;
+      ranks = λ a b l.
+          rise a b (List·Memᴰ·eq-of-singleton (l .1)) (l .2) (l .3);
+    },
+    (λ l. List·Memᴰ·not-nil (l .1), tt),
+  );
 }
   where
     bound : (e : Edge) → e ≡ record { from = 0; to = 1; support = 0; isRef = true } → (e .from < 2) × (e .to < 2)
@@ -107,7 +123,8 @@ finish-fits : (h : Work) (a b : Option ℕ) → Narrow (h .graph) → Fits ((aft
 unfolding afterChoice
 finish-fits h none b k = narrow-fits (h .graph) k
 finish-fits h (some s) none k = narrow-fits (h .graph) k
-finish-fits h (some s) (some t) k = withSink-fits ((simplifyGraphFull 10 (removePathsNotConnectedToRef (h .graph) s t)) .graph) (narrow-fits _ (simplify-narrow (removePathsNotConnectedToRef (h .graph) s t) (between-narrow (h .graph) s t k)))
+finish-fits h (some s) (some t) k = withSink-fits ((simplifyGraphFull 10 (removePathsNotConnectedToRef (h .graph) s t)) .graph)
+    (narrow-fits _ (simplify-narrow (removePathsNotConnectedToRef (h .graph) s t) (between-narrow (h .graph) s t k)))
 
 pub cleanup-fits : (g : Graph) → Narrow g → Fits ((cleanupSeqGraph g) .graph)
 unfolding cleanupSeqGraph choiceGraph

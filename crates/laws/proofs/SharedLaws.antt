@@ -5,7 +5,8 @@ use native.Mathlib.Omega.{arith}
 use mathlib.Core.Path.{_≡_, refl, sym, ap, _∙_}
 use mathlib.Core.Logic.{_⊎_, inl, inr, ⊎-elim}
 use mathlib.Core.Bool.{Bool, true, false}
-use mathlib.Core.List.{List, [], _∷_, _++_, map, reverse, reverse-append, reverse-reverse, append-assoc, append-nil, List·Memᴰ, List·Memᴰ·head, List·Memᴰ·tail, List·Memᴰ·not-nil, List·Memᴰ·cases-cons, Memᴰ·map}
+use mathlib.Core.List.{List, [], _∷_, _++_, map, reverse, reverse-append, reverse-reverse, append-assoc, append-nil, List·Memᴰ}
+use mathlib.Core.List.{List·Memᴰ·head, List·Memᴰ·tail, List·Memᴰ·not-nil, List·Memᴰ·cases-cons, Memᴰ·map}
 use lib.Dec.{eqb}
 use lib.ListN.{length, take, drop, length-append}
 use lib.Seq.{take-at, drop-at, drop-append-seam}
@@ -28,19 +29,24 @@ shared₂-both (x ∷ xs) [] = ((x ∷ xs, refl), ([], refl))
 shared₂-both (x ∷ xs) (y ∷ ys) =
     let ih = shared₂-both xs ys in
     byTest (eqb x y)
-    (λ t. rw (t, commonPrefix₂) ((ih .0 .0, ap (λ l. x ∷ l) (ih .0 .1)), (ih .1 .0, ap (λ l. y ∷ l) (ih .1 .1) ∙ ap (λ z. z ∷ (commonPrefix₂ xs ys ++ ih .1 .0)) (sym (eqb-true x y t)))))
+    (λ t. rw (t, commonPrefix₂) (
+      (ih .0 .0, ap (λ l. x ∷ l) (ih .0 .1)),
+      (ih .1 .0, ap (λ l. y ∷ l) (ih .1 .1) ∙ ap (λ z. z ∷ (commonPrefix₂ xs ys ++ ih .1 .0)) (sym (eqb-true x y t))),
+    ))
     (λ t. rw (t, commonPrefix₂) ((x ∷ xs, refl), (y ∷ ys, refl)))
 
 sharedBy-first : (x : List ℕ) (l : List (List ℕ)) → Begins (commonPrefixBy x l) x
 unfolding commonPrefixBy
 sharedBy-first x [] = ([], sym (append-nil x))
-sharedBy-first x (y ∷ l) = begins-trans (commonPrefixBy (commonPrefix₂ x y) l) (commonPrefix₂ x y) x (sharedBy-first (commonPrefix₂ x y) l) ((shared₂-both x y) .0)
+sharedBy-first x (y ∷ l) = begins-trans (commonPrefixBy (commonPrefix₂ x y) l) (commonPrefix₂ x y) x (sharedBy-first (commonPrefix₂ x y) l)
+    ((shared₂-both x y) .0)
 
 sharedBy-each : (x : List ℕ) (l : List (List ℕ)) {s : List ℕ} → List·Memᴰ s l → Begins (commonPrefixBy x l) s
 unfolding commonPrefixBy
 sharedBy-each x [] m = absurd (List·Memᴰ·not-nil m)
 sharedBy-each x (y ∷ l) {s} m = ⊎-elim
-    (λ (e : s ≡ y). rw e (begins-trans (commonPrefixBy (commonPrefix₂ x y) l) (commonPrefix₂ x y) y (sharedBy-first (commonPrefix₂ x y) l) ((shared₂-both x y) .1)))
+    (λ (e : s ≡ y). rw e (begins-trans (commonPrefixBy (commonPrefix₂ x y) l) (commonPrefix₂ x y) y (sharedBy-first (commonPrefix₂ x y) l)
+    ((shared₂-both x y) .1)))
     (λ n. sharedBy-each (commonPrefix₂ x y) l n)
     (List·Memᴰ·cases-cons m)
 
@@ -62,7 +68,8 @@ left-is a b d q e =
     let n : length (a ++ b) ≡ length q - length d = omega (arith, ap length f, length-append (a ++ b) d) in
     rw (f, take-at (a ++ b) d _ (n ∙ ap (λ x. length x - length d) f)) (drop-append-seam a b)
 
-pub cut : (g : Graph) (mids : List ℕ) (m : ℕ) → List·Memᴰ m mids → (prefix suffix : List ℕ) → prefix ≡ commonPrefix (map (vertexSequence g) mids) → suffix ≡ commonSuffix (map (drop (length prefix)) (map (vertexSequence g) mids))
+pub cut : (g : Graph) (mids : List ℕ) (m : ℕ) → List·Memᴰ m mids → (prefix suffix : List ℕ) → prefix
+    ≡ commonPrefix (map (vertexSequence g) mids) → suffix ≡ commonSuffix (map (drop (length prefix)) (map (vertexSequence g) mids))
     → vertexSequence g m ≡ prefix ++ ((midPlan g (length prefix) (length suffix) m) .remaining ++ suffix)
 unfolding midPlan
 cut g mids m k prefix suffix e f =

@@ -6,19 +6,24 @@ use mathlib.Core.Path.{_≡_, refl, sym, ap, _∙_}
 use mathlib.Core.Logic.{_⊎_, inl, inr, ⊎-elim}
 use mathlib.Core.Bool.{Bool, true, false, cond, not, _&&_, _||_}
 use mathlib.Core.Option.{Option, none, some}
-use mathlib.Core.List.{List, [], _∷_, _++_, map, append-assoc, append-nil, List·Memᴰ, List·Memᴰ·head, List·Memᴰ·tail, List·Memᴰ·not-nil, List·Memᴰ·cases-cons, Memᴰ·of-map}
+use mathlib.Core.List.{List, [], _∷_, _++_, map, append-assoc, append-nil, List·Memᴰ, List·Memᴰ·head, List·Memᴰ·tail, List·Memᴰ·not-nil}
+use mathlib.Core.List.{List·Memᴰ·cases-cons, Memᴰ·of-map}
 use lib.Dec.{eqb, ltb}
 use lib.ListN.{length, getD, length-append, length-map}
 use borrow.Author.Tests.{eqb-true, eqb-false, eq-eqb, ne-eqb}
 use Rattle.defs.specs.Lists.{keepIf, bit, concat}
-use Rattle.defs.specs.SeqGraph.{Edge, Graph, nodeCount, vertexSequence, hasEnds, addOrUpdateEdge, addOrUpdateEdges, keeps, Change, withAdditions, applyChange, removeVerticesById, compactVertices, remapEdge, inDegree, outDegree, edgesInto, edgesFrom, outgoingNodes}
-use Rattle.defs.specs.Rewrites.{MidPlan, EdgeData, hasRemaining, nonEmpty, prefixToSuffix, onlyIf, isNone, edgesToMiddles, edgesFromMiddles, newEdgeIf, newEdge, splitAndUpdateWith}
+use Rattle.defs.specs.SeqGraph.{Edge, Graph, nodeCount, vertexSequence, hasEnds, addOrUpdateEdge, addOrUpdateEdges, keeps, Change}
+use Rattle.defs.specs.SeqGraph.{withAdditions, applyChange, removeVerticesById, compactVertices, remapEdge, inDegree, outDegree, edgesInto}
+use Rattle.defs.specs.SeqGraph.{edgesFrom, outgoingNodes}
+use Rattle.defs.specs.Rewrites.{MidPlan, EdgeData, hasRemaining, nonEmpty, prefixToSuffix, onlyIf, isNone, edgesToMiddles, edgesFromMiddles}
+use Rattle.defs.specs.Rewrites.{newEdgeIf, newEdge, splitAndUpdateWith}
 use Rattle.defs.specs.Strings.{HasEdge}
 use Rattle.laws.proofs.Walks.{byTest}
 use Rattle.laws.proofs.ListLaws.{clash, and-split, of-keepIf, keepIf-yes, keepIf-no}
 use Rattle.laws.proofs.Edges.{Linked, linked-cases, linked-tail, raise-yes, raise-no, keeps-not, not-keeps, keeps-gone, raiseAll-adds}
 use Rattle.laws.proofs.Counts
-use Rattle.laws.proofs.Counts.{total, total-le, total-same, total-add, total-append, total-one, total-zero, length-keepIf, Distinct, Single, length-flat, times-none, times-le, bit-le, count-raiseAll}
+use Rattle.laws.proofs.Counts.{total, total-le, total-same, total-add, total-append, total-one, total-zero, length-keepIf, Distinct}
+use Rattle.laws.proofs.Counts.{Single, length-flat, times-none, times-le, bit-le, count-raiseAll}
 use Rattle.laws.proofs.MergeCounts.{and-no}
 use Rattle.laws.proofs.SplitWith as S
 
@@ -74,11 +79,13 @@ module _ (p : ℕ → Bool) where
       (λ t. rw (raise-no u v s r e es t)
       (linked-cases e es u v l (λ a b. clash (Counts.ends-join u v e (sym a) (sym b)) t) (λ k. ap (λ z. bit (both e) + z) (sum-known u v s r es k))))
 
-  pub count-known : (u v : ℕ) (b : Bool) (o : Option EdgeData) (es : List Edge) → ((l : EdgeData) → o ≡ some l → Linked es u v) → length (keepIf both (addOrUpdateEdges (onlyIf b (newEdgeIf u v o)) es)) ≡ length (keepIf both es)
+  pub count-known : (u v : ℕ) (b : Bool) (o : Option EdgeData) (es : List Edge) → ((l : EdgeData) → o ≡ some l → Linked es u v)
+      → length (keepIf both (addOrUpdateEdges (onlyIf b (newEdgeIf u v o)) es)) ≡ length (keepIf both es)
   unfolding onlyIf newEdgeIf addOrUpdateEdges newEdge
   count-known u v b none es h = byTest b (λ t. rw t) (λ t. rw t)
   count-known u v b (some l) es h = byTest b
-      (λ t. rw t (length-keepIf both (addOrUpdateEdge u v (l .support) (l .isRef) es) ∙ (sum-known u v (l .support) (l .isRef) es (h l refl) ∙ sym (length-keepIf both es))))
+      (λ t. rw t (length-keepIf both (addOrUpdateEdge u v (l .support) (l .isRef) es)
+      ∙ (sum-known u v (l .support) (l .isRef) es (h l refl) ∙ sym (length-keepIf both es))))
       (λ t. rw t)
 
 unfoldable pub loads : Option EdgeData → ℕ
@@ -164,7 +171,8 @@ module _ (P S′ : Bool) (g : Graph) (top : ℕ) (bottom : Option ℕ) (lefts : 
 
   known : (l : EdgeData) → gone ≡ some l → Linked (addOrUpdateEdges but-last (g .edges)) t b
   known l e = raiseAll-adds but-last (g .edges) t b
-      (S.linked-right e₁ (e₂ ++ (e₃ ++ (e₄ ++ e₅))) t b (S.linked-right e₂ (e₃ ++ (e₄ ++ e₅)) t b (S.linked-right e₃ (e₄ ++ e₅) t b (S.linked-left e₄ e₅ t b (S.in-linkMaybe t b gone l e)))))
+      (S.linked-right e₁ (e₂ ++ (e₃ ++ (e₄ ++ e₅))) t b (S.linked-right e₂ (e₃ ++ (e₄ ++ e₅)) t b
+      (S.linked-right e₃ (e₄ ++ e₅) t b (S.linked-left e₄ e₅ t b (S.in-linkMaybe t b gone l e)))))
 
   count-new : length (keepIf stays (addOrUpdateEdges (c .edges) (g .edges))) ≤ length but-last + length (keepIf stays (g .edges))
   count-new =
@@ -175,7 +183,8 @@ module _ (P S′ : Bool) (g : Graph) (top : ℕ) (bottom : Option ℕ) (lefts : 
   unfolding applyChange removeVerticesById compactVertices withAdditions splitAndUpdateWith
   edges-are = length-map (keepIf stays (addOrUpdateEdges (c .edges) (g .edges))) (remapEdge (keeps mids))
 
-  pub edges-split : length ((applyChange g c) .edges) ≤ bit P + (bit (S′ && not (isNone bottom)) + (length lefts + (loads gone + length lefts))) + length (keepIf stays (g .edges))
+  pub edges-split : length ((applyChange g c) .edges) ≤ bit P
+      + (bit (S′ && not (isNone bottom)) + (length lefts + (loads gone + length lefts))) + length (keepIf stays (g .edges))
   edges-split = omega (arith, edges-are, count-new, length-but-last)
 
   -- the edges that stay, those into the middles and those out of them
@@ -189,7 +198,12 @@ module _ (P S′ : Bool) (g : Graph) (top : ℕ) (bottom : Option ℕ) (lefts : 
         (λ y. byTest (keeps mids (e .from))
         (λ x. omega (arith, bit-le (stays e), times-none (e .to) mids (keeps-not mids (e .to) y), times-none (e .from) mids (keeps-not mids (e .from) x)))
         (λ x. rw x (omega (arith, times-none (e .to) mids (keeps-not mids (e .to) y), times-le (e .from) mids once))))
-        (λ y. omega (arith, and-no (keeps mids (e .from)) (keeps mids (e .to)) y, times-le (e .to) mids once, times-none (e .from) mids (λ k. apart e m k (not-keeps mids (e .to) y))))
+        (λ y. omega (
+          arith,
+          and-no (keeps mids (e .from)) (keeps mids (e .to)) y,
+          times-le (e .to) mids once,
+          times-none (e .from) mids (λ k. apart e m k (not-keeps mids (e .to) y)),
+        ))
 
     pub places-split : length (keepIf stays (g .edges)) + (total (inDegree g) mids + total (outDegree g) mids) ≤ length (g .edges)
     unfolding places inDegree outDegree edgesInto edgesFrom

@@ -9,7 +9,8 @@ use lib.Dec.{leb}
 use lib.ListN.{length, drop}
 use Rattle.defs.specs.Lists.{given, headOr, commonPrefix, commonSuffix}
 use Rattle.defs.specs.SeqGraph.{Graph, vertexSequence, outgoingNodes, applyChange}
-use Rattle.defs.specs.Rewrites.{nonEmpty, splitAndUpdate, sharedPrefix, sharedSuffix, bottomOf, isDiamond, mergesDiamond, diamondChange, tryMergeDiamond, isTails, mergesTails, tailsChange, tryMergeTails}
+use Rattle.defs.specs.Rewrites.{nonEmpty, splitAndUpdate, sharedPrefix, sharedSuffix, bottomOf, isDiamond, mergesDiamond, diamondChange}
+use Rattle.defs.specs.Rewrites.{tryMergeDiamond, isTails, mergesTails, tailsChange, tryMergeTails}
 use Rattle.laws.proofs.ListLaws.{given-some, and-split}
 
 -- the change of `split_and_update`, where what the middles share is wanted

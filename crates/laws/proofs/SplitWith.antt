@@ -7,7 +7,8 @@ use mathlib.Core.Path.{_≡_, refl, sym, ap, _∙_}
 use mathlib.Core.Logic.{_⊎_, inl, inr, ⊎-elim, _↔_}
 use mathlib.Core.Bool.{Bool, true, false, cond, not, _&&_, _||_, true≢false}
 use mathlib.Core.Option.{Option, none, some}
-use mathlib.Core.List.{List, [], _∷_, _++_, map, append-assoc, List·Memᴰ, List·Memᴰ·head, List·Memᴰ·not-nil, List·Memᴰ·append-cases, Memᴰ·append-left, Memᴰ·append-right}
+use mathlib.Core.List.{List, [], _∷_, _++_, map, append-assoc, List·Memᴰ, List·Memᴰ·head, List·Memᴰ·not-nil, List·Memᴰ·append-cases}
+use mathlib.Core.List.{Memᴰ·append-left, Memᴰ·append-right}
 use lib.Dec.{eqb, ltb}
 use borrow.Author.Tests.{lt-ltb, le-ltb, eq-eqb, ne-eqb}
 use lib.ListN.{length, getD, length-map}
@@ -21,7 +22,9 @@ use Rattle.laws.proofs.Walks.{Net, Pt, start, at, stop, Go, text, IsSin
 use Rattle.laws.proofs.ListLaws.{clash, byOrder, and-split, and-true}
 use Rattle.laws.proofs.Nets.{Ranks, netOf, partOf, Bounded}
 use Rattle.laws.proofs.Edges.{Linked, linked-cases, linked-tail, keeps-other, order-grown, seq-grown-new, seq-grown-old}
-use Rattle.laws.proofs.Changes.{Local, Forth, Back, common, common-is, is-common, linked-old, link-U, of-U-new, spells-change, old-less, of-grown, ranks-change, bounded-change, weight-change, order-change, sink-old, edges-local, verts-local}
+use Rattle.laws.proofs.Changes.{Local, Forth, Back, common, common-is, is-common, linked-old, link-U, of-U-new, spells-change}
+use Rattle.laws.proofs.Changes.{old-less, of-grown, ranks-change, bounded-change, weight-change, order-change, sink-old, edges-local}
+use Rattle.laws.proofs.Changes.{verts-local}
 use Rattle.laws.proofs.Branching.{ends, sinks, sinks-by}
 
 -- lists of edges
@@ -45,7 +48,8 @@ pub in-linksInto : (t n : ℕ) (ps : List MidPlan) (i : ℕ) → i < length ps �
 unfolding edgesToMiddles newEdge
 in-linksInto t n [] i h = absurd (not-suc-le-zero h)
 in-linksInto t n (p ∷ ps) zero h = (_, List·Memᴰ·head refl, refl, sym (add-zero n))
-in-linksInto t n (p ∷ ps) (suc i) h = let e : n + suc i ≡ suc n + i = omega arith in rw e (linked-tail t (suc n + i) (in-linksInto t (suc n) ps i (le-of-suc-le-suc h)))
+in-linksInto t n (p ∷ ps) (suc i) h = let e : n + suc i ≡ suc n + i = omega arith in
+    rw e (linked-tail t (suc n + i) (in-linksInto t (suc n) ps i (le-of-suc-le-suc h)))
 
 pub of-linksFrom : (n b : ℕ) (ps : List MidPlan) (u v : ℕ) → Linked (edgesFromMiddles n b ps) u v → (v ≡ b) × (i : ℕ) × (i < length ps) × (u ≡ n + i)
 unfolding edgesFromMiddles newEdge
@@ -58,7 +62,8 @@ pub in-linksFrom : (n b : ℕ) (ps : List MidPlan) (i : ℕ) → i < length ps �
 unfolding edgesFromMiddles newEdge
 in-linksFrom n b [] i h = absurd (not-suc-le-zero h)
 in-linksFrom n b (p ∷ ps) zero h = (_, List·Memᴰ·head refl, sym (add-zero n), refl)
-in-linksFrom n b (p ∷ ps) (suc i) h = let e : n + suc i ≡ suc n + i = omega arith in rw e (linked-tail (suc n + i) b (in-linksFrom (suc n) b ps i (le-of-suc-le-suc h)))
+in-linksFrom n b (p ∷ ps) (suc i) h = let e : n + suc i ≡ suc n + i = omega arith in
+    rw e (linked-tail (suc n + i) b (in-linksFrom (suc n) b ps i (le-of-suc-le-suc h)))
 
 pub of-linkMaybe : (t b : ℕ) (o : Option EdgeData) (u v : ℕ) → Linked (newEdgeIf t b o) u v → (l : EdgeData) × (o ≡ some l) × (u ≡ t) × (v ≡ b)
 unfolding newEdgeIf newEdge
@@ -187,7 +192,9 @@ module _ (P S : Bool) (n top : ℕ) (bottom : Option ℕ) (lefts : List MidPlan)
   unfolding splitAndUpdateWith
   l₅ i h =
       linked-right e₁ (e₂ ++ (e₃ ++ (e₄ ++ (e₅ ++ e₆)))) (mv + i) b′
-      (linked-right e₂ (e₃ ++ (e₄ ++ (e₅ ++ e₆))) (mv + i) b′ (linked-right e₃ (e₄ ++ (e₅ ++ e₆)) (mv + i) b′ (linked-right e₄ (e₅ ++ e₆) (mv + i) b′ (linked-left e₅ e₆ (mv + i) b′ (in-linksFrom mv b′ lefts i h)))))
+      (linked-right e₂ (e₃ ++ (e₄ ++ (e₅ ++ e₆))) (mv + i) b′
+      (linked-right e₃ (e₄ ++ (e₅ ++ e₆)) (mv + i) b′ (linked-right e₄ (e₅ ++ e₆) (mv
+      + i) b′ (linked-left e₅ e₆ (mv + i) b′ (in-linksFrom mv b′ lefts i h)))))
 
   -- the new vertices
   skip : (p : Bool) (x : List ℕ) (ys : List (List ℕ)) (i : ℕ) → getD (onlyIf p (x ∷ []) ++ ys) (bit p + i) [] ≡ getD ys i []
@@ -197,7 +204,10 @@ module _ (P S : Bool) (n top : ℕ) (bottom : Option ℕ) (lefts : List MidPlan)
 
   pub size : length (c .verts) ≡ bit P + (bit S + length lefts)
   unfolding splitAndUpdateWith onlyIf bit
-  size = byTest P (λ p. byTest S (λ s. rw (p, s) (omega (arith, length-map lefts (λ p. p .remaining)))) (λ s. rw (p, s) (omega (arith, length-map lefts (λ p. p .remaining))))) (λ p. byTest S (λ s. rw (p, s) (omega (arith, length-map lefts (λ p. p .remaining)))) (λ s. rw (p, s) (omega (arith, length-map lefts (λ p. p .remaining)))))
+  size = byTest P (λ p. byTest S (λ s. rw (p, s) (omega (arith, length-map lefts (λ p. p .remaining)))) (λ s.
+      rw (p, s) (omega (arith, length-map lefts (λ p. p .remaining))))) (λ p.
+      byTest S (λ s. rw (p, s) (omega (arith, length-map lefts (λ p. p .remaining)))) (λ s.
+      rw (p, s) (omega (arith, length-map lefts (λ p. p .remaining)))))
 
   pub new₁ : P ≡ true → getD (c .verts) 0 [] ≡ prefix
   unfolding splitAndUpdateWith onlyIf
@@ -216,11 +226,14 @@ module _ (g : Graph) (bounded : Bounded g) (r : ℕ → ℕ) (ranks : Ranks g r)
     (P S : Bool) (top : ℕ) (bottom : Option ℕ) (lefts : List MidPlan) (gone : Option EdgeData) (prefix suffix mids : List ℕ)
     (noPrefix : P ≡ false → prefix ≡ []) (noSuffix : S ≡ false → (suffix ≡ []) × (b : ℕ) × (bottom ≡ some b)) (anyNew : (P ≡ true) ⊎ (S ≡ true))
     (part : ℕ → List ℕ) (cuts : (m : ℕ) → List·Memᴰ m mids → vertexSequence g m ≡ prefix ++ (part m ++ suffix))
-    (leftAt : (m : ℕ) → List·Memᴰ m mids → ((i : ℕ) × (i < length lefts) × (getD (map (λ p. p .remaining) lefts) i [] ≡ part m)) ⊎ ((part m ≡ []) × (l : EdgeData) × (gone ≡ some l)))
+    (leftAt : (m : ℕ) → List·Memᴰ m mids → ((i : ℕ) × (i < length lefts) × (getD (map (λ p. p .remaining) lefts) i [] ≡ part m))
+    ⊎ ((part m ≡ []) × (l : EdgeData) × (gone ≡ some l)))
     (ofLeft : (i : ℕ) → i < length lefts → (m : ℕ) × List·Memᴰ m mids × (getD (map (λ p. p .remaining) lefts) i [] ≡ part m))
     (ofGone : (l : EdgeData) → gone ≡ some l → (m : ℕ) × List·Memᴰ m mids × (part m ≡ []))
-    (midIn : (m : ℕ) → List·Memᴰ m mids → HasEdge g top m) (onlyIn : (u m : ℕ) → List·Memᴰ m mids → HasEdge g u m → u ≡ top) (someMid : (m : ℕ) × List·Memᴰ m mids)
-    (exits : (m : ℕ) → List·Memᴰ m mids → Go (netOf g) (at m) (exitOf bottom)) (onlyExit : (m : ℕ) (q : Pt) → List·Memᴰ m mids → Go (netOf g) (at m) q → q ≡ exitOf bottom) where
+    (midIn : (m : ℕ) → List·Memᴰ m mids → HasEdge g top m) (onlyIn : (u m : ℕ) → List·Memᴰ m mids → HasEdge g u m → u ≡ top) (someMid :
+    (m : ℕ) × List·Memᴰ m mids)
+    (exits : (m : ℕ) → List·Memᴰ m mids → Go (netOf g) (at m) (exitOf bottom)) (onlyExit : (m : ℕ) (q : Pt) → List·Memᴰ m mids
+    → Go (netOf g) (at m) q → q ≡ exitOf bottom) where
   abbrev C : Change
   C = c P S (nodeCount g) top bottom lefts gone prefix suffix mids
 
@@ -289,7 +302,8 @@ module _ (g : Graph) (bounded : Bounded g) (r : ℕ → ℕ) (ranks : Ranks g r)
 
   links : {X : Type 0} (u v : ℕ) → Linked (C .edges) u v
       → (P ≡ true → u ≡ top → v ≡ nodeCount g → X) → (S ≡ true → (b : ℕ) → bottom ≡ some b → u ≡ sv′ → v ≡ b → X)
-      → ((i : ℕ) → i < length lefts → u ≡ t′ → v ≡ mv′ + i → X) → ((l : EdgeData) → gone ≡ some l → u ≡ t′ → v ≡ b″ → X) → ((i : ℕ) → i < length lefts → u ≡ mv′ + i → v ≡ b″ → X) → X
+      → ((i : ℕ) → i < length lefts → u ≡ t′ → v ≡ mv′ + i → X) → ((l : EdgeData) → gone ≡ some l → u ≡ t′ → v ≡ b″ → X)
+      → ((i : ℕ) → i < length lefts → u ≡ mv′ + i → v ≡ b″ → X) → X
   links = of-links P S (nodeCount g) top bottom lefts gone prefix suffix mids
 
   byT : {X : Type 0} → (P ≡ true → t′ ≡ pv → X) → (P ≡ false → t′ ≡ top → X) → X
@@ -349,7 +363,10 @@ module _ (g : Graph) (bounded : Bounded g) (r : ℕ → ℕ) (ranks : Ranks g r)
   local : Local g C
   unfolding splitAndUpdateWith
   local = record {
-    below = λ u v l. (begins u v l (λ e. rw e (old-less g bounded C top top-old)) (λ _ h. h), finishes u v l (λ b e d. rw d (old-less g bounded C b (bottom-old b e))) (λ _ h. h));
+    below = λ u v l. (
+      begins u v l (λ e. rw e (old-less g bounded C top top-old)) (λ _ h. h),
+      finishes u v l (λ b e d. rw d (old-less g bounded C b (bottom-old b e))) (λ _ h. h),
+    );
     stays = λ u v l. (
       λ k. begins u v l (λ e. top-stays (rw e at k)) (λ h _. omega (arith, mid-old u k)),
       λ k. finishes u v l (λ b e d. bottom-stays b e (rw d at k)) (λ h _. omega (arith, mid-old v k)),
@@ -401,10 +418,12 @@ module _ (g : Graph) (bounded : Bounded g) (r : ℕ → ℕ) (ranks : Ranks g r)
   seq-pv p = ap (vertexSequence G) (sym (add-zero (nodeCount g))) ∙ (seq-grown-new g C 0 ∙ new₁ P S (nodeCount g) top bottom lefts gone prefix suffix mids p)
 
   seq-sv : S ≡ true → vertexSequence G sv′ ≡ suffix
-  seq-sv s = let e : bit P + nodeCount g ≡ nodeCount g + bit P = omega arith in ap (vertexSequence G) e ∙ (seq-grown-new g C (bit P) ∙ new₂ P S (nodeCount g) top bottom lefts gone prefix suffix mids s)
+  seq-sv s = let e : bit P + nodeCount g ≡ nodeCount g + bit P = omega arith in ap (vertexSequence G) e
+      ∙ (seq-grown-new g C (bit P) ∙ new₂ P S (nodeCount g) top bottom lefts gone prefix suffix mids s)
 
   seq-mv : (i : ℕ) → vertexSequence G (mv′ + i) ≡ getD (map (λ p. p .remaining) lefts) i []
-  seq-mv i = let e : bit S + (bit P + nodeCount g) + i ≡ nodeCount g + (bit P + (bit S + i)) = omega arith in ap (vertexSequence G) e ∙ (seq-grown-new g C (bit P + (bit S + i)) ∙ new₃ P S (nodeCount g) top bottom lefts gone prefix suffix mids i)
+  seq-mv i = let e : bit S + (bit P + nodeCount g) + i ≡ nodeCount g + (bit P + (bit S + i)) = omega arith in ap (vertexSequence G) e
+      ∙ (seq-grown-new g C (bit P + (bit S + i)) ∙ new₃ P S (nodeCount g) top bottom lefts gone prefix suffix mids i)
 
   seq-b : (b : ℕ) → bottom ≡ some b → vertexSequence G b ≡ vertexSequence g b
   seq-b b e = seq-grown-old g C b (bottom-old b e)
@@ -461,7 +480,9 @@ module _ (g : Graph) (bounded : Bounded g) (r : ℕ → ℕ) (ranks : Ranks g r)
   cross m k =
       cast (rw (cuts m k, append-assoc, append-assoc))
       (then to-t (⊎-elim
-      (λ x. cast (ap (λ z. z ++ (suffix ++ text No E)) (seq-mv (x .0) ∙ x .2)) (step {q = at (mv′ + x .0)} (link′ t′ (mv′ + x .0) (l₃ P S (nodeCount g) top bottom lefts gone prefix suffix mids (x .0) (x .1))) (out-b (mv′ + x .0) (l₅ P S (nodeCount g) top bottom lefts gone prefix suffix mids (x .0) (x .1)))))
+      (λ x. cast (ap (λ z. z ++ (suffix ++ text No E)) (seq-mv (x .0) ∙ x .2))
+      (step {q = at (mv′ + x .0)} (link′ t′ (mv′ + x .0) (l₃ P S (nodeCount g) top bottom lefts gone prefix suffix mids (x .0) (x .1)))
+      (out-b (mv′ + x .0) (l₅ P S (nodeCount g) top bottom lefts gone prefix suffix mids (x .0) (x .1)))))
       (λ x. rw (x .0) (out-b t′ (l₄ P S (nodeCount g) top bottom lefts gone prefix suffix mids (x .1) (x .2))))
       (leftAt m k)))
 
@@ -578,7 +599,9 @@ module _ (g : Graph) (bounded : Bounded g) (r : ℕ → ℕ) (ranks : Ranks g r)
           (λ i j a b. absurd (omega (arith, top-old)))
           (λ z j a b. absurd (omega (arith, top-old)))
           (λ i j a b. absurd (omega (arith, top-old))))
-          (λ p e. cast (ap (λ x. x ++ (vertexSequence G y ++ s)) (noPrefix p)) (over q (vertexSequence G y ++ s) (behind-pass y (rw e l) (byTest (shr y) (λ t. absurd (omega (arith, shr-old y t))) (λ t. t)) w)))
+          (λ p e. cast (ap (λ x. x ++ (vertexSequence G y ++ s)) (noPrefix p))
+          (over q (vertexSequence G y ++ s) (behind-pass y (rw e l) (byTest (shr y) (λ t. absurd (omega (arith, shr-old y t))) (λ t. t))
+          w)))
   back stop q s y k h n w = absurd h
 
   pub split-spells : {s : List ℕ} → Spells g s ↔ Spells (applyChange g C) s
@@ -605,14 +628,28 @@ module _ (g : Graph) (bounded : Bounded g) (r : ℕ → ℕ) (ranks : Ranks g r)
 
   rank-sv : S ≡ true → rankG sv′ ≡ 4 * r top + 3
   unfolding rise
-  rank-sv s = rank-new sv′ (omega arith) ∙ rw (and-off P (eqb sv′ pv) (λ p. ne-eqb sv′ pv (λ e. omega (arith, bit-yes P p))), and-true S (eqb sv′ sv′) s (eq-eqb sv′ sv′ refl))
+  rank-sv s = rank-new sv′ (omega arith) ∙ rw (
+    and-off P (eqb sv′ pv) (λ p. ne-eqb sv′ pv (λ e. omega (arith, bit-yes P p))),
+    and-true S (eqb sv′ sv′) s (eq-eqb sv′ sv′ refl),
+  )
 
   rank-mv : (i : ℕ) → rankG (mv′ + i) ≡ 4 * r top + 2
   unfolding rise
-  rank-mv i = rank-new (mv′ + i) (omega arith) ∙ rw (and-off P (eqb (mv′ + i) pv) (λ p. ne-eqb (mv′ + i) pv (λ e. omega (arith, bit-yes P p))), and-off S (eqb (mv′ + i) sv′) (λ s. ne-eqb (mv′ + i) sv′ (λ e. omega (arith, bit-yes S s))))
+  rank-mv i = rank-new (mv′ + i) (omega arith) ∙ rw (
+    and-off P (eqb (mv′ + i) pv) (λ p.
+        ne-eqb (mv′ + i) pv (λ e. omega (arith, bit-yes P p))),
+    and-off S (eqb (mv′ + i) sv′) (λ s. ne-eqb (mv′ + i) sv′ (λ e. omega (arith, bit-yes S s))),
+  )
 
   rank-b : (b : ℕ) → bottom ≡ some b → (rankG b ≡ 4 * r b) × (r top + 2 ≤ r b)
-  rank-b b e = (rank-old b (bottom-old b e), omega (arith, ranks top (someMid .0) (midIn (someMid .0) (someMid .1)), ranks (someMid .0) b (bottom-in b e (someMid .0) (someMid .1))))
+  rank-b b e = (
+    rank-old b (bottom-old b e),
+    omega (
+      arith,
+      ranks top (someMid .0) (midIn (someMid .0) (someMid .1)),
+      ranks (someMid .0) b (bottom-in b e (someMid .0) (someMid .1)),
+    ),
+  )
 
   rank-t : (rankG t′ ≤ 4 * r top + 1)
   rank-t = byT (λ p e. omega (arith, rank-pv p, ap rankG e)) (λ p e. omega (arith, rank-old top top-old, ap rankG e))
@@ -639,7 +676,8 @@ module _ (g : Graph) (bounded : Bounded g) (r : ℕ → ℕ) (ranks : Ranks g r)
   pub split-keeps : Keeps g (applyChange g C)
   split-keeps = record { sound = record { bounded = split-bounded; rank = split-ranks .0; ranks = split-ranks .1 }; spells = λ s. split-spells }
 
-  pub split-weight : (f : List ℕ → ℕ) → Distinct mids → total f ((applyChange g C) .verts) + total (λ v. f (vertexSequence g v)) mids ≡ total f (g .verts) + total f (C .verts)
+  pub split-weight : (f : List ℕ → ℕ) → Distinct mids → total f ((applyChange g C) .verts) + total (λ v. f (vertexSequence g v)) mids
+      ≡ total f (g .verts) + total f (C .verts)
   unfolding splitAndUpdateWith
   split-weight f d = weight-change g bounded C local f d
 
@@ -678,6 +716,7 @@ module _ (g : Graph) (bounded : Bounded g) (r : ℕ → ℕ) (ranks : Ranks g r)
   sinks-split d = sinks-by g G mids sv′ (bit (isNone bottom)) (omega (arith, sizeG)) d mid-old split-sink
 
   -- while all is added and nothing has gone yet
-  pub split-room : Distinct mids → (nodeCount G ≤ nodeCount (applyChange g C) + nodeCount g) × (length (G .edges) ≤ length ((applyChange g C) .edges) + length (g .edges))
+  pub split-room : Distinct mids → (nodeCount G ≤ nodeCount (applyChange g C) + nodeCount g)
+      × (length (G .edges) ≤ length ((applyChange g C) .edges) + length (g .edges))
   unfolding splitAndUpdateWith
   split-room d = (verts-local g bounded C local d, edges-local g bounded C local)

@@ -7,23 +7,29 @@ use mathlib.Core.Path.{_≡_, refl, sym, ap, _∙_}
 use mathlib.Core.Logic.{_⊎_, inl, inr, ⊎-elim, _↔_}
 use mathlib.Core.Bool.{Bool, true, false, cond, not, _&&_, _||_, true≢false, false≢true}
 use mathlib.Core.Option.{Option, none, some}
-use mathlib.Core.List.{List, [], _∷_, _++_, map, append-assoc, append-nil, List·Memᴰ, List·Memᴰ·head, List·Memᴰ·tail, List·Memᴰ·not-nil, List·Memᴰ·cases-cons, Memᴰ·map, Memᴰ·of-map}
+use mathlib.Core.List.{List, [], _∷_, _++_, map, append-assoc, append-nil, List·Memᴰ, List·Memᴰ·head, List·Memᴰ·tail, List·Memᴰ·not-nil}
+use mathlib.Core.List.{List·Memᴰ·cases-cons, Memᴰ·map, Memᴰ·of-map}
 use lib.Dec.{eqb, ltb, leb}
 use lib.ListN.{length, getD, take, length-append, List·getD-append}
 use lib.Seq.{take-at, getD-append-add}
 use borrow.Author.Tests.{eqb-true, eq-eqb, ne-eqb, ltb-true, lt-ltb, le-ltb, leb-true, not-true, not-false}
 use Rattle.defs.specs.Lists.{allOf, elemOf, commonSuffix}
-use Rattle.defs.specs.SeqGraph.{Edge, Graph, nodeCount, vertexSequence, edgesInto, edgesFrom, incomingNodes, outgoingNodes, outDegree, keeps, Change, withAdditions, applyChange}
-use Rattle.defs.specs.Rewrites.{splitsSuffix, splitSuffix, splitChange, EdgeData, newEdge, edgeData, processEdge, redirectedTo, suffixAndPrefix, suffixAndPrefixEdges, withoutSuffix, splitVertices, splitEdges, nonEmpty, isSplit, trySplitCommonSuffix, wouldEliminateRefSource}
+use Rattle.defs.specs.SeqGraph.{Edge, Graph, nodeCount, vertexSequence, edgesInto, edgesFrom, incomingNodes, outgoingNodes, outDegree}
+use Rattle.defs.specs.SeqGraph.{keeps, Change, withAdditions, applyChange}
+use Rattle.defs.specs.Rewrites.{splitsSuffix, splitSuffix, splitChange, EdgeData, newEdge, edgeData, processEdge, redirectedTo}
+use Rattle.defs.specs.Rewrites.{suffixAndPrefix, suffixAndPrefixEdges, withoutSuffix, splitVertices, splitEdges, nonEmpty, isSplit}
+use Rattle.defs.specs.Rewrites.{trySplitCommonSuffix, wouldEliminateRefSource}
 use Rattle.defs.specs.Strings.{HasEdge, Spells}
 use Rattle.laws.proofs.Walks.{Net, Pt, start, at, stop, Go, text, Steps, stay, step, single, then, cast, Tour, hit, pass, kept, byTest}
 use Rattle.laws.proofs.ListLaws.{clash, byOrder, given-some, and-split}
 use Rattle.laws.proofs.Nets.{Ranks, netOf, partOf, Bounded}
-use Rattle.laws.proofs.Edges.{Linked, linked-cases, linked-tail, keeps-not, keeps-other, order-grown, seq-grown-new, seq-grown-old, allOf-mem, nonempty, of-edgesInto, in-edgesInto, only-out, of-mem-ins, mem-ins}
+use Rattle.laws.proofs.Edges.{Linked, linked-cases, linked-tail, keeps-not, keeps-other, order-grown, seq-grown-new, seq-grown-old}
+use Rattle.laws.proofs.Edges.{allOf-mem, nonempty, of-edgesInto, in-edgesInto, only-out, of-mem-ins, mem-ins}
 use Rattle.laws.proofs.SharedLaws.{sharedSuffix-each}
 use Rattle.laws.proofs.SplitWith.{linked-append, linked-left, linked-right}
 use Rattle.laws.proofs.Sound.{Sound, Keeps}
-use Rattle.laws.proofs.Changes.{Local, Forth, Back, common, common-is, is-common, linked-old, link-U, of-U-new, of-grown, spells-change, old-less, ranks-change, bounded-change}
+use Rattle.laws.proofs.Changes.{Local, Forth, Back, common, common-is, is-common, linked-old, link-U, of-U-new, of-grown}
+use Rattle.laws.proofs.Changes.{spells-change, old-less, ranks-change, bounded-change}
 
 module _ (g : Graph) (bottom : ℕ) (suffix : List ℕ) where
   abbrev pub remaining : ℕ → List ℕ
@@ -53,7 +59,8 @@ module _ (g : Graph) (bottom : ℕ) (suffix : List ℕ) where
   pub block-of : (n : ℕ) (ms : List ℕ) (m : ℕ) → List·Memᴰ m ms → (k : ℕ) × Block n ms k m
   unfolding Block
   block-of n [] m h = absurd (List·Memᴰ·not-nil h)
-  block-of n (x ∷ xs) m h = ⊎-elim {C = (k : ℕ) × Block n (x ∷ xs) k m} (λ e. (n, inl (e, refl))) (λ i. let r = block-of (width x + n) xs m i in (r .0, inr (r .1))) (List·Memᴰ·cases-cons h)
+  block-of n (x ∷ xs) m h = ⊎-elim {C = (k : ℕ) × Block n (x ∷ xs) k m} (λ e. (n, inl (e, refl))) (λ i. let r =
+      block-of (width x + n) xs m i in (r .0, inr (r .1))) (List·Memᴰ·cases-cons h)
 
   pub block-mem : (n : ℕ) (ms : List ℕ) (k m : ℕ) → Block n ms k m → List·Memᴰ m ms
   unfolding Block
@@ -66,13 +73,16 @@ module _ (g : Graph) (bottom : ℕ) (suffix : List ℕ) where
   block-range n (x ∷ xs) k m b = ⊎-elim (λ e. rw (e .0, e .1) (omega arith)) (λ c. let h = block-range (width x + n) xs k m c in omega arith) b
 
   -- two blocks are one, or apart
-  pub block-apart : (n : ℕ) (ms : List ℕ) (k m k′ m′ : ℕ) → Block n ms k m → Block n ms k′ m′ → ((k ≡ k′) × (m ≡ m′)) ⊎ ((k + width m ≤ k′) ⊎ (k′ + width m′ ≤ k))
+  pub block-apart : (n : ℕ) (ms : List ℕ) (k m k′ m′ : ℕ) → Block n ms k m → Block n ms k′ m′ → ((k ≡ k′) × (m ≡ m′))
+      ⊎ ((k + width m ≤ k′) ⊎ (k′ + width m′ ≤ k))
   unfolding Block
   block-apart n [] k m k′ m′ b c = absurd b
   block-apart n (x ∷ xs) k m k′ m′ b c =
       ⊎-elim
-      (λ e. ⊎-elim (λ f. inl (e .1 ∙ sym (f .1), e .0 ∙ sym (f .0))) (λ f. let h = block-range (width x + n) xs k′ m′ f in inr (inl (rw (e .0, e .1) (omega arith)))) c)
-      (λ e. ⊎-elim (λ f. let h = block-range (width x + n) xs k m e in inr (inr (rw (f .0, f .1) (omega arith)))) (λ f. block-apart (width x + n) xs k m k′ m′ e f) c)
+      (λ e. ⊎-elim (λ f. inl (e .1 ∙ sym (f .1), e .0 ∙ sym (f .0))) (λ f. let h = block-range (width x + n) xs k′ m′ f in
+      inr (inl (rw (e .0, e .1) (omega arith)))) c)
+      (λ e. ⊎-elim (λ f. let h = block-range (width x + n) xs k m e in inr (inr (rw (f .0, f .1) (omega arith)))) (λ f.
+      block-apart (width x + n) xs k m k′ m′ e f) c)
       b
 
   -- each number is in a block
@@ -89,11 +99,13 @@ module _ (g : Graph) (bottom : ℕ) (suffix : List ℕ) where
   length-verts [] = refl
   length-verts (x ∷ xs) = length-append (suffixAndPrefix suffix (remaining x)) (splitVertices g suffix xs) ∙ ap (λ z. width x + z) (length-verts xs)
 
-  pub vert-at : (n : ℕ) (ms : List ℕ) (k m j : ℕ) → Block n ms k m → j < width m → (i : ℕ) → n + i ≡ k + j → getD (splitVertices g suffix ms) i [] ≡ getD (suffixAndPrefix suffix (remaining m)) j []
+  pub vert-at : (n : ℕ) (ms : List ℕ) (k m j : ℕ) → Block n ms k m → j < width m → (i : ℕ) → n + i ≡ k + j
+      → getD (splitVertices g suffix ms) i [] ≡ getD (suffixAndPrefix suffix (remaining m)) j []
   unfolding splitVertices Block width
   vert-at n [] k m j b h i e = absurd b
   vert-at n (x ∷ xs) k m j b h i e = ⊎-elim
-      (λ f. let q : i ≡ j = omega (arith, f .1) in rw (q, f .0) (List·getD-append (suffixAndPrefix suffix (remaining x)) (splitVertices g suffix xs) [] j (rw (f .0) at h)))
+      (λ f. let q : i ≡ j = omega (arith, f .1) in rw (q, f .0)
+      (List·getD-append (suffixAndPrefix suffix (remaining x)) (splitVertices g suffix xs) [] j (rw (f .0) at h)))
       (λ f. let a = block-range (width x + n) xs k m f in
       let q : i ≡ length (suffixAndPrefix suffix (remaining x)) + (i - width x) = omega arith in
       ap (λ z. getD (suffixAndPrefix suffix (remaining x) ++ splitVertices g suffix xs) z []) q
@@ -127,13 +139,16 @@ module _ (g : Graph) (bottom : ℕ) (suffix : List ℕ) where
   unfolding redirectedTo newEdge
   in-into y m u (e, k, p, q) = (redirectedTo y e, Memᴰ·map (redirectedTo y) (in-edgesInto g m e k q), p, refl)
 
-  pub of-block : {X : Type 0} (k m u v : ℕ) → Linked (blockEdges k m) u v → (nonEmpty (remaining m) ≡ true → u ≡ suc k → v ≡ k → X) → (u ≡ k → v ≡ bottom → X) → (HasEdge g u m → v ≡ entry k m → X) → X
+  pub of-block : {X : Type 0} (k m u v : ℕ) → Linked (blockEdges k m) u v → (nonEmpty (remaining m) ≡ true → u ≡ suc k → v ≡ k → X)
+      → (u ≡ k → v ≡ bottom → X) → (HasEdge g u m → v ≡ entry k m → X) → X
   unfolding suffixAndPrefixEdges newEdge nonEmpty entry
   of-block {X} k m u v l f₁ f₂ f₃ = go (remaining m) refl (λ e. e) l
     where
-      go : (x : List ℕ) → remaining m ≡ x → (v ≡ cond (nonEmpty x) (suc k) k → v ≡ entry k m) → Linked (suffixAndPrefixEdges bottom k x (edgesInto g m) (processEdge g m (edgesFrom g m))) u v → X
+      go : (x : List ℕ) → remaining m ≡ x → (v ≡ cond (nonEmpty x) (suc k) k → v ≡ entry k m)
+          → Linked (suffixAndPrefixEdges bottom k x (edgesInto g m) (processEdge g m (edgesFrom g m))) u v → X
       go [] e h l = linked-cases _ _ u v l (λ a b. f₂ (sym a) (sym b)) (λ j. let z = of-into k m u v j in f₃ (z .0) (h (z .1)))
-      go (x ∷ xs) e h l = linked-cases _ _ u v l (λ a b. f₁ (ap nonEmpty e) (sym a) (sym b)) (λ i. linked-cases _ _ u v i (λ a b. f₂ (sym a) (sym b)) (λ j. let z = of-into (suc k) m u v j in f₃ (z .0) (h (z .1))))
+      go (x ∷ xs) e h l = linked-cases _ _ u v l (λ a b. f₁ (ap nonEmpty e) (sym a) (sym b)) (λ i.
+          linked-cases _ _ u v i (λ a b. f₂ (sym a) (sym b)) (λ j. let z = of-into (suc k) m u v j in f₃ (z .0) (h (z .1))))
 
   pub in-block₁ : (k m : ℕ) → nonEmpty (remaining m) ≡ true → Linked (blockEdges k m) (suc k) k
   unfolding suffixAndPrefixEdges newEdge nonEmpty
@@ -195,11 +210,13 @@ module _ (g : Graph) (bottom : ℕ) (suffix : List ℕ) where
       (λ e. let h = block-range (width x + n) xs k m e in rw (le-ltb (suc k) (width x + n) (omega arith)) (risen-two r (width x + n) xs k m e w))
       b
 
-pub cut-end : (g : Graph) (suffix : List ℕ) (m : ℕ) → (t : List ℕ) × (vertexSequence g m ≡ t ++ suffix) → vertexSequence g m ≡ withoutSuffix g (length suffix) m ++ suffix
+pub cut-end : (g : Graph) (suffix : List ℕ) (m : ℕ) → (t : List ℕ) × (vertexSequence g m ≡ t ++ suffix) → vertexSequence g m
+    ≡ withoutSuffix g (length suffix) m ++ suffix
 unfolding withoutSuffix
 cut-end g suffix m (t, e) =
     let n : length t ≡ length (vertexSequence g m) - length suffix = omega (arith, ap length e, length-append t suffix) in
-    let f : take (length (vertexSequence g m) - length suffix) (vertexSequence g m) ≡ t = ap (take (length (vertexSequence g m) - length suffix)) e ∙ take-at t suffix (length (vertexSequence g m) - length suffix) n in
+    let f : take (length (vertexSequence g m) - length suffix) (vertexSequence g m) ≡ t =
+    ap (take (length (vertexSequence g m) - length suffix)) e ∙ take-at t suffix (length (vertexSequence g m) - length suffix) n in
     e ∙ ap (λ x. x ++ suffix) (sym f)
 
 module _ (g : Graph) (bounded : Bounded g) (r : ℕ → ℕ) (ranks : Ranks g r) (bottom : ℕ) (suffix : List ℕ)
@@ -280,12 +297,14 @@ module _ (g : Graph) (bounded : Bounded g) (r : ℕ → ℕ) (ranks : Ranks g r)
         (λ k m b p q. let h = range k m b in omega arith)
         (λ k m b h q. let i = entry-range k m b in omega arith);
     old = prev-old;
-    in₁ = λ x v h z n. let i = onlyOut x v z h in let b = block-of g bottom suffix (nodeCount g) prevs x z in (b .0, rw i (put (b .0) x (b .0) bottom (b .1) (in-block₂ g bottom suffix (b .0) x)));
+    in₁ = λ x v h z n. let i = onlyOut x v z h in let b = block-of g bottom suffix (nodeCount g) prevs x z in
+        (b .0, rw i (put (b .0) x (b .0) bottom (b .1) (in-block₂ g bottom suffix (b .0) x)));
     in₂ = λ y v l a. links y v l
         (λ k m b e p q. let h = range k m b in absurd (omega arith))
         (λ k m b p q. (m, rw q (prev-edge m (mem-B k m b))))
         (λ k m b h q. let i = entry-range k m b in absurd (omega arith));
-    out₁ = λ u x h z n. let b = block-of g bottom suffix (nodeCount g) prevs x z in (en (b .0) x, put (b .0) x u (en (b .0) x) (b .1) (in-block₃ g bottom suffix (b .0) x u h));
+    out₁ = λ u x h z n. let b = block-of g bottom suffix (nodeCount g) prevs x z in
+        (en (b .0) x, put (b .0) x u (en (b .0) x) (b .1) (in-block₃ g bottom suffix (b .0) x u h));
     out₂ = λ u y l a. links u y l
         (λ k m b e p q. let h = range k m b in absurd (omega arith))
         (λ k m b p q. let h = range k m b in absurd (omega arith))
@@ -316,7 +335,8 @@ module _ (g : Graph) (bounded : Bounded g) (r : ℕ → ℕ) (ranks : Ranks g r)
   seq-k k m b =
       let h = range k m b in
       let e : k ≡ nodeCount g + (k - nodeCount g) = omega arith in
-      ap (vertexSequence G) e ∙ (seq-grown-new g c (k - nodeCount g) ∙ (vert-at g bottom suffix (nodeCount g) prevs k m 0 b (h .2) (k - nodeCount g) (omega arith) ∙ go (remaining g bottom suffix m)))
+      ap (vertexSequence G) e ∙ (seq-grown-new g c (k - nodeCount g)
+      ∙ (vert-at g bottom suffix (nodeCount g) prevs k m 0 b (h .2) (k - nodeCount g) (omega arith) ∙ go (remaining g bottom suffix m)))
     where
       go : (x : List ℕ) → getD (suffixAndPrefix suffix x) 0 [] ≡ suffix
       go [] = refl
@@ -327,7 +347,9 @@ module _ (g : Graph) (bounded : Bounded g) (r : ℕ → ℕ) (ranks : Ranks g r)
   seq-suc k m b n =
       let h = range k m b in
       let e : suc k ≡ nodeCount g + (suc k - nodeCount g) = omega arith in
-      ap (vertexSequence G) e ∙ (seq-grown-new g c (suc k - nodeCount g) ∙ (vert-at g bottom suffix (nodeCount g) prevs k m 1 b (omega (arith, two-wide m n)) (suc k - nodeCount g) (omega arith) ∙ go (remaining g bottom suffix m) n))
+      ap (vertexSequence G) e ∙ (seq-grown-new g c (suc k - nodeCount g)
+      ∙ (vert-at g bottom suffix (nodeCount g) prevs k m 1 b (omega (arith, two-wide m n)) (suc k - nodeCount g) (omega arith)
+      ∙ go (remaining g bottom suffix m) n))
     where
       go : (x : List ℕ) → nonEmpty x ≡ true → getD (suffixAndPrefix suffix x) 1 [] ≡ x
       go [] n = clash n refl
@@ -341,17 +363,23 @@ module _ (g : Graph) (bounded : Bounded g) (r : ℕ → ℕ) (ranks : Ranks g r)
   inside p k m b h =
       let z = mem-B k m b in
       let sb = seq-grown-old g c bottom (bottom-old m z) in
-      let out : Steps U (at k) (at bottom) (vertexSequence g bottom) = cast sb (single {p = at k} {q = at bottom} (link′ k bottom (put k m k bottom b (in-block₂ g bottom suffix k m)))) in
+      let out : Steps U (at k) (at bottom) (vertexSequence g bottom) =
+      cast sb (single {p = at k} {q = at bottom} (link′ k bottom (put k m k bottom b (in-block₂ g bottom suffix k m)))) in
       width-cases g bottom suffix m
       (λ e w. let i = entry-one g bottom suffix k m e in
       cast (ap (λ x. x ++ vertexSequence g bottom) (seq-k k m b ∙ (sym (ap (λ x. x ++ suffix) e) ∙ sym (cuts m z)))) (step {q = at k} (rw i at h) out))
       (λ e w. let i = entry-two g bottom suffix k m e in
-      cast (ap (λ x. x ++ (vertexSequence G k ++ vertexSequence g bottom)) (seq-suc k m b e) ∙ (ap (λ x. remaining g bottom suffix m ++ (x ++ vertexSequence g bottom)) (seq-k k m b) ∙ (sym (append-assoc (remaining g bottom suffix m) suffix (vertexSequence g bottom)) ∙ ap (λ x. x ++ vertexSequence g bottom) (sym (cuts m z)))))
+      cast (ap (λ x. x ++ (vertexSequence G k ++ vertexSequence g bottom)) (seq-suc k m b e)
+      ∙ (ap (λ x. remaining g bottom suffix m ++ (x ++ vertexSequence g bottom)) (seq-k k m b)
+      ∙ (sym (append-assoc (remaining g bottom suffix m) suffix (vertexSequence g bottom))
+      ∙ ap (λ x. x ++ vertexSequence g bottom) (sym (cuts m z)))))
       (step {q = at (suc k)} (rw i at h) (step {q = at k} (link′ (suc k) k (put k m (suc k) k b (in-block₁ g bottom suffix k m e))) out)))
 
   -- a number is in one block only
   pub uniq : (k m k′ m′ y : ℕ) → B k m → B k′ m′ → k ≤ y → y < k + width g bottom suffix m → k′ ≤ y → y < k′ + width g bottom suffix m′ → (k ≡ k′) × (m ≡ m′)
-  uniq k m k′ m′ y b b′ h₁ h₂ h₃ h₄ = ⊎-elim (λ e. e) (λ e. absurd (⊎-elim (λ (i : k + width g bottom suffix m ≤ k′). omega arith) (λ (i : k′ + width g bottom suffix m′ ≤ k). omega arith) e)) (block-apart g bottom suffix (nodeCount g) prevs k m k′ m′ b b′)
+  uniq k m k′ m′ y b b′ h₁ h₂ h₃ h₄ = ⊎-elim (λ e. e) (λ e.
+      absurd (⊎-elim (λ (i : k + width g bottom suffix m ≤ k′). omega arith) (λ (i : k′ + width g bottom suffix m′ ≤ k). omega arith) e))
+      (block-apart g bottom suffix (nodeCount g) prevs k m k′ m′ b b′)
 
   pub entry-in : (k m : ℕ) → (k ≤ en k m) × (en k m < k + width g bottom suffix m)
   entry-in k m = width-cases g bottom suffix m (λ e w. omega (arith, entry-one g bottom suffix k m e)) (λ e w. omega (arith, entry-two g bottom suffix k m e))
@@ -381,7 +409,8 @@ module _ (g : Graph) (bounded : Bounded g) (r : ℕ → ℕ) (ranks : Ranks g r)
       let i = range k m b in
       links (suc k) v (of-U-new g bounded c local (suc k) v h (inl (omega arith)))
       (λ k′ m′ b′ e p q. f (omega arith))
-      (λ k′ m′ b′ p q. let w = range k′ m′ b′ in let d = uniq k m k′ m′ (suc k) b b′ (omega arith) (omega (arith, two-wide m n)) (omega arith) (omega arith) in absurd (omega (arith, d .0)))
+      (λ k′ m′ b′ p q. let w = range k′ m′ b′ in let d = uniq k m k′ m′ (suc k) b b′ (omega arith) (omega (arith, two-wide m n))
+      (omega arith) (omega arith) in absurd (omega (arith, d .0)))
       (λ k′ m′ b′ l q. absurd (omega (arith, old-edge (suc k) m′ l)))
 
   pub bottom-shr : (m : ℕ) → List·Memᴰ m prevs → shr bottom ≡ true
@@ -404,23 +433,41 @@ module _ (g : Graph) (bounded : Bounded g) (r : ℕ → ℕ) (ranks : Ranks g r)
   tour-k k m b (pass {q = at v} h j w) = from-k k m v b h λ e. clash (bottom-shr m (mem-B k m b)) (rw e at j)
   tour-k k m b (pass {q = stop} h j w) = absurd (true≢false j)
 
-  pub tour-suc : (k m : ℕ) → B k m → nonEmpty (remaining g bottom suffix m) ≡ true → {q : Pt} {s : List ℕ} → Tour U shr (at (suc k)) q s → (q ≡ at bottom) × (s ≡ suffix ++ vertexSequence g bottom)
+  pub tour-suc : (k m : ℕ) → B k m → nonEmpty (remaining g bottom suffix m) ≡ true → {q : Pt} {s : List ℕ} → Tour U shr (at (suc k)) q s
+      → (q ≡ at bottom) × (s ≡ suffix ++ vertexSequence g bottom)
   tour-suc k m b n (hit {q = start} h j) = absurd h
   tour-suc k m b n (hit {q = at v} h j) = from-suc k m v b n h λ e. absurd (let i = range k m b in omega (arith, shr-old v j))
   tour-suc k m b n (hit {q = stop} h j) = absurd (h .1 k (link′ (suc k) k (put k m (suc k) k b (in-block₁ g bottom suffix k m n))))
   tour-suc k m b n (pass {q = start} h j w) = absurd h
-  tour-suc k m b n (pass {q = at v} {s = s} h j w) = from-suc k m v b n h λ e. let d = tour-k k m b (rw e at w) in (d .0, ap (λ x. x ++ s) (ap (vertexSequence G) e ∙ seq-k k m b) ∙ ap (λ x. suffix ++ x) (d .1))
+  tour-suc k m b n (pass {q = at v} {s = s} h j w) = from-suc k m v b n h λ e. let d = tour-k k m b (rw e at w) in
+      (d .0, ap (λ x. x ++ s) (ap (vertexSequence G) e ∙ seq-k k m b) ∙ ap (λ x. suffix ++ x) (d .1))
   tour-suc k m b n (pass {q = stop} h j w) = absurd (true≢false j)
 
-  pub tour-entry : (k m : ℕ) → B k m → {q : Pt} {s : List ℕ} → Tour U shr (at (en k m)) q s → (q ≡ at bottom) × (vertexSequence G (en k m) ++ s ≡ vertexSequence g m ++ vertexSequence g bottom)
+  pub tour-entry : (k m : ℕ) → B k m → {q : Pt} {s : List ℕ} → Tour U shr (at (en k m)) q s → (q ≡ at bottom)
+      × (vertexSequence G (en k m) ++ s ≡ vertexSequence g m ++ vertexSequence g bottom)
   tour-entry k m b {q} {s} w = width-cases g bottom suffix m
-      (λ e _. let i = entry-one g bottom suffix k m e in let d = tour-k k m b (rw i at w) in
-      (d .0, ap (λ x. vertexSequence G x ++ s) i ∙ (ap (λ x. x ++ s) (seq-k k m b ∙ (sym (ap (λ x. x ++ suffix) e) ∙ sym (cuts m (mem-B k m b)))) ∙ ap (λ x. vertexSequence g m ++ x) (d .1))))
-      (λ e _. let i = entry-two g bottom suffix k m e in let d = tour-suc k m b e (rw i at w) in
-      (d .0, ap (λ x. vertexSequence G x ++ s) i ∙ (ap (λ x. x ++ s) (seq-suc k m b e) ∙ (ap (λ x. remaining g bottom suffix m ++ x) (d .1) ∙ (sym (append-assoc (remaining g bottom suffix m) suffix (vertexSequence g bottom)) ∙ ap (λ x. x ++ vertexSequence g bottom) (sym (cuts m (mem-B k m b))))))))
+      (λ e _. let i = entry-one g bottom suffix k m e in let d = tour-k k m b (rw i at w) in (
+        d .0,
+        ap (λ x. vertexSequence G x ++ s) i ∙ (ap (λ x. x ++ s) (seq-k k m b
+            ∙ (sym (ap (λ x. x ++ suffix) e) ∙ sym (cuts m (mem-B k m b)))) ∙ ap (λ x. vertexSequence g m ++ x) (d .1)),
+      ))
+      (λ e _. let i = entry-two g bottom suffix k m e in let d = tour-suc k m b e (rw i at w) in (
+        d .0,
+        ap (λ x. vertexSequence G x ++ s) i ∙ (ap (λ x. x ++ s) (seq-suc k m b e)
+            ∙ (ap (λ x. remaining g bottom suffix m ++ x) (d .1)
+            ∙ (sym (append-assoc (remaining g bottom suffix m) suffix (vertexSequence g bottom))
+            ∙ ap (λ x. x ++ vertexSequence g bottom) (sym (cuts m (mem-B k m b)))))),
+      ))
 
   pub go-in : (p : Pt) (k m : ℕ) → B k m → kept shr p ≡ true → Go No p (at m) → Go U p (at (en k m))
-  go-in start k m b t h = (((entry-range k m b) .1, keeps-other prevs (en k m) (λ z. let i = entry-range k m b in omega (arith, prev-old (en k m) z))), λ u l. to-entry k m u b l (h .1 u))
+  go-in start k m b t h = (
+    (
+      (entry-range k m b) .1,
+      keeps-other prevs (en k m) (λ z. let i = entry-range k m b in
+          omega (arith, prev-old (en k m) z)),
+    ),
+    λ u l. to-entry k m u b l (h .1 u),
+  )
   go-in (at u) k m b t h = link′ u (en k m) (put k m u (en k m) b (in-block₃ g bottom suffix k m u h))
   go-in stop k m b t h = absurd h
 
@@ -432,7 +479,11 @@ module _ (g : Graph) (bounded : Bounded g) (r : ℕ → ℕ) (ranks : Ranks g r)
 
   pub source-in : {X : Type 0} (y k m : ℕ) → B k m → k ≤ y → y < k + width g bottom suffix m → Go U start (at y) → (y ≡ en k m → Go No start (at m) → X) → X
   source-in y k m b a d h f =
-      let go : y ≡ en k m → Go No start (at m) = λ e. (prev-old m (mem-B k m b), λ u l. h .1 u (rw e (link′ u (en k m) (put k m u (en k m) b (in-block₃ g bottom suffix k m u l))))) in
+      let go : y ≡ en k m → Go No start (at m) = λ e. (
+        prev-old m (mem-B k m b),
+        λ u l.
+            h .1 u (rw e (link′ u (en k m) (put k m u (en k m) b (in-block₃ g bottom suffix k m u l)))),
+      ) in
       width-cases g bottom suffix m
       (λ e w. let i : y ≡ en k m = omega (arith, entry-one g bottom suffix k m e) in f i (go i))
       (λ e w. byOrder y k
@@ -470,7 +521,8 @@ module _ (g : Graph) (bounded : Bounded g) (r : ℕ → ℕ) (ranks : Ranks g r)
 
   pub rank-suc : (k m : ℕ) → B k m → nonEmpty (remaining g bottom suffix m) ≡ true → rankG (suc k) ≡ 2 * r m
   unfolding rankG
-  rank-suc k m b e = let h = range k m b in rw (le-ltb (suc k) (nodeCount g) (omega arith)) (risen-two g bottom suffix r (nodeCount g) prevs k m b (two-wide m e))
+  rank-suc k m b e = let h = range k m b in rw (le-ltb (suc k) (nodeCount g) (omega arith))
+      (risen-two g bottom suffix r (nodeCount g) prevs k m b (two-wide m e))
 
   pub rank-entry : (k m : ℕ) → B k m → 2 * r m ≤ rankG (en k m)
   rank-entry k m b = width-cases g bottom suffix m
@@ -482,13 +534,24 @@ module _ (g : Graph) (bounded : Bounded g) (r : ℕ → ℕ) (ranks : Ranks g r)
       (λ l. let b = old-edge u v l in omega (arith, rank-old u (b .0), rank-old v (b .1), ranks u v l))
       (λ l. links u v l
       (λ k m b e p q. omega (arith, ap rankG p, ap rankG q, rank-suc k m b e, rank-k k m b))
-      (λ k m b p q. let z = prev-edge m (mem-B k m b) in omega (arith, ap rankG p, ap rankG q, rank-k k m b, rank-old bottom ((old-edge m bottom z) .1), ranks m bottom z))
+      (λ k m b p q. let z = prev-edge m (mem-B k m b) in omega (
+        arith,
+        ap rankG p,
+        ap rankG q,
+        rank-k k m b,
+        rank-old bottom ((old-edge m bottom z) .1),
+        ranks m bottom z,
+      ))
       (λ k m b j q. omega (arith, ap rankG q, rank-entry k m b, rank-old u ((old-edge u m j) .0), ranks u m j)))
 
   pub split-keeps : Keeps g (applyChange g c)
   split-keeps =
       let x = ranks-change g bounded c local rankG ranksG in
-      record { sound = record { bounded = bounded-change g bounded c local; rank = x .0; ranks = x .1 }; spells = λ s. spells-change g bounded c local forth back }
+      record {
+        sound = record { bounded = bounded-change g bounded c local; rank = x .0; ranks = x .1 };
+        spells = λ s.
+            spells-change g bounded c local forth back;
+      }
 
 -- a split
 pub split-keeps′ : (g g′ : Graph) (bottom : ℕ) → Sound g → trySplitCommonSuffix g bottom ≡ some g′ → Keeps g g′
@@ -501,7 +564,8 @@ split-keeps′ g g′ bottom sound did =
     let d = and-split (allOf (λ p. not (eqb p bottom) && (eqb (outDegree g p) 1 && not (elemOf p (outgoingNodes g bottom)))) prevs) _ (a .1) in
     rw (← h .1) (split-keeps g (sound .bounded) (sound .rank) (sound .ranks) bottom suffix
     (λ m w k l.
-    let x = and-split (not (eqb m bottom)) _ (allOf-mem (λ p. not (eqb p bottom) && (eqb (outDegree g p) 1 && not (elemOf p (outgoingNodes g bottom)))) prevs (d .0) k) in
+    let x = and-split (not (eqb m bottom)) _ (allOf-mem (λ p. not (eqb p bottom)
+    && (eqb (outDegree g p) 1 && not (elemOf p (outgoingNodes g bottom)))) prevs (d .0) k) in
     let y = and-split (eqb (outDegree g m) 1) _ (x .1) in
     only-out g m w bottom (eqb-true _ _ (y .0)) l (of-mem-ins g m bottom k))
     (λ m k. cut-end g suffix m (sharedSuffix-each (map (vertexSequence g) prevs) (Memᴰ·map (vertexSequence g) k))))

@@ -10,8 +10,11 @@ use lib.Dec.{eqb, ltb}
 use lib.ListN.{length, length-append, length-map}
 use borrow.Author.Tests.{eqb-true, eqb-false, not-true}
 use Rattle.defs.specs.Lists.{allOf, elemOf, commonSuffix}
-use Rattle.defs.specs.SeqGraph.{Edge, Graph, nodeCount, vertexSequence, incomingNodes, outgoingNodes, edgesInto, edgesFrom, inDegree, outDegree, Change, applyChange}
-use Rattle.defs.specs.Rewrites.{splitsSuffix, splitSuffix, splitChange, EdgeData, processEdge, redirectedTo, nonEmpty, withoutSuffix, suffixAndPrefix, suffixAndPrefixEdges, splitVertices, splitEdges, wouldEliminateRefSource, isSplit, trySplitCommonSuffix}
+use Rattle.defs.specs.SeqGraph.{Edge, Graph, nodeCount, vertexSequence, incomingNodes, outgoingNodes, edgesInto, edgesFrom, inDegree}
+use Rattle.defs.specs.SeqGraph.{outDegree, Change, applyChange}
+use Rattle.defs.specs.Rewrites.{splitsSuffix, splitSuffix, splitChange, EdgeData, processEdge, redirectedTo, nonEmpty, withoutSuffix}
+use Rattle.defs.specs.Rewrites.{suffixAndPrefix, suffixAndPrefixEdges, splitVertices, splitEdges, wouldEliminateRefSource, isSplit}
+use Rattle.defs.specs.Rewrites.{trySplitCommonSuffix}
 use Rattle.defs.specs.Strings.{HasEdge}
 use Rattle.laws.proofs.Walks.{byTest}
 use Rattle.laws.proofs.ListLaws.{clash, given-some, and-split}
@@ -38,7 +41,12 @@ module _ (g : Graph) (bottom : ℕ) (suffix : List ℕ) where
     all-weight : (ms : List ℕ) → total f (splitVertices g suffix ms) ≡ total (λ m. length suffix + length (remaining m)) ms
     unfolding splitVertices total
     all-weight [] = refl
-    all-weight (m ∷ ms) = omega (arith, total-append f (suffixAndPrefix suffix (remaining m)) (splitVertices g suffix ms), one-weight (remaining m), all-weight ms)
+    all-weight (m ∷ ms) = omega (
+      arith,
+      total-append f (suffixAndPrefix suffix (remaining m)) (splitVertices g suffix ms),
+      one-weight (remaining m),
+      all-weight ms,
+    )
 
   one-count : (l : List ℕ) → 1 ≤ length (suffixAndPrefix suffix l)
   unfolding suffixAndPrefix
@@ -56,12 +64,18 @@ module _ (g : Graph) (bottom : ℕ) (suffix : List ℕ) where
   all-count (m ∷ ms) = omega (arith, length-append (suffixAndPrefix suffix (remaining m)) (splitVertices g suffix ms), one-count (remaining m), all-count ms)
 
   -- not all of them are just the suffix
-  more-count : (ms : List ℕ) → ((m : ℕ) → List·Memᴰ m ms → length (vertexSequence g m) ≡ length (remaining m) + length suffix) → allOf (λ p. eqb (length (vertexSequence g p)) (length suffix)) ms ≡ false
+  more-count : (ms : List ℕ) → ((m : ℕ) → List·Memᴰ m ms → length (vertexSequence g m) ≡ length (remaining m) + length suffix)
+      → allOf (λ p. eqb (length (vertexSequence g p)) (length suffix)) ms ≡ false
       → length ms < length (splitVertices g suffix ms)
   unfolding splitVertices allOf
   more-count [] h t = clash refl t
   more-count (m ∷ ms) h t = byTest (eqb (length (vertexSequence g m)) (length suffix))
-      (λ e. omega (arith, length-append (suffixAndPrefix suffix (remaining m)) (splitVertices g suffix ms), one-count (remaining m), more-count ms (λ x k. h x (List·Memᴰ·tail k)) (rw (e, allOf) at t)))
+      (λ e. omega (
+        arith,
+        length-append (suffixAndPrefix suffix (remaining m)) (splitVertices g suffix ms),
+        one-count (remaining m),
+        more-count ms (λ x k. h x (List·Memᴰ·tail k)) (rw (e, allOf) at t),
+      ))
       (λ e. omega (
         arith,
         length-append (suffixAndPrefix suffix (remaining m)) (splitVertices g suffix ms),
@@ -69,7 +83,8 @@ module _ (g : Graph) (bottom : ℕ) (suffix : List ℕ) where
         two-count (remaining m) (λ z. eqb-false (length (vertexSequence g m)) (length suffix) e (omega (arith, h m (List·Memᴰ·head refl)))),
       ))
 
-  one-edges : (n : ℕ) (l : List ℕ) (toMid : List Edge) (out : EdgeData) → length (suffixAndPrefixEdges bottom n l toMid out) ≡ length (suffixAndPrefix suffix l) + length toMid
+  one-edges : (n : ℕ) (l : List ℕ) (toMid : List Edge) (out : EdgeData) → length (suffixAndPrefixEdges bottom n l toMid out)
+      ≡ length (suffixAndPrefix suffix l) + length toMid
   unfolding suffixAndPrefixEdges suffixAndPrefix
   one-edges n [] toMid out = omega (arith, length-map toMid (redirectedTo n))
   one-edges n (x ∷ l) toMid out = omega (arith, length-map toMid (redirectedTo (suc n)))
@@ -81,7 +96,8 @@ module _ (g : Graph) (bottom : ℕ) (suffix : List ℕ) where
       let out = processEdge g m (edgesFrom g m) in
       omega (
         arith,
-        length-append (suffixAndPrefixEdges bottom n (remaining m) (edgesInto g m) out) (splitEdges g bottom suffix (length (suffixAndPrefix suffix (remaining m)) + n) ms),
+        length-append (suffixAndPrefixEdges bottom n (remaining m) (edgesInto g m) out)
+            (splitEdges g bottom suffix (length (suffixAndPrefix suffix (remaining m)) + n) ms),
         one-edges n (remaining m) (edgesInto g m) out,
         all-edges (length (suffixAndPrefix suffix (remaining m)) + n) ms,
         length-append (suffixAndPrefix suffix (remaining m)) (splitVertices g suffix ms),
@@ -106,7 +122,8 @@ module _ (g g′ : Graph) (bottom : ℕ) (sound : Sound g) (once : Single (g .ed
   unfolding trySplitCommonSuffix splitsSuffix splitSuffix splitChange
   parts = given-some _ _ g′ did
 
-  tests : ((m : ℕ) → List·Memᴰ m prevs → outDegree g m ≡ 1) × (nonEmpty suffix ≡ true) × (allOf (λ p. eqb (length (vertexSequence g p)) (length suffix)) prevs ≡ false)
+  tests : ((m : ℕ) → List·Memᴰ m prevs → outDegree g m ≡ 1) × (nonEmpty suffix ≡ true)
+      × (allOf (λ p. eqb (length (vertexSequence g p)) (length suffix)) prevs ≡ false)
   unfolding isSplit
   tests =
       let a = and-split (ltb 1 (length prevs)) _ (parts .0) in
@@ -114,7 +131,8 @@ module _ (g g′ : Graph) (bottom : ℕ) (sound : Sound g) (once : Single (g .ed
       let e = and-split (nonEmpty suffix) _ (d .1) in
       let f = and-split (not (wouldEliminateRefSource g (length suffix) prevs)) _ (e .1) in (
         λ m k.
-            let x = and-split (not (eqb m bottom)) _ (allOf-mem (λ p. not (eqb p bottom) && (eqb (outDegree g p) 1 && not (elemOf p (outgoingNodes g bottom)))) prevs (d .0) k) in
+            let x = and-split (not (eqb m bottom)) _ (allOf-mem (λ p. not (eqb p bottom)
+            && (eqb (outDegree g p) 1 && not (elemOf p (outgoingNodes g bottom)))) prevs (d .0) k) in
             let y = and-split (eqb (outDegree g m) 1) _ (x .1) in
             eqb-true _ _ (y .0),
         e .0,
@@ -137,13 +155,15 @@ module _ (g g′ : Graph) (bottom : ℕ) (sound : Sound g) (once : Single (g .ed
   unfolding incomingNodes edgesInto
   once-prevs = distinct-ins (g .edges) bottom once
 
-  pub split-weight : (f : List ℕ → ℕ) → ((l : List ℕ) → nonEmpty l ≡ true → f l ≡ length l) → ((l : List ℕ) → length l ≤ f l) → total f (g′ .verts) ≤ total f (g .verts)
+  pub split-weight : (f : List ℕ → ℕ) → ((l : List ℕ) → nonEmpty l ≡ true → f l ≡ length l) → ((l : List ℕ) → length l ≤ f l)
+      → total f (g′ .verts) ≤ total f (g .verts)
   split-weight f full more = rw (← parts .1)
       (omega (
         arith,
         weight-change g (sound .bounded) c local f once-prevs,
         all-weight g bottom suffix f full (tests .1) prevs,
-        total-le (λ m. length suffix + length (remaining g bottom suffix m)) (λ m. f (vertexSequence g m)) prevs (λ m k. omega (arith, lengths m k, more (vertexSequence g m))),
+        total-le (λ m. length suffix + length (remaining g bottom suffix m)) (λ m. f (vertexSequence g m)) prevs (λ m k.
+            omega (arith, lengths m k, more (vertexSequence g m))),
       ))
 
   pub split-heft : total heft (g′ .verts) ≤ total heft (g .verts)

@@ -44,7 +44,8 @@ module _ (g : Graph) where
       let c = traceLinearChain (nodeCount g) g x in
       let k = chained-after g (nodeCount g) x in
       let l = distinct-length (nodeCount g) (x ∷ c) (distinct-chain g (s .bounded) (s .rank) (s .ranks) x c k)
-      (λ v m. ⊎-elim (λ (i : v ≡ x). rw i h) (λ n. let z = pred-in g (s .bounded) (s .rank) (s .ranks) x c k v n in rw (z .1 .3) at ((s .bounded (z .1 .0) (z .1 .1)) .1)) (List·Memᴰ·cases-cons m)) in
+      (λ v m. ⊎-elim (λ (i : v ≡ x). rw i h) (λ n. let z = pred-in g (s .bounded) (s .rank) (s .ranks) x c k v n in
+      rw (z .1 .3) at ((s .bounded (z .1 .0) (z .1 .1)) .1)) (List·Memᴰ·cases-cons m)) in
       ⊎-elim (λ e. absurd (omega (arith, l, e))) (λ t. t) (stops-or-full (nodeCount g) x)
 
 -- orphans
@@ -66,9 +67,11 @@ orphan-old g v m = omega (arith, below-upFrom 0 (nodeCount g) v ((of-keepIf _ (u
 
 fewer : (g : Graph) (v : ℕ) (vs : List ℕ) → singletonOrphans g ≡ v ∷ vs → nodeCount (removeVerticesById (v ∷ vs) g) < nodeCount g
 unfolding removeVerticesById
-fewer g v vs t = rw (order-restrict (keeps (v ∷ vs)) g) (rank-less (keeps (v ∷ vs)) v (nodeCount g) (orphan-old g v (rw t (List·Memᴰ·head refl))) (keeps-gone (v ∷ vs) v (List·Memᴰ·head refl)))
+fewer g v vs t = rw (order-restrict (keeps (v ∷ vs)) g) (rank-less (keeps (v ∷ vs)) v (nodeCount g)
+    (orphan-old g v (rw t (List·Memᴰ·head refl))) (keeps-gone (v ∷ vs) v (List·Memᴰ·head refl)))
 
-orphans-turn : (fuel : ℕ) (g : Graph) → nodeCount g < suc fuel → ((a : Graph) → nodeCount a < fuel → singletonOrphans (removeOrphans fuel a) ≡ []) → singletonOrphans (removeOrphans (suc fuel) g) ≡ []
+orphans-turn : (fuel : ℕ) (g : Graph) → nodeCount g < suc fuel → ((a : Graph) → nodeCount a < fuel → singletonOrphans (removeOrphans fuel a)
+    ≡ []) → singletonOrphans (removeOrphans (suc fuel) g) ≡ []
 orphans-turn fuel g l ih = byList (singletonOrphans g)
     (λ t. rw (orphans-nil fuel g t) t)
     (λ v vs t. rw (orphans-cons fuel g v vs t) (ih (removeVerticesById (v ∷ vs) g) (omega (arith, fewer g v vs t))))

@@ -13,7 +13,8 @@ use Rattle.defs.specs.Lists.{keepIf, upFrom, elemOf, sameList}
 use Rattle.defs.specs.SeqGraph.{Graph, nodeCount, incomingNodes, remapNumbers}
 use Rattle.defs.specs.Zip.{Work, isLinearChainStart, linearChain, traceLinearChain, mergeLinearChain, zipStarts, zipLinearChains}
 use Rattle.defs.specs.Rewrites.{tryMergeDiamond, tryMergeTails, trySplitCommonSuffix, tryMergeCommonSuffices}
-use Rattle.defs.specs.Simplify.{firstAt, transformUntilComplete, Split, firstSplit, splitUntilComplete, simplifyGraphOnce, roundsFrom, simplified, graphTopologySignature, simplifyGraphFull, fuelFor}
+use Rattle.defs.specs.Simplify.{firstAt, transformUntilComplete, Split, firstSplit, splitUntilComplete, simplifyGraphOnce, roundsFrom}
+use Rattle.defs.specs.Simplify.{simplified, graphTopologySignature, simplifyGraphFull, fuelFor}
 use Rattle.defs.specs.Strings.{Spells}
 use Rattle.laws.proofs.Walks.{byTest}
 use Rattle.laws.proofs.Sound.{Sound, Keeps, keeps-same, keeps-then}
@@ -46,11 +47,13 @@ pub until-zero : (f : Graph → ℕ → Option Graph) (w : Work) → transformUn
 unfolding transformUntilComplete
 until-zero f w = refl
 
-pub until-none : (f : Graph → ℕ → Option Graph) (fuel : ℕ) (w : Work) → firstAt (f (w .graph)) 0 (nodeCount (w .graph)) ≡ none → transformUntilComplete f (suc fuel) w ≡ w
+pub until-none : (f : Graph → ℕ → Option Graph) (fuel : ℕ) (w : Work) → firstAt (f (w .graph)) 0 (nodeCount (w .graph)) ≡ none
+    → transformUntilComplete f (suc fuel) w ≡ w
 unfolding transformUntilComplete
 until-none f fuel w t = rw (t, transformUntilComplete)
 
-pub until-some : (f : Graph → ℕ → Option Graph) (fuel : ℕ) (w : Work) (a : Graph) → firstAt (f (w .graph)) 0 (nodeCount (w .graph)) ≡ some a → transformUntilComplete f (suc fuel) w ≡ transformUntilComplete f fuel (again w a)
+pub until-some : (f : Graph → ℕ → Option Graph) (fuel : ℕ) (w : Work) (a : Graph) → firstAt (f (w .graph)) 0 (nodeCount (w .graph)) ≡ some a
+    → transformUntilComplete f (suc fuel) w ≡ transformUntilComplete f fuel (again w a)
 unfolding transformUntilComplete
 until-some f fuel w a t = rw (t, transformUntilComplete)
 
@@ -66,7 +69,8 @@ until-turn f k fuel w h ih = byOption (firstAt (f (w .graph)) 0 (nodeCount (w .g
 pub until-end : (f : Graph → ℕ → Option Graph) (w : Work) → Sound (w .graph) → Keeps (w .graph) ((transformUntilComplete f zero w) .graph)
 until-end f w h = rw (until-zero f w) (keeps-same (w .graph) h)
 
-pub until-keeps : (f : Graph → ℕ → Option Graph) → ((g g′ : Graph) (v : ℕ) → Sound g → f g v ≡ some g′ → Keeps g g′) → (fuel : ℕ) (w : Work) → Sound (w .graph) → Keeps (w .graph) ((transformUntilComplete f fuel w) .graph)
+pub until-keeps : (f : Graph → ℕ → Option Graph) → ((g g′ : Graph) (v : ℕ) → Sound g → f g v ≡ some g′ → Keeps g g′) → (fuel : ℕ) (w : Work)
+    → Sound (w .graph) → Keeps (w .graph) ((transformUntilComplete f fuel w) .graph)
 until-keeps f k zero w h = until-end f w h
 until-keeps f k (suc fuel) w h = until-turn f k fuel w h (λ a s. until-keeps f k fuel (again w a) s)
 
@@ -75,11 +79,13 @@ pub firstSplit-tried : (g : Graph) (tried : List ℕ) (v n : ℕ) → elemOf v t
 unfolding firstSplit
 firstSplit-tried g tried v n t = rw (t, firstSplit)
 
-pub firstSplit-none : (g : Graph) (tried : List ℕ) (v n : ℕ) → elemOf v tried ≡ false → trySplitCommonSuffix g v ≡ none → firstSplit g tried v (suc n) ≡ firstSplit g (v ∷ tried) (suc v) n
+pub firstSplit-none : (g : Graph) (tried : List ℕ) (v n : ℕ) → elemOf v tried ≡ false → trySplitCommonSuffix g v ≡ none
+    → firstSplit g tried v (suc n) ≡ firstSplit g (v ∷ tried) (suc v) n
 unfolding firstSplit
 firstSplit-none g tried v n t y = rw (t, firstSplit) (rw y)
 
-pub firstSplit-some : (g : Graph) (tried : List ℕ) (v n : ℕ) (a : Graph) → elemOf v tried ≡ false → trySplitCommonSuffix g v ≡ some a → firstSplit g tried v (suc n) ≡ some record { graph = a; tried = remapNumbers (incomingNodes g v) (v ∷ tried) }
+pub firstSplit-some : (g : Graph) (tried : List ℕ) (v n : ℕ) (a : Graph) → elemOf v tried ≡ false → trySplitCommonSuffix g v ≡ some a
+    → firstSplit g tried v (suc n) ≡ some record { graph = a; tried = remapNumbers (incomingNodes g v) (v ∷ tried) }
 unfolding firstSplit
 firstSplit-some g tried v n a t y = rw (t, firstSplit) (rw y)
 
@@ -99,24 +105,29 @@ firstSplit-keeps g tried v (suc n) s h e = byTest (elemOf v tried)
     (λ t. firstSplit-keeps g tried (suc v) n s h (sym (firstSplit-tried g tried v n t) ∙ e))
     (λ t. byOption (trySplitCommonSuffix g v)
     (λ y. firstSplit-keeps g (v ∷ tried) (suc v) n s h (sym (firstSplit-none g tried v n t y) ∙ e))
-    (λ a y. split-keeps′ g (s .graph) v h (y ∙ ap some (ap (λ (s : Split). s .graph) (Option·some-injective _ s (sym (firstSplit-some g tried v n a t y) ∙ e))))))
+    (λ a y. split-keeps′ g (s .graph) v h (y ∙ ap some (ap (λ (s : Split).
+    s .graph) (Option·some-injective _ s (sym (firstSplit-some g tried v n a t y) ∙ e))))))
 
 pub splitAll-zero : (tried : List ℕ) (w : Work) → splitUntilComplete zero tried w ≡ w
 unfolding splitUntilComplete
 splitAll-zero tried w = refl
 
-pub splitAll-none : (fuel : ℕ) (tried : List ℕ) (w : Work) → firstSplit (w .graph) tried 0 (nodeCount (w .graph)) ≡ none → splitUntilComplete (suc fuel) tried w ≡ w
+pub splitAll-none : (fuel : ℕ) (tried : List ℕ) (w : Work) → firstSplit (w .graph) tried 0 (nodeCount (w .graph)) ≡ none
+    → splitUntilComplete (suc fuel) tried w ≡ w
 unfolding splitUntilComplete
 splitAll-none fuel tried w t = rw (t, splitUntilComplete)
 
-pub splitAll-some : (fuel : ℕ) (tried : List ℕ) (w : Work) (s : Split) → firstSplit (w .graph) tried 0 (nodeCount (w .graph)) ≡ some s → splitUntilComplete (suc fuel) tried w ≡ splitUntilComplete fuel (s .tried) (again w (s .graph))
+pub splitAll-some : (fuel : ℕ) (tried : List ℕ) (w : Work) (s : Split) → firstSplit (w .graph) tried 0 (nodeCount (w .graph)) ≡ some s
+    → splitUntilComplete (suc fuel) tried w ≡ splitUntilComplete fuel (s .tried) (again w (s .graph))
 unfolding splitUntilComplete
 splitAll-some fuel tried w s t = rw (t, splitUntilComplete)
 
 pub splitAll-end : (tried : List ℕ) (w : Work) → Sound (w .graph) → Keeps (w .graph) ((splitUntilComplete zero tried w) .graph)
 splitAll-end tried w h = rw (splitAll-zero tried w) (keeps-same (w .graph) h)
 
-pub splitAll-turn : (fuel : ℕ) (tried : List ℕ) (w : Work) → Sound (w .graph) → ((l : List ℕ) (a : Graph) → Sound a → Keeps a ((splitUntilComplete fuel l (again w a)) .graph)) → Keeps (w .graph) ((splitUntilComplete (suc fuel) tried w) .graph)
+pub splitAll-turn : (fuel : ℕ) (tried : List ℕ) (w : Work) → Sound (w .graph)
+    → ((l : List ℕ) (a : Graph) → Sound a → Keeps a ((splitUntilComplete fuel l (again w a)) .graph))
+    → Keeps (w .graph) ((splitUntilComplete (suc fuel) tried w) .graph)
 splitAll-turn fuel tried w h ih = byOption (firstSplit (w .graph) tried 0 (nodeCount (w .graph)))
     (λ t. rw (splitAll-none fuel tried w t) (keeps-same (w .graph) h))
     (λ s t. let z = firstSplit-keeps (w .graph) tried 0 (nodeCount (w .graph)) s h t in
@@ -131,7 +142,8 @@ pub zip-nil : (fuel : ℕ) (s : ℕ) (ss : List ℕ) (w : Work) → linearChain 
 unfolding zipStarts
 zip-nil fuel s ss w t = rw (t, zipStarts)
 
-pub zip-cons : (fuel : ℕ) (s : ℕ) (ss : List ℕ) (w : Work) (v : ℕ) (vs : List ℕ) → linearChain (w .graph) s ≡ v ∷ vs → zipStarts (suc fuel) (s ∷ ss) w ≡ zipStarts fuel (remapNumbers (v ∷ vs) ss) (again w (mergeLinearChain (w .graph) s (v ∷ vs)))
+pub zip-cons : (fuel : ℕ) (s : ℕ) (ss : List ℕ) (w : Work) (v : ℕ) (vs : List ℕ) → linearChain (w .graph) s ≡ v ∷ vs
+    → zipStarts (suc fuel) (s ∷ ss) w ≡ zipStarts fuel (remapNumbers (v ∷ vs) ss) (again w (mergeLinearChain (w .graph) s (v ∷ vs)))
 unfolding zipStarts
 zip-cons fuel s ss w v vs t = rw (t, zipStarts)
 
@@ -145,9 +157,11 @@ zip-empty fuel w = refl
 
 pub chained-from : (g : Graph) (s : ℕ) → Chained g s (linearChain g s)
 unfolding linearChain
-chained-from g s = byTest (ltb s (nodeCount g) && isLinearChainStart g s) (λ t. rw (t, linearChain) (chained-after g (nodeCount g) s)) (λ t. rw (t, linearChain) tt)
+chained-from g s = byTest (ltb s (nodeCount g) && isLinearChainStart g s) (λ t. rw (t, linearChain) (chained-after g (nodeCount g) s)) (λ t.
+    rw (t, linearChain) tt)
 
-pub zip-turn : (fuel : ℕ) (s : ℕ) (ss : List ℕ) (w : Work) → Sound (w .graph) → Keeps (w .graph) ((zipStarts fuel ss w) .graph) → ((l : List ℕ) (a : Graph) → Sound a → Keeps a ((zipStarts fuel l (again w a)) .graph))
+pub zip-turn : (fuel : ℕ) (s : ℕ) (ss : List ℕ) (w : Work) → Sound (w .graph) → Keeps (w .graph) ((zipStarts fuel ss w) .graph)
+    → ((l : List ℕ) (a : Graph) → Sound a → Keeps a ((zipStarts fuel l (again w a)) .graph))
     → Keeps (w .graph) ((zipStarts (suc fuel) (s ∷ ss) w) .graph)
 zip-turn fuel s ss w h i₁ i₂ = byList (linearChain (w .graph) s)
     (λ t. rw (zip-nil fuel s ss w t) i₁)
@@ -167,7 +181,8 @@ zipStarts-keeps (suc fuel) (s ∷ ss) w h = zip-turn fuel s ss w h (zipStarts-ke
 
 pub zip-all : (w : Work) → Sound (w .graph) → Keeps (w .graph) ((zipLinearChains w) .graph)
 unfolding zipLinearChains
-zip-all w h = zipStarts-keeps (length (keepIf (isLinearChainStart (w .graph)) (upFrom 0 (nodeCount (w .graph))))) (keepIf (isLinearChainStart (w .graph)) (upFrom 0 (nodeCount (w .graph)))) w h
+zip-all w h = zipStarts-keeps (length (keepIf (isLinearChainStart (w .graph)) (upFrom 0 (nodeCount (w .graph)))))
+    (keepIf (isLinearChainStart (w .graph)) (upFrom 0 (nodeCount (w .graph)))) w h
 
 pub round-keeps : (least : ℕ) → 0 < least → (w : Work) → Sound (w .graph) → Keeps (w .graph) ((simplifyGraphOnce least w) .graph)
 unfolding simplifyGraphOnce
@@ -187,7 +202,8 @@ pub rounds-end : (least n : ℕ) (sig : List ℕ) (w : Work) → (roundsFrom lea
 unfolding roundsFrom simplified
 rounds-end least n sig w = refl
 
-pub rounds-turn : (P : Graph → Type 0) (least remaining n : ℕ) (sig : List ℕ) (w : Work) → P ((simplifyGraphOnce least w) .graph) → ((m : ℕ) (l : List ℕ) → P ((roundsFrom least remaining m l (simplifyGraphOnce least w)) .graph))
+pub rounds-turn : (P : Graph → Type 0) (least remaining n : ℕ) (sig : List ℕ) (w : Work) → P ((simplifyGraphOnce least w) .graph)
+    → ((m : ℕ) (l : List ℕ) → P ((roundsFrom least remaining m l (simplifyGraphOnce least w)) .graph))
     → P ((roundsFrom least (suc remaining) n sig w) .graph)
 unfolding roundsFrom simplified
 rounds-turn P least remaining n sig w p q = byTest (eqb ((simplifyGraphOnce least w) .rewrites) (w .rewrites))
@@ -201,15 +217,19 @@ rounds-turn P least remaining n sig w p q = byTest (eqb ((simplifyGraphOnce leas
 pub rounds-stop : (least n : ℕ) (sig : List ℕ) (w : Work) → Sound (w .graph) → Keeps (w .graph) ((roundsFrom least zero n sig w) .graph)
 rounds-stop least n sig w h = rw (rounds-end least n sig w) (keeps-same (w .graph) h)
 
-pub rounds-next : (least : ℕ) → 0 < least → (remaining n : ℕ) (sig : List ℕ) (w : Work) → Sound (w .graph) → ((m : ℕ) (l : List ℕ) → Sound ((simplifyGraphOnce least w) .graph) → Keeps ((simplifyGraphOnce least w) .graph) ((roundsFrom least remaining m l (simplifyGraphOnce least w)) .graph))
+pub rounds-next : (least : ℕ) → 0 < least → (remaining n : ℕ) (sig : List ℕ) (w : Work) → Sound (w .graph)
+    → ((m : ℕ) (l : List ℕ) → Sound ((simplifyGraphOnce least w) .graph)
+    → Keeps ((simplifyGraphOnce least w) .graph) ((roundsFrom least remaining m l (simplifyGraphOnce least w)) .graph))
     → Keeps (w .graph) ((roundsFrom least (suc remaining) n sig w) .graph)
 rounds-next least pos remaining n sig w h ih =
     let k = round-keeps least pos w h in
     rounds-turn (Keeps (w .graph)) least remaining n sig w k (λ m l. keeps-then k (ih m l (k .sound)))
 
-pub rounds-keeps : (least : ℕ) → 0 < least → (remaining n : ℕ) (sig : List ℕ) (w : Work) → Sound (w .graph) → Keeps (w .graph) ((roundsFrom least remaining n sig w) .graph)
+pub rounds-keeps : (least : ℕ) → 0 < least → (remaining n : ℕ) (sig : List ℕ) (w : Work) → Sound (w .graph)
+    → Keeps (w .graph) ((roundsFrom least remaining n sig w) .graph)
 rounds-keeps least pos zero n sig w h = rounds-stop least n sig w h
-rounds-keeps least pos (suc remaining) n sig w h = rounds-next least pos remaining n sig w h (λ m l s. rounds-keeps least pos remaining m l (simplifyGraphOnce least w) s)
+rounds-keeps least pos (suc remaining) n sig w h = rounds-next least pos remaining n sig w h (λ m l s.
+    rounds-keeps least pos remaining m l (simplifyGraphOnce least w) s)
 
 -- THE WHOLE CALL: simplification keeps the strings of a graph without cycles
 pub simplify-keeps : (g : Graph) → Sound g → Keeps g ((simplifyGraphFull 10 g) .graph)

@@ -15,7 +15,8 @@ use Rattle.defs.specs.Zip.{lastOf, moveFrom, mergeLinearChain}
 use Rattle.laws.proofs.Walks.{byTest}
 use Rattle.laws.proofs.Nets.{Ranks, Bounded}
 use Rattle.laws.proofs.Edges.{keeps-not, in-edgesInto}
-use Rattle.laws.proofs.Counts.{total, total-le, total-same, total-add, total-one, length-keepIf, Distinct, total-kept, Single, single-renumber, length-flat, times-none, times-le, bit-le}
+use Rattle.laws.proofs.Counts.{total, total-le, total-same, total-add, total-one, length-keepIf, Distinct, total-kept, Single}
+use Rattle.laws.proofs.Counts.{single-renumber, length-flat, times-none, times-le, bit-le}
 use Rattle.laws.proofs.MergeCounts.{and-no}
 use Rattle.laws.proofs.SplitCounts.{total-map, length-flat-map}
 use Rattle.laws.proofs.ZipLaws as Z
@@ -23,7 +24,8 @@ use Rattle.laws.proofs.ZipLaws.{Chained}
 
 -- edges that stay apart are not doubled
 pub single-map : (h : Edge → Edge) (es : List Edge)
-    → ((e f : Edge) → List·Memᴰ e es → List·Memᴰ f es → (h f) .from ≡ (h e) .from → (h f) .to ≡ (h e) .to → (f .from ≡ e .from) × (f .to ≡ e .to)) → Single es → Single (map h es)
+    → ((e f : Edge) → List·Memᴰ e es → List·Memᴰ f es → (h f) .from ≡ (h e) .from → (h f) .to ≡ (h e) .to → (f .from ≡ e .from)
+    × (f .to ≡ e .to)) → Single es → Single (map h es)
 single-map h [] k s = tt
 single-map h (e ∷ es) k s = (
   λ l. let a = Memᴰ·of-map h es (l .1) in
@@ -42,7 +44,8 @@ total-set f d [] i x h = absurd (not-suc-le-zero h)
 total-set f d (y ∷ xs) zero x h = omega arith
 total-set f d (y ∷ xs) (suc i) x h = omega (arith, total-set f d xs i x (le-of-suc-le-suc h))
 
-flat-le : (f : List ℕ → ℕ) → ((a b : List ℕ) → f (a ++ b) ≤ f a + f b) → (q : ℕ → List ℕ) (x : ℕ) (l : List ℕ) → f (concat (map q (x ∷ l))) ≤ total (λ v. f (q v)) (x ∷ l)
+flat-le : (f : List ℕ → ℕ) → ((a b : List ℕ) → f (a ++ b) ≤ f a + f b) → (q : ℕ → List ℕ) (x : ℕ) (l : List ℕ)
+    → f (concat (map q (x ∷ l))) ≤ total (λ v. f (q v)) (x ∷ l)
 unfolding concat total
 flat-le f sub q x [] = omega (arith, ap f (append-nil (q x)))
 flat-le f sub q x (y ∷ l) = omega (arith, sub (q x) (concat (map q (y ∷ l))), flat-le f sub q y l)
@@ -80,7 +83,8 @@ module _ (g : Graph) (bounded : Bounded g) (r : ℕ → ℕ) (ranks : Ranks g r)
         let i = chained .1 (e .to) (e, m, q, refl) in
         Z.out-last g bounded r ranks s y ys chained (f .to) (f, n, p, refl) (List·Memᴰ·tail (List·Memᴰ·head (d ∙ i)))
 
-    apart : (e f : Edge) → List·Memᴰ e (g .edges) → List·Memᴰ f (g .edges) → (move f) .from ≡ (move e) .from → (move f) .to ≡ (move e) .to → (f .from ≡ e .from) × (f .to ≡ e .to)
+    apart : (e f : Edge) → List·Memᴰ e (g .edges) → List·Memᴰ f (g .edges) → (move f) .from ≡ (move e) .from → (move f) .to ≡ (move e) .to
+        → (f .from ≡ e .from) × (f .to ≡ e .to)
     unfolding moveFrom
     apart e f m n p d =
         let to-s = Z.src-moved g bounded r ranks s y ys chained in
@@ -119,7 +123,8 @@ module _ (g : Graph) (bounded : Bounded g) (r : ℕ → ℕ) (ranks : Ranks g r)
         s-old = unfold nodeCount in (Z.s-old g bounded r ranks s y ys chained)
 
         gone-same : total (λ v. f (getD (G .verts) v [])) rest ≡ total (λ v. f (vertexSequence g v)) rest
-        gone-same = total-same (λ v. f (getD (G .verts) v [])) (λ v. f (vertexSequence g v)) rest (λ v m. ap f (unfold vertexSequence in (Z.seq-other g bounded r ranks s y ys chained v
+        gone-same = total-same (λ v. f (getD (G .verts) v [])) (λ v. f (vertexSequence g v)) rest (λ v m.
+            ap f (unfold vertexSequence in (Z.seq-other g bounded r ranks s y ys chained v
             (λ e. keeps-not rest s (Z.s-keep g bounded r ranks s y ys chained) (rw e at m)))))
 
         joinedData : total f (G .verts) + f (vertexSequence g s) ≡ total f (g .verts) + f (concat (map (vertexSequence g) (s ∷ rest)))

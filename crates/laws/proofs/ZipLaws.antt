@@ -5,18 +5,22 @@ use native.Mathlib.Omega.{arith}
 use mathlib.Core.Path.{_≡_, refl, sym, ap, _∙_}
 use mathlib.Core.Logic.{_⊎_, inl, inr, ⊎-elim, _↔_}
 use mathlib.Core.Bool.{Bool, true, false, cond, not, _&&_, true≢false}
-use mathlib.Core.List.{List, [], _∷_, _++_, map, append-assoc, append-nil, List·Memᴰ, List·Memᴰ·head, List·Memᴰ·tail, List·Memᴰ·not-nil, List·Memᴰ·cases-cons, Memᴰ·map, Memᴰ·of-map}
+use mathlib.Core.List.{List, [], _∷_, _++_, map, append-assoc, append-nil, List·Memᴰ, List·Memᴰ·head, List·Memᴰ·tail, List·Memᴰ·not-nil}
+use mathlib.Core.List.{List·Memᴰ·cases-cons, Memᴰ·map, Memᴰ·of-map}
 use lib.Dec.{eqb, ltb}
 use lib.ListN.{length, getD, set, length-set, length-map}
 use lib.Seq.{getD-set-same, getD-set-other}
 use borrow.Author.Tests.{eqb-true, eqb-false, eq-eqb, ne-eqb, not-true}
 use Rattle.defs.specs.Lists.{concat, elemOf, headOr}
-use Rattle.defs.specs.SeqGraph.{Edge, Graph, nodeCount, vertexSequence, outgoingNodes, incomingNodes, edgesFrom, edgesInto, outDegree, inDegree, isReferenceNode, keeps, removeVerticesById, compactVertices}
+use Rattle.defs.specs.SeqGraph.{Edge, Graph, nodeCount, vertexSequence, outgoingNodes, incomingNodes, edgesFrom, edgesInto, outDegree}
+use Rattle.defs.specs.SeqGraph.{inDegree, isReferenceNode, keeps, removeVerticesById, compactVertices}
 use Rattle.defs.specs.Zip.{chainGoesOn, traceLinearChain, lastOf, moveFrom, mergeLinearChain}
 use Rattle.defs.specs.Strings.{HasEdge, Spells}
-use Rattle.laws.proofs.Walks.{Net, Pt, start, at, stop, Go, text, IsSource, IsSink, Steps, stay, step, single, then, cast, Reads, Tour, hit, pass, Replaces, kept, reads, byTest}
+use Rattle.laws.proofs.Walks.{Net, Pt, start, at, stop, Go, text, IsSource, IsSink, Steps, stay, step, single, then, cast, Reads}
+use Rattle.laws.proofs.Walks.{Tour, hit, pass, Replaces, kept, reads, byTest}
 use Rattle.laws.proofs.ListLaws.{clash, and-split, byOrder}
-use Rattle.laws.proofs.Nets.{Ranks, ranks-restrict, closed, netOf, partOf, Bounded, reads-restrict, of-reads-restrict, spells-reads, reads-spells, bounded-restrict}
+use Rattle.laws.proofs.Nets.{Ranks, ranks-restrict, closed, netOf, partOf, Bounded, reads-restrict, of-reads-restrict, spells-reads}
+use Rattle.laws.proofs.Nets.{reads-spells, bounded-restrict}
 use Rattle.laws.proofs.Edges.{Linked, keeps-not, not-keeps, keeps-other, elemOf-true, elemOf-mem, only-out}
 use Rattle.laws.proofs.Sound.{Keeps}
 use Rattle.laws.proofs.MergeCounts.{mem-head}
@@ -24,7 +28,8 @@ use Rattle.laws.proofs.Diamonds.{of-mem-outs, only-in}
 use Rattle.laws.proofs.Changes.{Agree, Via, agree-replaces}
 
 first-out : (g : Graph) (x : ℕ) → outDegree g x ≡ 1 → HasEdge g x (headOr 0 (outgoingNodes g x))
-first-out g x d = of-mem-outs g x (headOr 0 (outgoingNodes g x)) (mem-head (outgoingNodes g x) (unfold outgoingNodes outDegree in omega (arith, d, length-map (edgesFrom g x) (λ (e : Edge). e .to))))
+first-out g x d = of-mem-outs g x (headOr 0 (outgoingNodes g x)) (mem-head (outgoingNodes g x) (unfold outgoingNodes outDegree in
+    omega (arith, d, length-map (edgesFrom g x) (λ (e : Edge). e .to))))
 
 -- x and then each of ys: each leads only to the next, and the next is led to only from it
 abbrev pub Chained : Graph → ℕ → List ℕ → Type 0
@@ -51,14 +56,16 @@ module _ (g : Graph) (bounded : Bounded g) (r : ℕ → ℕ) (ranks : Ranks g r)
   rank-in x [] c w m = ⊎-elim (λ (e : w ≡ x). rw e (omega arith)) (λ n. absurd (List·Memᴰ·not-nil n)) (List·Memᴰ·cases-cons m)
   rank-in x (y ∷ ys) (h, o, i, c) w m =
       let a = ranks x y h in
-      ⊎-elim (λ (e : w ≡ x). let b = rank-in y ys c y (List·Memᴰ·head refl) in rw e (omega arith)) (λ n. let b = rank-in y ys c w n in omega arith) (List·Memᴰ·cases-cons m)
+      ⊎-elim (λ (e : w ≡ x). let b = rank-in y ys c y (List·Memᴰ·head refl) in rw e (omega arith)) (λ n. let b = rank-in y ys c w n in
+      omega arith) (List·Memᴰ·cases-cons m)
 
   -- what is led to from a chain's vertex is in the chain, unless the vertex is the last
   pub out-in : (x : ℕ) (ys : List ℕ) → Chained g x ys → (u w : ℕ) → List·Memᴰ u (x ∷ ys) → HasEdge g u w → (u ≡ lastOf x ys) ⊎ List·Memᴰ w ys
   unfolding lastOf
   out-in x [] c u w m l = ⊎-elim (λ (e : u ≡ x). inl e) (λ n. absurd (List·Memᴰ·not-nil n)) (List·Memᴰ·cases-cons m)
   out-in x (y ∷ ys) (h, o, i, c) u w m l =
-      ⊎-elim (λ (e : u ≡ x). inr (List·Memᴰ·head (o w (rw e at l)))) (λ n. ⊎-elim inl (λ k. inr (List·Memᴰ·tail k)) (out-in y ys c u w n l)) (List·Memᴰ·cases-cons m)
+      ⊎-elim (λ (e : u ≡ x). inr (List·Memᴰ·head (o w (rw e at l)))) (λ n. ⊎-elim inl (λ k. inr (List·Memᴰ·tail k)) (out-in y ys c u w n l))
+      (List·Memᴰ·cases-cons m)
 
   -- what leads to a vertex behind the first is in the chain
   pub in-in : (x : ℕ) (ys : List ℕ) → Chained g x ys → (u w : ℕ) → List·Memᴰ w ys → HasEdge g u w → List·Memᴰ u (x ∷ ys)
@@ -103,7 +110,11 @@ module _ (g : Graph) (bounded : Bounded g) (r : ℕ → ℕ) (ranks : Ranks g r)
     pub src-moved : (e : Edge) → List·Memᴰ e (g .edges) → e .from ≡ last → (moveFrom last (s ∷ rest) s e) .from ≡ s
     unfolding moveFrom
     src-moved e m p =
-        rw (eq-eqb (e .from) last p, byTest {X = elemOf (e .to) (s ∷ rest) ≡ false} (elemOf (e .to) (s ∷ rest)) (λ t. absurd (out-last (e .to) (e, m, p, refl) (elemOf-true _ _ t))) (λ t. t))
+        rw (
+          eq-eqb (e .from) last p,
+          byTest {X = elemOf (e .to) (s ∷ rest) ≡ false} (elemOf (e .to) (s ∷ rest)) (λ t.
+              absurd (out-last (e .to) (e, m, p, refl) (elemOf-true _ _ t))) (λ t. t),
+        )
 
     pub src-kept : (e : Edge) → (e .from ≡ last → ⊥) → (moveFrom last (s ∷ rest) s e) .from ≡ e .from
     unfolding moveFrom
@@ -157,7 +168,8 @@ module _ (g : Graph) (bounded : Bounded g) (r : ℕ → ℕ) (ranks : Ranks g r)
     common-keep v t = keeps-other rest v (λ m. common-not v t (List·Memᴰ·tail m))
 
     pub s-keep : keeps rest s ≡ true
-    s-keep = keeps-other rest s λ m. let a = pred-in s rest chained s m in let b = rank-in s rest chained (a .0) (in-in s rest chained (a .0) s m (a .1)) in omega (arith, ranks (a .0) s (a .1))
+    s-keep = keeps-other rest s λ m. let a = pred-in s rest chained s m in let b = rank-in
+        s rest chained (a .0) (in-in s rest chained (a .0) s m (a .1)) in omega (arith, ranks (a .0) s (a .1))
 
     pub last-not : (u : ℕ) → common u ≡ true → u ≡ last → ⊥
     last-not u t e = common-not u t (rw e (last-in s rest))
@@ -177,12 +189,14 @@ module _ (g : Graph) (bounded : Bounded g) (r : ℕ → ℕ) (ranks : Ranks g r)
     unfolding U
     back = record {
       vx = λ v t h. rw order-G at (h .0);
-      ends = λ u v h. of-G u v (h .0) (λ l _. let b = old u v l in ((rw order-G (b .0), h .1), (rw order-G (b .1), h .2))) (λ e l. ((rw (order-G, e) ((old s y (chained .0)) .0), h .1), (rw order-G ((old last v l) .1), h .2)));
+      ends = λ u v h. of-G u v (h .0) (λ l _. let b = old u v l in ((rw order-G (b .0), h .1), (rw order-G (b .1), h .2))) (λ e l.
+          ((rw (order-G, e) ((old s y (chained .0)) .0), h .1), (rw order-G ((old last v l) .1), h .2)));
       ed = λ u v a b h. of-G u v (h .0) (λ l _. l) (λ e _. absurd (common-not u a (List·Memᴰ·head e)));
       lab = λ v t h. sym (seq-other v (λ e. common-not v t (List·Memᴰ·head e)));
       source = λ v t h x k. byTest (common x)
           (λ c. h .1 x (unmoved x v k (last-not x c), common-keep x c, common-keep v t))
-          (λ c. ⊎-elim (λ (e : x ≡ last). h .1 s (moved v (rw e at k), s-keep, common-keep v t)) (λ m. common-not v t (List·Memᴰ·tail m)) (out-in s rest chained x v (not-common x c) k));
+          (λ c. ⊎-elim (λ (e : x ≡ last). h .1 s (moved v (rw e at k), s-keep, common-keep v t)) (λ m. common-not v t (List·Memᴰ·tail m))
+          (out-in s rest chained x v (not-common x c) k));
       sink = λ v t h x k. byTest (common x)
           (λ c. h .1 x (unmoved v x k (last-not v t), common-keep v t, common-keep x c))
           (λ c. ⊎-elim
@@ -208,8 +222,12 @@ module _ (g : Graph) (bounded : Bounded g) (r : ℕ → ℕ) (ranks : Ranks g r)
     follow x (z ∷ zs) (a, o, i, c) sub e (pass {q = start} h k w) = absurd h
     follow x (z ∷ zs) (a, o, i, c) sub e (pass {q = at v} {s = t} h k w) =
         let j = o v h in
-        let d = follow z zs c (λ w m. sub w (List·Memᴰ·tail m)) e (rw j at w) in
-        (d .0, ap (λ v. vertexSequence g v ++ t) j ∙ (ap (λ l. vertexSequence g z ++ l) (d .1) ∙ sym (append-assoc (vertexSequence g z) (concat (map (vertexSequence g) zs)) (d .0))), d .2)
+        let d = follow z zs c (λ w m. sub w (List·Memᴰ·tail m)) e (rw j at w) in (
+          d .0,
+          ap (λ v. vertexSequence g v ++ t) j ∙ (ap (λ l. vertexSequence g z ++ l) (d .1)
+              ∙ sym (append-assoc (vertexSequence g z) (concat (map (vertexSequence g) zs)) (d .0))),
+          d .2,
+        )
     follow x (z ∷ zs) (a, o, i, c) sub e (pass {q = stop} h k w) = absurd (true≢false k)
 
     -- the first vertex is the way in
@@ -222,7 +240,8 @@ module _ (g : Graph) (bounded : Bounded g) (r : ℕ → ℕ) (ranks : Ranks g r)
     s-old = (old s y (chained .0)) .0
 
     pub last-old : last < nodeCount g
-    last-old = ⊎-elim (λ (e : last ≡ s). rw e s-old) (λ n. let a = pred-in s rest chained last n in (old (a .0) last (a .1)) .1) (List·Memᴰ·cases-cons (last-in s rest))
+    last-old = ⊎-elim (λ (e : last ≡ s). rw e s-old) (λ n. let a = pred-in s rest chained last n in (old (a .0) last (a .1)) .1)
+        (List·Memᴰ·cases-cons (last-in s rest))
 
     pub to-s : (p : Pt) → kept common p ≡ true → Go N p (at s) → Go U p (at s)
     unfolding U
@@ -302,8 +321,10 @@ module _ (g : Graph) (bounded : Bounded g) (r : ℕ → ℕ) (ranks : Ranks g r)
     pub zip-spells : {t : List ℕ} → Spells g t ↔ Spells (mergeLinearChain g s rest) t
     unfolding mergeLinearChain removeVerticesById U
     zip-spells = (
-      λ w. reads-spells (mergeLinearChain g s rest) bounded-zip (reads-restrict (keeps rest) G boundedG (reads N U common (agree-replaces N U common forth via-forth) (spells-reads g w))),
-      λ w. reads-spells g bounded (reads U N common (agree-replaces U N common back via-back) (of-reads-restrict (keeps rest) G boundedG (spells-reads (mergeLinearChain g s rest) w))),
+      λ w. reads-spells (mergeLinearChain g s rest) bounded-zip
+          (reads-restrict (keeps rest) G boundedG (reads N U common (agree-replaces N U common forth via-forth) (spells-reads g w))),
+      λ w. reads-spells g bounded (reads U N common (agree-replaces U N common back via-back)
+          (of-reads-restrict (keeps rest) G boundedG (spells-reads (mergeLinearChain g s rest) w))),
     )
 
     pub ranksG : Ranks G r

@@ -88,7 +88,8 @@ vertices-start {bs} = record {
 
 module _ {bs vs₀ vs : List ℕ} {i start : ℕ} (R : ReadingVertices bs vs₀ vs i start) (h : i < verticesOf bs) where
   module _ (room : 2 * verticesOf bs ≤ length vs₀) where
-    pub vertices-more : {vs′ : List ℕ} {len : ℕ} → len ≡ lengthAt bs i → len < 65536 → vs′ ≡ putVertex vs i start len → ReadingVertices bs vs₀ vs′ (i + 1) (start + len)
+    pub vertices-more : {vs′ : List ℕ} {len : ℕ} → len ≡ lengthAt bs i → len < 65536 → vs′ ≡ putVertex vs i start len
+        → ReadingVertices bs vs₀ vs′ (i + 1) (start + len)
     unfolding putVertex
     vertices-more {vs′} {len} ql l is = record {
       high = omega arith;
@@ -96,10 +97,11 @@ module _ {bs vs₀ vs : List ℕ} {i start : ℕ} (R : ReadingVertices bs vs₀ 
       small = omega (arith, R .small);
       start-is = omega (arith, R .start-is, sum-more i (lengthAt bs));
       done = record {
-        starts = λ k c. ap (λ (l : List ℕ). getD l (2 * k) 0) is ∙ getD-set-other (set vs (2 * i) start) (2 * i + 1) (2 * k) len 0 (λ z. omega arith) ∙ elim (ℕ-discrete k i) [
-          | yes q ↦ rw q (getD-set-same vs (2 * i) start 0 (omega (arith, R .len)) ∙ R .start-is)
-          | no ne ↦ getD-set-other vs (2 * i) (2 * k) start 0 (λ z. ne (omega arith)) ∙ R .done .starts k (omega arith)
-        ];
+        starts = λ k c. ap (λ (l : List ℕ). getD l (2 * k) 0) is ∙ getD-set-other (set vs (2 * i) start) (2 * i + 1) (2 * k) len 0 (λ z.
+            omega arith) ∙ elim (ℕ-discrete k i) [
+              | yes q ↦ rw q (getD-set-same vs (2 * i) start 0 (omega (arith, R .len)) ∙ R .start-is)
+              | no ne ↦ getD-set-other vs (2 * i) (2 * k) start 0 (λ z. ne (omega arith)) ∙ R .done .starts k (omega arith)
+            ];
         sizes = λ k c. ap (λ (l : List ℕ). getD l (2 * k + 1) 0) is ∙ elim (ℕ-discrete k i) [
           | yes q ↦ rw q (getD-set-same (set vs (2 * i) start) (2 * i + 1) len 0 (omega (arith, R .len, length-set vs (2 * i) start)) ∙ ql)
           | no ne ↦ getD-set-other (set vs (2 * i) start) (2 * i + 1) (2 * k + 1) len 0 (λ z. ne (omega arith))
@@ -121,7 +123,8 @@ pub record ReadingBytes (bs : List ℕ) (at b : ℕ) (p₀ p : List ℕ) (i : �
 pub bytes-start : {bs : List ℕ} {at b : ℕ} {p : List ℕ} → ReadingBytes bs at b p p 0
 bytes-start = record { high = omega arith; len = refl; done = record { is = λ i h. absurd (omega arith) } }
 
-pub bytes-more : {bs : List ℕ} {at b : ℕ} {p₀ p : List ℕ} {i : ℕ} → ReadingBytes bs at b p₀ p i → i < b → b ≤ length p₀ → ReadingBytes bs at b p₀ (set p i (getD bs (at + i) 0)) (i + 1)
+pub bytes-more : {bs : List ℕ} {at b : ℕ} {p₀ p : List ℕ} {i : ℕ} → ReadingBytes bs at b p₀ p i → i < b → b ≤ length p₀
+    → ReadingBytes bs at b p₀ (set p i (getD bs (at + i) 0)) (i + 1)
 bytes-more {bs} {at} {b} {p₀} {p} {i} R h room = record {
   high = omega arith;
   len = length-set p i (getD bs (at + i) 0) ∙ R .len;
@@ -142,7 +145,10 @@ module _ {bs : List ℕ} (W : WellFormed bs) where
 
   pub read-ends : {m n : ℕ} {es : List ℕ} → m ≡ edgesOf bs → n ≡ verticesOf bs → EdgesRead bs m es → EndsBelow n m es
   read-ends {m} {n} {es} qm qn R = record {
-    at = λ k h. let g = W .good k (omega arith) in (omega (arith, g .from, ap (λ (e : Edge). e .from) (R .at k h)), omega (arith, g .to, ap (λ (e : Edge). e .to) (R .at k h)));
+    at = λ k h. let g = W .good k (omega arith) in (
+      omega (arith, g .from, ap (λ (e : Edge). e .from) (R .at k h)),
+      omega (arith, g .to, ap (λ (e : Edge). e .to) (R .at k h)),
+    );
   }
 
   module _ {n : ℕ} {vs : List ℕ} (q : n ≡ verticesOf bs) (R : VerticesRead bs n vs) where
@@ -153,22 +159,26 @@ module _ {bs : List ℕ} (W : WellFormed bs) where
     read-within qb = record { at = λ v h. omega (arith, R .starts v h, R .sizes v h, vertex-inside v h) }
 
     -- the pool's bytes are the record's from `at` on
-    module _ {p : List ℕ} {at b : ℕ} (qa : at ≡ bytesAt (verticesOf bs) (edgesOf bs)) (qb : b ≡ bytesOf bs) (room : bytesOf bs ≤ length p) (B : BytesRead bs at b p) where
+    module _ {p : List ℕ} {at b : ℕ} (qa : at ≡ bytesAt (verticesOf bs) (edgesOf bs)) (qb : b ≡ bytesOf bs) (room : bytesOf bs ≤ length p)
+        (B : BytesRead bs at b p) where
       read-seq : (v : ℕ) → v < n → seqIn vs p v ≡ sequenceAt bs v
       read-seq v h =
           let i = vertex-inside v h in
           rw (R .starts v h, R .sizes v h)
-          (part-same bs p (sequenceStart bs v) (sum (tab v (lengthAt bs))) (lengthAt bs v) (omega (arith, sequenceStart-is bs v, bytes-inside)) (omega arith) (byte v i)
+          (part-same bs p (sequenceStart bs v) (sum (tab v (lengthAt bs))) (lengthAt bs v)
+          (omega (arith, sequenceStart-is bs v, bytes-inside)) (omega arith) (byte v i)
           ∙ sym (sequenceAt-is bs v))
         where
-          byte : (v : ℕ) → sum (tab v (lengthAt bs)) + lengthAt bs v ≤ bytesOf bs → (i : ℕ) → i < lengthAt bs v → getD p (sum (tab v (lengthAt bs)) + i) 0 ≡ getD bs (sequenceStart bs v + i) 0
+          byte : (v : ℕ) → sum (tab v (lengthAt bs)) + lengthAt bs v ≤ bytesOf bs → (i : ℕ) → i < lengthAt bs v
+              → getD p (sum (tab v (lengthAt bs)) + i) 0 ≡ getD bs (sequenceStart bs v + i) 0
           byte v h i c = B .is (sum (tab v (lengthAt bs)) + i) (omega arith) ∙ ap (λ (x : ℕ). getD bs x 0) (omega (arith, sequenceStart-is bs v))
 
       pub read-seqs : tab n (seqIn vs p) ≡ tab (verticesOf bs) (sequenceAt bs)
       read-seqs = tab-ext n (seqIn vs p) (sequenceAt bs) read-seq ∙ ap (λ (x : ℕ). tab x (sequenceAt bs)) q
 
   -- the header's numbers, and the three parts
-  pub loaded : {r : Held} {es vs p : List ℕ} {at : ℕ} → r .k .0 ≡ kOf bs → r .n ≡ verticesOf bs → r .m ≡ edgesOf bs → r .used ≡ bytesOf bs → at ≡ 32 + 2 * r .n + 9 * r .m → bytesOf bs ≤ length p
+  pub loaded : {r : Held} {es vs p : List ℕ} {at : ℕ} → r .k .0 ≡ kOf bs → r .n ≡ verticesOf bs → r .m ≡ edgesOf bs → r .used ≡ bytesOf bs
+      → at ≡ 32 + 2 * r .n + 9 * r .m → bytesOf bs ≤ length p
       → EdgesRead bs (r .m) es → VerticesRead bs (r .n) vs → BytesRead bs at (r .used) p → Loaded bs r es vs p
   unfolding decode
   loaded {r} {es} {vs} {p} {at} qk qn qm qu qa room E Q B = record {

@@ -30,10 +30,12 @@ pub fit-tame : {g g′ : Graph} {heads nexts : List ℕ} → Fit g heads nexts �
 fit-tame F t = record { good = t .good; light = omega (arith, F .light, t .light); surplus = omega (arith, F .surplus, t .room) }
 
 -- between adding and closing up
-pub through-vertices : {g g′ : Graph} {heads nexts : List ℕ} → Fit g heads nexts → Tame g g′ → (t : Through g g′) → nodeCount (withAdditions (t .by) g) ≤ 2 * vertexRoom heads
+pub through-vertices : {g g′ : Graph} {heads nexts : List ℕ} → Fit g heads nexts → Tame g g′ → (t : Through g g′)
+    → nodeCount (withAdditions (t .by) g) ≤ 2 * vertexRoom heads
 through-vertices F m t = omega (arith, fit-vertices F, fit-vertices (fit-tame F m), t .vertices)
 
-pub through-edges : {g g′ : Graph} {heads nexts : List ℕ} → Fit g heads nexts → Tame g g′ → (t : Through g g′) → length ((withAdditions (t .by) g) .edges) ≤ 2 * edgeRoom nexts
+pub through-edges : {g g′ : Graph} {heads nexts : List ℕ} → Fit g heads nexts → Tame g g′ → (t : Through g g′)
+    → length ((withAdditions (t .by) g) .edges) ≤ 2 * edgeRoom nexts
 through-edges F m t = omega (arith, fit-edges F, fit-edges (fit-tame F m), t .edges)
 
 -- of a held graph
@@ -49,7 +51,8 @@ module _ {h : Held} {es vs p heads nexts : List ℕ} (H : Holds h es vs p heads 
 
 -- room goes by lengths
 pub room-kept : {es vs p heads nexts nodes mp es′ vs′ p′ heads′ nexts′ nodes′ mp′ : List ℕ} → Room es vs p heads nexts nodes mp
-    → length es′ ≡ length es → length vs′ ≡ length vs → length p′ ≡ length p → length heads′ ≡ length heads → length nexts′ ≡ length nexts → length nodes′ ≡ length nodes → length mp′ ≡ length mp
+    → length es′ ≡ length es → length vs′ ≡ length vs → length p′ ≡ length p → length heads′ ≡ length heads → length nexts′ ≡ length nexts
+    → length nodes′ ≡ length nodes → length mp′ ≡ length mp
     → Room es′ vs′ p′ heads′ nexts′ nodes′ mp′
 room-kept R a b c d e f g = record {
   es-room = rw (a, e) (R .es-room);
@@ -61,7 +64,8 @@ room-kept R a b c d e f g = record {
   small = rw e (R .small);
 }
 
-pub holds-kept : {h : Held} {es vs p heads nexts heads′ nexts′ : List ℕ} → Holds h es vs p heads nexts → length heads′ ≡ length heads → length nexts′ ≡ length nexts → Holds h es vs p heads′ nexts′
+pub holds-kept : {h : Held} {es vs p heads nexts heads′ nexts′ : List ℕ} → Holds h es vs p heads nexts → length heads′ ≡ length heads
+    → length nexts′ ≡ length nexts → Holds h es vs p heads′ nexts′
 holds-kept H d e = record {
   fit = record { good = H .fit .good; light = rw d (H .fit .light); surplus = rw (d, e) (H .fit .surplus) };
   within = H .within;

@@ -65,6 +65,24 @@ pub record Ready (least : ℕ) (h : Held) (es vs p heads nexts nodes mp : List �
 pub record Counted (rewrites : ℕ) (heads : List ℕ) : Type 0 where
   pub small : rewrites + vertexRoom heads < 4294967296
 
+-- the lists of chain starts and of tried vertices have room for every vertex
+pub record Scratch (heads starts tried : List ℕ) : Type 0 where
+  pub starts-room : length heads ≤ 2 * length starts + 1
+  pub tried-room : vertexRoom heads ≤ length tried
+
+-- so many stages of rewrites can be counted on
+pub record Countable (stages rewrites : ℕ) (heads : List ℕ) : Type 0 where
+  pub small : rewrites + stages * vertexRoom heads < 4294967296
+
+-- a held graph, room for its rewrites and for the lists of a round, and a least suffix of tails of 4 or more
+pub record Simplifiable (least : ℕ) (h : Held) (es vs p heads nexts nodes mp starts tried sig : List ℕ) : Type 0 where
+  pub least-is : 3 < least
+  pub room : Room es vs p heads nexts nodes mp
+  pub holds : Holds h es vs p heads nexts
+  pub scratch : Scratch heads starts tried
+  pub sig-room : 2 + 2 * vertexRoom heads ≤ length sig
+  pub countable : Countable 501 0 heads
+
 -- What trying a rewrite leaves, where `o` is what the definition makes: none, and all as it was; or the graph then held.
 pub record Left (o : Option Graph) (h : Held) (es vs p heads nexts : List ℕ) (r : Tried) (es′ vs′ p′ : List ℕ) : Type 0 where
   pub no : r .done ≡ false → o ≡ none

@@ -32,13 +32,23 @@ pub record Follows (h : Held) (es vs p heads nexts nodes mp : List ℕ) (top c :
   pub top-old : top < h .n
   pub found : Collected 0 (h .m) es top c nodes
 
-module _ {h : Held} {es vs p heads nexts nodes₀ mp : List ℕ} {top : ℕ} (R : Room es vs p heads nexts nodes₀ mp) (H : Holds h es vs p heads nexts) (I : Indexed (h .m) (h .n) es heads nexts) (T : top < h .n) where
+module _ {h : Held} {es vs p heads nexts nodes₀ mp : List ℕ} {top : ℕ} (R : Room es vs p heads nexts nodes₀ mp) (H :
+    Holds h es vs p heads nexts) (I : Indexed (h .m) (h .n) es heads nexts) (T : top < h .n) where
   pub collectable : (top < h .n) × ((0 ≤ 1) × ((h .m ≤ length nodes₀) × Indexed (h .m) (h .n) es heads nexts))
   collectable = (T, (omega arith, (omega (arith, held-edges H, R .nodes-room), I)))
 
   pub follows : {c : ℕ} {nodes : List ℕ} → length nodes ≡ length nodes₀ → Collected 0 (h .m) es top c nodes → Follows h es vs p heads nexts nodes mp top c
   follows q C = record {
-    room = record { es-room = R .es-room; vs-room = R .vs-room; p-room = R .p-room; nodes-room = omega (arith, R .nodes-room); map-room = R .map-room; vertices-edges = R .vertices-edges; small = R .small };
+    room = record {
+      es-room = R .es-room;
+      vs-room = R .vs-room;
+      p-room = R .p-room;
+      nodes-room = omega (arith, R .nodes-room);
+      map-room =
+          R .map-room;
+      vertices-edges = R .vertices-edges;
+      small = R .small;
+    };
     holds = H;
     index = I;
     top-old = T;
@@ -71,7 +81,8 @@ module _ {h : Held} {es vs p heads nexts nodes mp : List ℕ} {top c : ℕ} (F :
 
   below : (i : ℕ) → i < c → getD nodes i 0 < n
   below i b =
-      let a = Memᴰ·of-map (endOf 1 es) (edgesAt (endOf 0 es) m top) (subst (λ (l : List ℕ). List·Memᴰ (getD nodes i 0) l) (F .found .is) (mem-tab c (λ (j : ℕ). getD nodes j 0) i b)) in
+      let a = Memᴰ·of-map (endOf 1 es) (edgesAt (endOf 0 es) m top) (subst (λ (l : List ℕ). List·Memᴰ (getD nodes i 0) l) (F .found .is)
+      (mem-tab c (λ (j : ℕ). getD nodes j 0) i b)) in
       omega (arith, ends .at (a .0) (at-below 0 m es top (a .0) (a .1)) .1, a .2)
 
   pub bottom-below : (v : ℕ) → headOr 0 (map (endOf 1 es) (edgesAt (endOf 0 es) m v)) < n
@@ -97,7 +108,11 @@ module _ {h : Held} {es vs p heads nexts nodes mp : List ℕ} {top c : ℕ} (F :
   middle v b one = record {
     first = here;
     into = into ∙ ap (λ (l : List ℕ). e₁ ∷ l) rest;
-    out = λ k. (atFrom (endOf 0 es) m v (pairAt 0 nexts e₀), at-head (endOf 0 es) m n (pairAt 0 heads) (pairAt 0 nexts) v I₀ b ∙ at-step (endOf 0 es) m n (pairAt 0 heads) (pairAt 0 nexts) v e₀ I₀ k (I₀ .heads v b .hit k));
+    out = λ k. (
+      atFrom (endOf 0 es) m v (pairAt 0 nexts e₀),
+      at-head (endOf 0 es) m n (pairAt 0 heads) (pairAt 0 nexts) v I₀ b
+          ∙ at-step (endOf 0 es) m n (pairAt 0 heads) (pairAt 0 nexts) v e₀ I₀ k (I₀ .heads v b .hit k),
+    );
     end = λ k. at-head (endOf 0 es) m n (pairAt 0 heads) (pairAt 0 nexts) v I₀ b ∙ at-end (endOf 0 es) m v e₀ k;
   }
     where
@@ -132,7 +147,8 @@ module _ {h : Held} {es vs p heads nexts nodes mp : List ℕ} {top c : ℕ} (F :
   seqs-are : map (vertexSequence g) (numsIn c nodes) ≡ seqsAt vs p nodes c
   unfolding vertexSequence
   seqs-are = map-tab (vertexSequence g) c (λ (i : ℕ). getD nodes i 0)
-      ∙ tab-ext c (λ (i : ℕ). getD (seqsIn n vs p) (getD nodes i 0) []) (λ (i : ℕ). seqIn vs p (getD nodes i 0)) (λ i b. getD-tab n (seqIn vs p) (getD nodes i 0) [] (below i b))
+      ∙ tab-ext c (λ (i : ℕ). getD (seqsIn n vs p) (getD nodes i 0) []) (λ (i : ℕ). seqIn vs p (getD nodes i 0)) (λ i b.
+      getD-tab n (seqIn vs p) (getD nodes i 0) [] (below i b))
 
   module _ {x y : ℕ} (s : 1 ≤ c) (X : Prefix vs p nodes c x) (Y : Suffix vs p nodes x c y) where
     inside : startAt vs nodes 0 + lenAt vs nodes 0 ≤ length p
@@ -152,7 +168,8 @@ module _ {h : Held} {es vs p heads nexts nodes mp : List ℕ} {top c : ℕ} (F :
     unfolding sharedSuffix
     suffix-is = (λ i. commonSuffix (map (drop ((ap length prefix-is ∙ length-prefix) i)) (seqs-are i))) ∙ Y .is
 
-    pub splittable : (bottom : ℕ) (ends? : Bool) (g′ : Graph) → bottom < n → (ends? ≡ false → bottom ≡ 0) → 0 < x + y → ((i : ℕ) → i < c → length (edgesAt (endOf 1 es) m (getD nodes i 0)) ≡ 1)
+    pub splittable : (bottom : ℕ) (ends? : Bool) (g′ : Graph) → bottom < n → (ends? ≡ false → bottom ≡ 0) → 0 < x + y
+        → ((i : ℕ) → i < c → length (edgesAt (endOf 1 es) m (getD nodes i 0)) ≡ 1)
         → Grown g (splitChange g top ends? bottom vs p nodes c x y) g′ heads nexts → Splittable h es vs p heads nodes c mp top bottom ends? x y
     splittable bottom ends? g′ b z some one G = record {
       parts = parts s;
@@ -176,4 +193,11 @@ module _ {h : Held} {es vs p heads nexts nodes mp : List ℕ} {top c : ℕ} (F :
   bottom-first q = omega (arith, bottom-below (getD nodes 0 0))
 
   pub sum-small : {x y : ℕ} → 1 ≤ c → Suffix vs p nodes x c y → x + y < 4294967296
-  sum-small s Y = omega (arith, Y .all 0 (omega arith), F .holds .within .at (getD nodes 0 0) (below 0 (omega arith)), F .holds .used-room, F .room .vertices-edges, F .room .small)
+  sum-small s Y = omega (
+    arith,
+    Y .all 0 (omega arith),
+    F .holds .within .at (getD nodes 0 0) (below 0 (omega arith)),
+    F .holds .used-room,
+    F .room .vertices-edges,
+    F .room .small,
+  )

@@ -35,7 +35,8 @@ long-is [] h = absurd (omega arith)
 long-is (x ∷ l) h = refl
 
 diamond-within : (g g′ : Graph) (top : ℕ) → Good g → tryMergeDiamond g top ≡ some g′
-    → (nodeCount (withAdditions (diamondChange g top) g) ≤ nodeCount g′ + nodeCount g) × (length ((withAdditions (diamondChange g top) g) .edges) ≤ length (g′ .edges) + length (g .edges))
+    → (nodeCount (withAdditions (diamondChange g top) g) ≤ nodeCount g′ + nodeCount g)
+    × (length ((withAdditions (diamondChange g top) g) .edges) ≤ length (g′ .edges) + length (g .edges))
 unfolding isDiamond diamondChange sharedPrefix sharedSuffix bottomOf
 diamond-within g g′ top (sound, once) did =
     let mids = outgoingNodes g top in
@@ -44,20 +45,28 @@ diamond-within g g′ top (sound, once) did =
     let a = and-split (ltb 1 (length mids)) _ (h .0) in
     let d = and-split (allOf (λ m. eqb (inDegree g m) 1 && (ltb 0 (outDegree g m) && allOf (eqb b) (outgoingNodes g m))) mids) _ (a .1) in
     let each : (m : ℕ) → List·Memᴰ m mids → (inDegree g m ≡ 1) × (0 < outDegree g m) × (allOf (eqb b) (outgoingNodes g m) ≡ true) = λ m k.
-    let x = and-split (eqb (inDegree g m) 1) _ (allOf-mem (λ m. eqb (inDegree g m) 1 && (ltb 0 (outDegree g m) && allOf (eqb b) (outgoingNodes g m))) mids (d .0) k) in
+    let x = and-split (eqb (inDegree g m) 1) _ (allOf-mem (λ m. eqb (inDegree g m) 1
+    && (ltb 0 (outDegree g m) && allOf (eqb b) (outgoingNodes g m))) mids (d .0) k) in
     let y = and-split (ltb 0 (outDegree g m)) _ (x .1) in
     (eqb-true _ _ (x .0), ltb-true _ _ (y .0), y .1) in
-    let exit : (m v : ℕ) → List·Memᴰ m mids → HasEdge g m v → v ≡ b = λ m v k l. sym (eqb-true b v (allOf-mem (eqb b) (outgoingNodes g m) ((each m k) .2) (mem-outs g m v l))) in
+    let exit : (m v : ℕ) → List·Memᴰ m mids → HasEdge g m v → v ≡ b = λ m v k l.
+    sym (eqb-true b v (allOf-mem (eqb b) (outgoingNodes g m) ((each m k) .2) (mem-outs g m v l))) in
     let z = room-split g (sound .bounded) (sound .rank) (sound .ranks) top (some b)
     (λ m k. (each m k) .0) (ltb-true _ _ (a .0))
     (λ m k. let o = some-out g m ((each m k) .1) in rw (exit m (o .0) k (o .1)) at (o .1))
-    (λ m. elim [ start ↦ λ k l. absurd l | at v ↦ λ k l. ap at (exit m v k l) | stop ↦ λ k l. let o = some-out g m ((each m k) .1) in absurd (l .1 (o .0) (o .1)) ])
+    (λ m. elim [
+      | start ↦ λ k l. absurd l
+      | at v ↦ λ k l. ap at (exit m v k l)
+      | stop ↦ λ k l. let o = some-out g m ((each m k) .1) in
+          absurd (l .1 (o .0) (o .1))
+    ])
     (λ p s. nonEmpty p || nonEmpty s) (λ p s t. (or-cases _ _ t, λ _. (b, refl)))
     g′ (h .1) (distinct-outs g top once) in
     (z .1, z .2)
 
 tails-within : (least : ℕ) → 0 < least → (g g′ : Graph) (top : ℕ) → Good g → tryMergeTails least g top ≡ some g′
-    → (nodeCount (withAdditions (tailsChange g top) g) ≤ nodeCount g′ + nodeCount g) × (length ((withAdditions (tailsChange g top) g) .edges) ≤ length (g′ .edges) + length (g .edges))
+    → (nodeCount (withAdditions (tailsChange g top) g) ≤ nodeCount g′ + nodeCount g)
+    × (length ((withAdditions (tailsChange g top) g) .edges) ≤ length (g′ .edges) + length (g .edges))
 unfolding isTails tailsChange sharedPrefix sharedSuffix
 tails-within least pos g g′ top (sound, once) did =
     let mids = outgoingNodes g top in
@@ -74,13 +83,15 @@ tails-within least pos g g′ top (sound, once) did =
     g′ (h .1) (distinct-outs g top once) in
     (z .1, z .2)
 
-pub diamond-grown : {g : Graph} {heads nexts : List ℕ} → Fit g heads nexts → (g′ : Graph) (top : ℕ) → tryMergeDiamond g top ≡ some g′ → Grown g (diamondChange g top) g′ heads nexts
+pub diamond-grown : {g : Graph} {heads nexts : List ℕ} → Fit g heads nexts → (g′ : Graph) (top : ℕ) → tryMergeDiamond g top ≡ some g′
+    → Grown g (diamondChange g top) g′ heads nexts
 diamond-grown {g} F g′ top did =
     let t = fit-tame F ((diamond-tame g g′ top (F .good) did) .0) in
     let z = diamond-within g g′ top (F .good) did in
     record { vertices = omega (arith, fit-vertices F, fit-vertices t, z .0); edges = omega (arith, fit-edges F, fit-edges t, z .1); fit = t }
 
-pub tails-grown : (least : ℕ) → 3 < least → {g : Graph} {heads nexts : List ℕ} → Fit g heads nexts → (g′ : Graph) (top : ℕ) → tryMergeTails least g top ≡ some g′ → Grown g (tailsChange g top) g′ heads nexts
+pub tails-grown : (least : ℕ) → 3 < least → {g : Graph} {heads nexts : List ℕ} → Fit g heads nexts → (g′ : Graph) (top : ℕ)
+    → tryMergeTails least g top ≡ some g′ → Grown g (tailsChange g top) g′ heads nexts
 tails-grown least pos {g} F g′ top did =
     let t = fit-tame F ((tails-tame least pos g g′ top (F .good) did) .0) in
     let z = tails-within least (omega arith) g g′ top (F .good) did in

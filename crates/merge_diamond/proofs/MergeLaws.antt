@@ -11,7 +11,8 @@ use lib.Dec.{eqb, ltb, leb}
 use borrow.Author.Tests.{le-ltb, ltb-true, eqb-true, le-leb, lt-leb}
 use Rattle.defs.specs.Lists.{tab, tabFrom, given, headOr, allOf}
 use Rattle.defs.specs.SeqGraph.{Graph, Change, outgoingNodes, outDegree, inDegree, applyChange}
-use Rattle.defs.specs.Rewrites.{nonEmpty, isDiamond, bottomOf, sharedPrefix, sharedSuffix, mergesDiamond, diamondChange, tryMergeDiamond, isTails, mergesTails, tailsChange, tryMergeTails, splitAndUpdate}
+use Rattle.defs.specs.Rewrites.{nonEmpty, isDiamond, bottomOf, sharedPrefix, sharedSuffix, mergesDiamond, diamondChange, tryMergeDiamond}
+use Rattle.defs.specs.Rewrites.{isTails, mergesTails, tailsChange, tryMergeTails, splitAndUpdate}
 use Rattle.laws.proofs.ListLaws.{and-split}
 use Rattle.laws.proofs.Edges.{allOf-mem}
 use Rattle.tabs.proofs.Tabs.{length-tab}
@@ -44,27 +45,40 @@ module _ {m n : ℕ} {es heads nexts : List ℕ} (I : Indexed m n es heads nexts
       let J = I .index 0 (omega arith) in
       let k′ : getD heads (2 * v + 0) 0 < m = omega arith in
       ap (λ (x : ℕ). getD es (4 * x + 1) 0) z
-      ∙ sym (ap (λ (l : List ℕ). headOr 0 (map (endOf 1 es) l)) (at-head (endOf 0 es) m n _ _ v J b ∙ at-step (endOf 0 es) m n _ _ v (getD heads (2 * v + 0) 0) J k′ (J .heads v b .hit k′)))
+      ∙ sym (ap (λ (l : List ℕ). headOr 0 (map (endOf 1 es) l)) (at-head (endOf 0 es) m n _ _ v J b
+      ∙ at-step (endOf 0 es) m n _ _ v (getD heads (2 * v + 0) 0) J k′ (J .heads v b .hit k′)))
 
   pub follower-none : {e : ℕ} → e ≡ getD heads (2 * v) 0 → m ≤ e → 0 ≡ headOr 0 (map (endOf 1 es) (edgesAt (endOf 0 es) m v))
   unfolding headOr
   follower-none {e} q k =
       let z : e ≡ getD heads (2 * v + 0) 0 = q ∙ head-is in
       let J = I .index 0 (omega arith) in
-      sym (ap (λ (l : List ℕ). headOr 0 (map (endOf 1 es) l)) (at-head (endOf 0 es) m n _ _ v J b ∙ at-end (endOf 0 es) m v (getD heads (2 * v + 0) 0) (omega arith)))
+      sym (ap (λ (l : List ℕ). headOr 0 (map (endOf 1 es) l)) (at-head (endOf 0 es) m n _ _ v J b
+      ∙ at-end (endOf 0 es) m v (getD heads (2 * v + 0) 0) (omega arith)))
 
 -- ---- what is left in the slices
 
 pub left-no : {o : Option Graph} {h : Held} {es vs p heads nexts : List ℕ} → o ≡ none → Left o h es vs p heads nexts (notMerged h) es vs p
-left-no q = record { no = λ t. q; same = λ t. refl; same-es = λ t. refl; same-vs = λ t. refl; same-p = λ t. refl; yes = λ t. absurd (false≢true t); holds = λ t. absurd (false≢true t) }
+left-no q = record {
+  no = λ t. q;
+  same = λ t. refl;
+  same-es = λ t. refl;
+  same-vs = λ t. refl;
+  same-p = λ t. refl;
+  yes = λ t.
+      absurd (false≢true t);
+  holds = λ t. absurd (false≢true t);
+}
 
 -- an answer that equals the one that is right
-pub left-as : {o : Option Graph} {h : Held} {es vs p heads nexts : List ℕ} {r r′ : Tried} {es′ vs′ p′ : List ℕ} → r ≡ r′ → Left o h es vs p heads nexts r′ es′ vs′ p′ → Left o h es vs p heads nexts r es′ vs′ p′
+pub left-as : {o : Option Graph} {h : Held} {es vs p heads nexts : List ℕ} {r r′ : Tried} {es′ vs′ p′ : List ℕ} → r ≡ r′
+    → Left o h es vs p heads nexts r′ es′ vs′ p′ → Left o h es vs p heads nexts r es′ vs′ p′
 left-as q L = rw q L
 
 left-yes : {o : Option Graph} {h : Held} {es vs p heads nexts nodes : List ℕ} {c top bottom : ℕ} {ends : Bool} {x y : ℕ} {r : Held} {es′ vs′ : List ℕ}
     → o ≡ some (applyChange (graphOf h es vs p) (splitChange (graphOf h es vs p) top ends bottom vs p nodes c x y))
-    → Grown (graphOf h es vs p) (splitChange (graphOf h es vs p) top ends bottom vs p nodes c x y) (applyChange (graphOf h es vs p) (splitChange (graphOf h es vs p) top ends bottom vs p nodes c x y)) heads nexts
+    → Grown (graphOf h es vs p) (splitChange (graphOf h es vs p) top ends bottom vs p nodes c x y)
+    (applyChange (graphOf h es vs p) (splitChange (graphOf h es vs p) top ends bottom vs p nodes c x y)) heads nexts
     → Holds h es vs p heads nexts → SplitDone h es vs p nodes c top bottom ends x y r es′ vs′ → Left o h es vs p heads nexts (hasMerged r) es′ vs′ p
 left-yes q G H D = record {
   no = λ t. absurd (true≢false t);
@@ -144,10 +158,12 @@ module _ {h : Held} {es vs p heads nexts nodes mp : List ℕ} {top c : ℕ} (F :
   pub few-left : c < 2 → Left (tryMergeDiamond g top) h es vs p heads nexts (notMerged h) es vs p
   few-left b = left-no (diamond-not g top mids (nodes-are F) (few g mids (bottomOf g mids) (omega (arith, count))))
 
-  module _ {b : ℕ} {d : Bool} (s : 2 ≤ c) (q : b ≡ headOr 0 (map (endOf 1 es) (edgesAt (endOf 0 es) (h .m) (getD nodes 0 0)))) (D : Diamond (h .m) (h .n) es nodes c b d) where
+  module _ {b : ℕ} {d : Bool} (s : 2 ≤ c) (q : b ≡ headOr 0 (map (endOf 1 es) (edgesAt (endOf 0 es) (h .m) (getD nodes 0 0)))) (D :
+      Diamond (h .m) (h .n) es nodes c b d) where
     bottom-is : b ≡ bottomOf g mids
     unfolding bottomOf
-    bottom-is = q ∙ sym (ap (headOr 0) (ap (outgoingNodes g) (head-tab c (λ (i : ℕ). getD nodes i 0) (omega arith)) ∙ outgoing-is (h .k .0) (h .n) (h .m) es vs p (getD nodes 0 0)))
+    bottom-is = q ∙ sym (ap (headOr 0) (ap (outgoingNodes g) (head-tab c (λ (i : ℕ). getD nodes i 0) (omega arith))
+        ∙ outgoing-is (h .k .0) (h .n) (h .m) es vs p (getD nodes 0 0)))
 
     diamond-is : isDiamond g mids (bottomOf g mids) ≡ d
     diamond-is = ap (isDiamond g mids) (sym bottom-is) ∙ sym (D .is (h .k .0) vs p)
@@ -160,7 +176,9 @@ module _ {h : Held} {es vs p heads nexts nodes mp : List ℕ} {top c : ℕ} (F :
     one t i k =
         let a = and-split (ltb 1 (length mids)) _ (sym (D .is (h .k .0) vs p) ∙ t) in
         let e = and-split (allOf (λ v. eqb (inDegree g v) 1 && (ltb 0 (outDegree g v) && allOf (eqb b) (outgoingNodes g v))) mids) _ (a .1) in
-        let x = and-split (eqb (inDegree g (getD nodes i 0)) 1) _ (allOf-mem (λ v. eqb (inDegree g v) 1 && (ltb 0 (outDegree g v) && allOf (eqb b) (outgoingNodes g v))) mids (e .0) (mem-tab c (λ (j : ℕ). getD nodes j 0) i k)) in
+        let x = and-split (eqb (inDegree g (getD nodes i 0)) 1) _
+        (allOf-mem (λ v. eqb (inDegree g v) 1 && (ltb 0 (outDegree g v) && allOf (eqb b) (outgoingNodes g v))) mids (e .0)
+        (mem-tab c (λ (j : ℕ). getD nodes j 0) i k)) in
         sym (in-degree-is (h .k .0) (h .n) (h .m) es vs p (getD nodes i 0)) ∙ eqb-true _ _ (x .0)
 
     module _ {x y : ℕ} (X : Prefix vs p nodes c x) (Y : Suffix vs p nodes x c y) where
@@ -174,7 +192,8 @@ module _ {h : Held} {es vs p heads nexts nodes mp : List ℕ} {top c : ℕ} (F :
       suf = suffixAt vs p nodes y
 
       merges : mergesDiamond g top ≡ (d && (nonEmpty pre || nonEmpty suf))
-      merges = merges-is g top mids (nodes-are F) pre suf (prefix-is F s′ X Y) (suffix-is F s′ X Y) ∙ ap (λ (z : Bool). z && (nonEmpty pre || nonEmpty suf)) diamond-is
+      merges = merges-is g top mids (nodes-are F) pre suf (prefix-is F s′ X Y) (suffix-is F s′ X Y)
+          ∙ ap (λ (z : Bool). z && (nonEmpty pre || nonEmpty suf)) diamond-is
 
       pub unshared-left : d ≡ true → x + y ≡ 0 → Left (tryMergeDiamond g top) h es vs p heads nexts (notMerged h) es vs p
       unfolding tryMergeDiamond
@@ -185,20 +204,24 @@ module _ {h : Held} {es vs p heads nexts nodes mp : List ℕ} {top c : ℕ} (F :
 
       change : diamondChange g top ≡ C
       unfolding bottomIf
-      change = change-is g top mids (nodes-are F) pre suf (prefix-is F s′ X Y) (suffix-is F s′ X Y) ∙ ap (λ (z : ℕ). splitAndUpdate g top (some z) mids pre suf) (sym bottom-is)
+      change = change-is g top mids (nodes-are F) pre suf (prefix-is F s′ X Y) (suffix-is F s′ X Y)
+          ∙ ap (λ (z : ℕ). splitAndUpdate g top (some z) mids pre suf) (sym bottom-is)
 
       module _ (t : d ≡ true) (z : 0 < x + y) where
         did : tryMergeDiamond g top ≡ some (applyChange g C)
         unfolding tryMergeDiamond
-        did = given-yes _ _ (merges ∙ rw (t, or-some pre suf (omega (arith, length-prefix F s′ X Y, length-suffix F s′ X Y)))) ∙ ap (λ (k : Change). some (applyChange g k)) change
+        did = given-yes _ _ (merges ∙ rw (t, or-some pre suf (omega (arith, length-prefix F s′ X Y, length-suffix F s′ X Y))))
+            ∙ ap (λ (k : Change). some (applyChange g k)) change
 
         grown : Grown g C (applyChange g C) heads nexts
         grown = subst (λ (k : Change). Grown g k (applyChange g C) heads nexts) change (diamond-grown (F .holds .fit) (applyChange g C) top did)
 
         pub diamond-ready : Splittable h es vs p heads nodes c mp top b true x y
-        diamond-ready = splittable F s′ X Y b true (applyChange g C) (omega (arith, q, bottom-below F (getD nodes 0 0))) (λ e. absurd (true≢false e)) z (one t) grown
+        diamond-ready = splittable F s′ X Y b true (applyChange g C) (omega (arith, q, bottom-below F (getD nodes 0 0))) (λ e.
+            absurd (true≢false e)) z (one t) grown
 
-        pub diamond-left : {r : Held} {es′ vs′ : List ℕ} → SplitDone h es vs p nodes c top b true x y r es′ vs′ → Left (tryMergeDiamond g top) h es vs p heads nexts (hasMerged r) es′ vs′ p
+        pub diamond-left : {r : Held} {es′ vs′ : List ℕ} → SplitDone h es vs p nodes c top b true x y r es′ vs′
+            → Left (tryMergeDiamond g top) h es vs p heads nexts (hasMerged r) es′ vs′ p
         diamond-left S = left-yes did grown (F .holds) S
 
   -- ---- tails
@@ -218,7 +241,8 @@ module _ {h : Held} {es vs p heads nexts nodes mp : List ℕ} {top c : ℕ} (F :
     unfolding isTails
     tail-one t i k =
         let a = and-split (ltb 1 (length mids)) _ (tails-are ∙ t) in
-        let x = and-split (eqb (outDegree g (getD nodes i 0)) 0) _ (allOf-mem (λ v. eqb (outDegree g v) 0 && eqb (inDegree g v) 1) mids (a .1) (mem-tab c (λ (j : ℕ). getD nodes j 0) i k)) in
+        let x = and-split (eqb (outDegree g (getD nodes i 0)) 0) _ (allOf-mem (λ v. eqb (outDegree g v) 0 && eqb (inDegree g v) 1) mids
+        (a .1) (mem-tab c (λ (j : ℕ). getD nodes j 0) i k)) in
         sym (in-degree-is (h .k .0) (h .n) (h .m) es vs p (getD nodes i 0)) ∙ eqb-true _ _ (x .1)
 
     module _ {x y : ℕ} (t : d ≡ true) (X : Prefix vs p nodes c x) (Y : Suffix vs p nodes x c y) where
@@ -232,7 +256,8 @@ module _ {h : Held} {es vs p heads nexts nodes mp : List ℕ} {top c : ℕ} (F :
       tail-suf = suffixAt vs p nodes y
 
       merges-t : mergesTails least g top ≡ leb least y
-      merges-t = merges-tails g top mids (nodes-are F) tail-pre tail-suf (prefix-is F s″ X Y) (suffix-is F s″ X Y) least ∙ rw (tails-are, t, length-suffix F s″ X Y) refl
+      merges-t = merges-tails g top mids (nodes-are F) tail-pre tail-suf (prefix-is F s″ X Y) (suffix-is F s″ X Y) least
+          ∙ rw (tails-are, t, length-suffix F s″ X Y) refl
 
       pub short-left : y < least → Left (tryMergeTails least g top) h es vs p heads nexts (notMerged h) es vs p
       unfolding tryMergeTails
@@ -251,10 +276,12 @@ module _ {h : Held} {es vs p heads nexts nodes mp : List ℕ} {top c : ℕ} (F :
         did-t = given-yes _ _ (merges-t ∙ le-leb least y b) ∙ ap (λ (k : Change). some (applyChange g k)) change-t
 
         grown-t : Grown g C-t (applyChange g C-t) heads nexts
-        grown-t = subst (λ (k : Change). Grown g k (applyChange g C-t) heads nexts) change-t (tails-grown least pos (F .holds .fit) (applyChange g C-t) top did-t)
+        grown-t = subst (λ (k : Change). Grown g k (applyChange g C-t) heads nexts) change-t
+            (tails-grown least pos (F .holds .fit) (applyChange g C-t) top did-t)
 
         pub tails-ready : Splittable h es vs p heads nodes c mp top 0 false x y
         tails-ready = splittable F s″ X Y 0 false (applyChange g C-t) (omega (arith, F .top-old)) (λ e. refl) (omega arith) (tail-one t) grown-t
 
-        pub tails-left : {r : Held} {es′ vs′ : List ℕ} → SplitDone h es vs p nodes c top 0 false x y r es′ vs′ → Left (tryMergeTails least g top) h es vs p heads nexts (hasMerged r) es′ vs′ p
+        pub tails-left : {r : Held} {es′ vs′ : List ℕ} → SplitDone h es vs p nodes c top 0 false x y r es′ vs′
+            → Left (tryMergeTails least g top) h es vs p heads nexts (hasMerged r) es′ vs′ p
         tails-left S = left-yes did-t grown-t (F .holds) S

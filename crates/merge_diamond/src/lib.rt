@@ -56,7 +56,8 @@ pub fn try_merge_diamond(
 ) -> Tried
     requires { ⌜ Room (now es) (now vs) (now p) (now heads) (now nexts) (now nodes) (now map) × Holds held (now es) (now vs) (now p) (now heads) (now nexts) ⌝ }
     requires { ⌜ (top < held .n) × Indexed (held .m) (held .n) (now es) (now heads) (now nexts) ⌝ }
-    ensures { λ r. ⌜ Left (tryMergeDiamond (graphOf held (now (es .entry)) (now (vs .entry)) (now (p .entry))) top) held (now (es .entry)) (now (vs .entry)) (now (p .entry)) (now (heads .entry)) (now (nexts .entry)) r (now (es .exit)) (now (vs .exit)) (now (p .entry)) ⌝ }
+    ensures { λ r. ⌜ Left (tryMergeDiamond (graphOf held (now (es .entry)) (now (vs .entry)) (now (p .entry))) top) held (now (es .entry))
+        (now (vs .entry)) (now (p .entry)) (now (heads .entry)) (now (nexts .entry)) r (now (es .exit)) (now (vs .exit)) (now (p .entry)) ⌝ }
 {
     let n = held.n;
     let m = held.m;
@@ -91,7 +92,9 @@ pub fn try_merge_tails(
 ) -> Tried
     requires { ⌜ Room (now es) (now vs) (now p) (now heads) (now nexts) (now nodes) (now map) × Holds held (now es) (now vs) (now p) (now heads) (now nexts) ⌝ }
     requires { ⌜ (3 < least) × ((top < held .n) × Indexed (held .m) (held .n) (now es) (now heads) (now nexts)) ⌝ }
-    ensures { λ r. ⌜ Left (tryMergeTails least (graphOf held (now (es .entry)) (now (vs .entry)) (now (p .entry))) top) held (now (es .entry)) (now (vs .entry)) (now (p .entry)) (now (heads .entry)) (now (nexts .entry)) r (now (es .exit)) (now (vs .exit)) (now (p .entry)) ⌝ }
+    ensures { λ r. ⌜ Left (tryMergeTails least (graphOf held (now (es .entry)) (now (vs .entry)) (now (p .entry))) top) held
+        (now (es .entry)) (now (vs .entry)) (now (p .entry)) (now (heads .entry)) (now (nexts .entry)) r (now (es .exit)) (now (vs .exit))
+        (now (p .entry)) ⌝ }
 {
     let n = held.n;
     let m = held.m;

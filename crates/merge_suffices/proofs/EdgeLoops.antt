@@ -31,13 +31,19 @@ into-more n m es nodes i =
     ∙ ap concat (map-append (redirectedAll 1 n m es) (numsIn i nodes) (getD nodes i 0 ∷ []))
     ∙ concat-snoc (map (redirectedAll 1 n m es) (numsIn i nodes)) (redirectedAll 1 n m es (getD nodes i 0))
 
-into-most : (n m : ℕ) (es nodes : List ℕ) (i d : ℕ) (l : List Edge) → length (addOrUpdateEdges (newInto n m es nodes i) l) ≤ length (addOrUpdateEdges (newInto n m es nodes (i + d)) l)
+into-most : (n m : ℕ) (es nodes : List ℕ) (i d : ℕ) (l : List Edge)
+    → length (addOrUpdateEdges (newInto n m es nodes i) l) ≤ length (addOrUpdateEdges (newInto n m es nodes (i + d)) l)
 into-most n m es nodes i d l =
     let q = ap (λ (x : List ℕ). concat (map (redirectedAll 1 n m es) x)) (tab-append i d (λ (j : ℕ). getD nodes j 0))
     ∙ ap concat (map-append (redirectedAll 1 n m es) (numsIn i nodes) (tab d (λ (j : ℕ). getD nodes (i + j) 0)))
     ∙ concat-append (map (redirectedAll 1 n m es) (numsIn i nodes)) (map (redirectedAll 1 n m es) (tab d (λ (j : ℕ). getD nodes (i + j) 0))) in
     let r = concat (map (redirectedAll 1 n m es) (tab d (λ (j : ℕ). getD nodes (i + j) 0))) in
-    omega (arith, ap (λ (x : List Edge). length (addOrUpdateEdges x l)) q, ap length (raiseAll-append (newInto n m es nodes i) r l), raiseAll-longer r (addOrUpdateEdges (newInto n m es nodes i) l))
+    omega (
+      arith,
+      ap (λ (x : List Edge). length (addOrUpdateEdges x l)) q,
+      ap length (raiseAll-append (newInto n m es nodes i) r l),
+      raiseAll-longer r (addOrUpdateEdges (newInto n m es nodes i) l),
+    )
 
 -- ---- the loop over the predecessors
 
@@ -68,10 +74,16 @@ module _ {n m : ℕ} {es₀ heads nexts nodes : List ℕ} {c : ℕ} {mp₀ : Lis
           ∙ sym (raiseAll-append (newInto n m es₀ nodes i) (redirectedAll 1 n m es₀ (getD nodes i 0)) (edgesIn m es₀))
           ∙ ap (λ (x : List Edge). addOrUpdateEdges x (edgesIn m es₀)) (sym (into-more n m es₀ nodes i))
 
-      next-most : length (addOrUpdateEdges (redirectedAll 1 n m es (getD nodes i 0)) (edgesIn k es)) ≤ length (addOrUpdateEdges (newInto n m es₀ nodes c) (edgesIn m es₀))
+      next-most : length (addOrUpdateEdges (redirectedAll 1 n m es (getD nodes i 0)) (edgesIn k es)) ≤ length
+          (addOrUpdateEdges (newInto n m es₀ nodes c) (edgesIn m es₀))
       next-most =
           let q : i + 1 + (c - (i + 1)) ≡ c = omega arith in
-          omega (arith, ap length next-is, into-most n m es₀ nodes (i + 1) (c - (i + 1)) (edgesIn m es₀), ap (λ (x : ℕ). length (addOrUpdateEdges (newInto n m es₀ nodes x) (edgesIn m es₀))) q)
+          omega (
+            arith,
+            ap length next-is,
+            into-most n m es₀ nodes (i + 1) (c - (i + 1)) (edgesIn m es₀),
+            ap (λ (x : ℕ). length (addOrUpdateEdges (newInto n m es₀ nodes x) (edgesIn m es₀))) q,
+          )
 
       pub taking-ready : Redirectable 1 n n m m k es heads nexts mp (getD nodes i 0)
       taking-ready = record {
@@ -85,7 +97,8 @@ module _ {n m : ℕ} {es₀ heads nexts nodes : List ℕ} {c : ℕ} {mp₀ : Lis
         small = omega (arith, next-most, F .roomy .small);
       }
 
-      pub taking-more : {k′ : ℕ} {es′ mp′ : List ℕ} → Redirected 1 n n m m k es (getD nodes i 0) k′ es′ mp′ → length es′ ≡ length es → length mp′ ≡ length mp → Taking n m es₀ mp₀ nodes c k′ es′ mp′ (i + 1)
+      pub taking-more : {k′ : ℕ} {es′ mp′ : List ℕ} → Redirected 1 n n m m k es (getD nodes i 0) k′ es′ mp′ → length es′ ≡ length es
+          → length mp′ ≡ length mp → Taking n m es₀ mp₀ nodes c k′ es′ mp′ (i + 1)
       taking-more D a b = record {
         high = omega arith;
         len = a ∙ T .len;
@@ -105,14 +118,16 @@ module _ {n m : ℕ} {es₀ heads nexts nodes : List ℕ} {c : ℕ} {mp₀ : Lis
 -- ---- both lists
 
 module _ {n m : ℕ} {es heads nexts nodes : List ℕ} {c bottom : ℕ} {mp₀ : List ℕ} (F : EdgesReady n m es heads nexts nodes c bottom mp₀) where
-  both-is : addOrUpdateEdges (newEdges n m es nodes c bottom) (edgesIn m es) ≡ addOrUpdateEdges (redirectedAll 0 n m es bottom) (addOrUpdateEdges (newInto n m es nodes c) (edgesIn m es))
+  both-is : addOrUpdateEdges (newEdges n m es nodes c bottom) (edgesIn m es)
+      ≡ addOrUpdateEdges (redirectedAll 0 n m es bottom) (addOrUpdateEdges (newInto n m es nodes c) (edgesIn m es))
   both-is = raiseAll-append (newInto n m es nodes c) (redirectedAll 0 n m es bottom) (edgesIn m es)
 
   pub into-ready : {mp : List ℕ} → length mp ≡ length mp₀ → ((x : ℕ) → x < n → getD mp x 0 ≡ 0) → IntoReady n m es heads nexts nodes c mp
   into-ready {mp} l z = record {
     indexed = F .indexed;
     prevs = F .prevs;
-    marks = marks-start 1 n n m es mp (omega arith) (omega (arith, F .mp-room)) (λ x b. omega (arith, z x b)) (λ j b q. omega (arith, q, F .indexed .ends .at j b));
+    marks = marks-start 1 n n m es mp (omega arith) (omega (arith, F .mp-room)) (λ x b. omega (arith, z x b)) (λ j b q.
+        omega (arith, q, F .indexed .ends .at j b));
     roomy = record { room = omega (arith, most, F .roomy .room); small = omega (arith, most, F .roomy .small); n-small = F .roomy .n-small };
   }
     where
@@ -136,7 +151,8 @@ module _ {n m : ℕ} {es heads nexts nodes : List ℕ} {c bottom : ℕ} {mp₀ :
       new = omega arith;
       behind = D .marks .low;
       indexed = indexed-same m es es₁ (D .old) l (F .indexed);
-      marks = marks-start 0 n n k es₁ mp (omega arith) (D .marks .room) (D .marks .most) (λ j b q. omega (arith, old-from (edgeIn es₁ j) (mem-tab k (edgeIn es₁) j b), sym (end-at 0 es₁ j (omega arith)) ∙ q));
+      marks = marks-start 0 n n k es₁ mp (omega arith) (D .marks .room) (D .marks .most) (λ j b q.
+          omega (arith, old-from (edgeIn es₁ j) (mem-tab k (edgeIn es₁) j b), sym (end-at 0 es₁ j (omega arith)) ∙ q));
       room = omega (arith, ap length last-is, F .roomy .room, l);
       small = omega (arith, ap length last-is, F .roomy .small);
     }

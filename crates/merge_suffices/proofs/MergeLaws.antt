@@ -2,7 +2,8 @@
 use mathlib.Core.Path.{_≡_, refl, sym, ap, _∙_, subst}
 use mathlib.Core.Bool.{true}
 use mathlib.Core.Option.{some}
-use mathlib.Core.List.{List, [], _∷_, _++_, map, map-append, List·Memᴰ, List·Memᴰ·not-nil, List·Memᴰ·cases-cons, List·Memᴰ·eq-of-singleton, List·Memᴰ·append-cases, Memᴰ·of-map}
+use mathlib.Core.List.{List, [], _∷_, _++_, map, map-append, List·Memᴰ, List·Memᴰ·not-nil, List·Memᴰ·cases-cons, List·Memᴰ·eq-of-singleton}
+use mathlib.Core.List.{List·Memᴰ·append-cases, Memᴰ·of-map}
 use mathlib.Core.Logic.{⊎-elim}
 use Prim.{tt}
 use Prim.Native.Nat.{ℕ, _+_, _*_, _-_, _≤_, _<_}
@@ -12,7 +13,8 @@ use lib.Seq.{getD-set-same, getD-set-other}
 use lib.Dec.{eqb}
 use borrow.Author.Tests.{eqb-true, eqb-false}
 use Rattle.defs.specs.Lists.{concat, headOr, given}
-use Rattle.defs.specs.SeqGraph.{Edge, Graph, Change, nodeCount, vertexSequence, edgesInto, edgesFrom, incomingNodes, keeps, removeVerticesById, withAdditions, applyChange, addOrUpdateEdges}
+use Rattle.defs.specs.SeqGraph.{Edge, Graph, Change, nodeCount, vertexSequence, edgesInto, edgesFrom, incomingNodes, keeps}
+use Rattle.defs.specs.SeqGraph.{removeVerticesById, withAdditions, applyChange, addOrUpdateEdges}
 use Rattle.defs.specs.Rewrites.{mergesSuffices, mergeChange, redirectedTo, redirectedFrom, newEdge, edgeData, tryMergeCommonSuffices}
 use Rattle.laws.proofs.Walks.{byTest}
 use Rattle.laws.proofs.ListLaws.{byOrder}
@@ -71,7 +73,12 @@ module _ {h : Held} {es vs p heads nexts nodes mp : List ℕ} {c bottom : ℕ}
   n-room = held-vertices H
 
   some-prev : 0 < c
-  some-prev = omega (arith, L.ok-parts g bottom (good .0 .bounded) (good .0 .rank) (good .0 .ranks) inside (M .ok) .0, ap length (M .are), length-tab c (λ (i : ℕ). getD nodes i 0))
+  some-prev = omega (
+    arith,
+    L.ok-parts g bottom (good .0 .bounded) (good .0 .rank) (good .0 .ranks) inside (M .ok) .0,
+    ap length (M .are),
+    length-tab c (λ (i : ℕ). getD nodes i 0),
+  )
 
   pub first-below : first < h .n
   first-below = M .prevs .at 0 some-prev
@@ -81,7 +88,8 @@ module _ {h : Held} {es vs p heads nexts nodes mp : List ℕ} {c bottom : ℕ}
 
   first-apart : first ≡ bottom → ⊥
   first-apart q = L.not-bottom g bottom (good .0 .bounded) (good .0 .rank) (good .0 .ranks) inside (M .ok)
-      (subst (λ (l : List ℕ). List·Memᴰ bottom l) (M .are) (subst (λ (x : ℕ). List·Memᴰ x (numsIn c nodes)) q (mem-tab c (λ (i : ℕ). getD nodes i 0) 0 some-prev)))
+      (subst (λ (l : List ℕ). List·Memᴰ bottom l) (M .are) (subst (λ (x : ℕ). List·Memᴰ x (numsIn c nodes)) q
+      (mem-tab c (λ (i : ℕ). getD nodes i 0) 0 some-prev)))
 
   in-pool : Within (length p) (h .n) vs
   in-pool = record { at = λ v b. omega (arith, H .within .at v b, H .used-room, R .p-room) }
@@ -94,7 +102,8 @@ module _ {h : Held} {es vs p heads nexts nodes mp : List ℕ} {c bottom : ℕ}
       omega (arith, k, bytes-is (g .verts), fit-bytes (H .fit), sums)
     where
       below : (v : ℕ) → List·Memᴰ v (first ∷ bottom ∷ []) → v < length (g .verts)
-      below v m = rw (length-tab (h .n) (seqIn vs p)) (⊎-elim (λ (e : v ≡ first). rw e first-below) (λ k. let e : v ≡ bottom = List·Memᴰ·eq-of-singleton k in rw e (M .below)) (List·Memᴰ·cases-cons m))
+      below v m = rw (length-tab (h .n) (seqIn vs p)) (⊎-elim (λ (e : v ≡ first). rw e first-below) (λ k. let e : v ≡ bottom =
+          List·Memᴰ·eq-of-singleton k in rw e (M .below)) (List·Memᴰ·cases-cons m))
 
       size : (v : ℕ) → v < h .n → length (getD (g .verts) v []) ≡ getD vs (2 * v + 1) 0
       size v b = ap length (getD-tab (h .n) (seqIn vs p) v [] b) ∙ part-long p _ _ (in-pool .at v b)
@@ -121,7 +130,8 @@ module _ {h : Held} {es vs p heads nexts nodes mp : List ℕ} {c bottom : ℕ}
 
   pub edges-are : newEdges (h .n) (h .m) es nodes c bottom ≡ change .edges
   unfolding mergeChange
-  edges-are = λ i. into-is i ++ (from-all (h .n) (h .k .0) (h .n) (h .m) es vs p bottom ∙ ap (λ (x : ℕ). map (redirectedFrom x) (edgesFrom g bottom)) (sym order)) i
+  edges-are = λ i. into-is i ++ (from-all (h .n) (h .k .0) (h .n) (h .m) es vs p bottom
+      ∙ ap (λ (x : ℕ). map (redirectedFrom x) (edgesFrom g bottom)) (sym order)) i
 
   stays : (u v : ℕ) → Linked (change .edges) u v → (keeps (change .gone) u ≡ true) × (keeps (change .gone) v ≡ true)
   unfolding mergeChange redirectedTo redirectedFrom newEdge edgeData
@@ -130,7 +140,12 @@ module _ {h : Held} {es vs p heads nexts nodes mp : List ℕ} {c bottom : ℕ}
       let y = L.of-mem-flat (edgesInto g) prevs (x .1) in
       let d = of-edgesInto g (y .0) (x .0) (y .2) in
       let i : v ≡ nodeCount g = sym b ∙ sym (ap (λ (e : Edge). e .to) (x .2)) in (
-        L.into-kept g bottom (good .0 .bounded) (good .0 .rank) (good .0 .ranks) inside (M .ok) u (y .0) (y .1) (x .0, d .0, ap (λ (e : Edge). e .from) (x .2) ∙ a, d .1),
+        L.into-kept g bottom (good .0 .bounded) (good .0 .rank) (good .0 .ranks) inside (M .ok) u (y .0) (y .1) (
+          x .0,
+          d .0,
+          ap (λ (e : Edge). e .from) (x .2) ∙ a,
+          d .1,
+        ),
         rw i (L.new-kept g bottom (good .0 .bounded) (good .0 .rank) (good .0 .ranks) inside (M .ok)),
       ))
       (λ k. let x = Memᴰ·of-map (redirectedFrom (nodeCount g)) (edgesFrom g bottom) k in
@@ -154,7 +169,15 @@ module _ {h : Held} {es vs p heads nexts nodes mp : List ℕ} {c bottom : ℕ}
   -- one edge less than the room
   few-edges : length ((withAdditions change g) .edges) + 1 ≤ 2 * edgeRoom nexts
   unfolding load
-  few-edges = omega (arith, edges-grown g (good .0 .bounded) change stays, fit-new .surplus, tame .1, fit-vertices (H .fit), held-edges H, length-tab (h .m) (edgeIn es))
+  few-edges = omega (
+    arith,
+    edges-grown g (good .0 .bounded) change stays,
+    fit-new .surplus,
+    tame .1,
+    fit-vertices (H .fit),
+    held-edges H,
+    length-tab (h .m) (edgeIn es),
+  )
 
   edges-with : addOrUpdateEdges (newEdges (h .n) (h .m) es nodes c bottom) (edgesIn (h .m) es) ≡ (withAdditions change g) .edges
   edges-with = ap (λ (x : List Edge). addOrUpdateEdges x (edgesIn (h .m) es)) edges-are ∙ unfold withAdditions in refl
@@ -189,7 +212,8 @@ module _ {h : Held} {es vs p heads nexts nodes mp : List ℕ} {c bottom : ℕ}
 
     put-start : getD vs₁ (2 * h .n) 0 ≡ h .used
     unfolding putVertex
-    put-start = getD-set-other (set vs (2 * h .n) (h .used)) (2 * h .n + 1) (2 * h .n) _ 0 (λ z. omega arith) ∙ getD-set-same vs (2 * h .n) (h .used) 0 (omega (arith, put-room))
+    put-start = getD-set-other (set vs (2 * h .n) (h .used)) (2 * h .n + 1) (2 * h .n) _ 0 (λ z. omega arith)
+        ∙ getD-set-same vs (2 * h .n) (h .used) 0 (omega (arith, put-room))
 
     put-size : getD vs₁ (2 * h .n + 1) 0 ≡ end - h .used
     unfolding putVertex
@@ -198,16 +222,20 @@ module _ {h : Held} {es vs p heads nexts nodes mp : List ℕ} {c bottom : ℕ}
     put-other : (v : ℕ) → (v ≡ h .n → ⊥) → (getD vs₁ (2 * v) 0 ≡ getD vs (2 * v) 0) × (getD vs₁ (2 * v + 1) 0 ≡ getD vs (2 * v + 1) 0)
     unfolding putVertex
     put-other v ne = (
-      getD-set-other (set vs (2 * h .n) (h .used)) (2 * h .n + 1) (2 * v) _ 0 (λ z. omega arith) ∙ getD-set-other vs (2 * h .n) (2 * v) _ 0 (λ z. ne (omega arith)),
-      getD-set-other (set vs (2 * h .n) (h .used)) (2 * h .n + 1) (2 * v + 1) _ 0 (λ z. ne (omega arith)) ∙ getD-set-other vs (2 * h .n) (2 * v + 1) _ 0 (λ z. omega arith),
+      getD-set-other (set vs (2 * h .n) (h .used)) (2 * h .n + 1) (2 * v) _ 0 (λ z. omega arith)
+          ∙ getD-set-other vs (2 * h .n) (2 * v) _ 0 (λ z. ne (omega arith)),
+      getD-set-other (set vs (2 * h .n) (h .used)) (2 * h .n + 1) (2 * v + 1) _ 0 (λ z. ne (omega arith))
+          ∙ getD-set-other vs (2 * h .n) (2 * v + 1) _ 0 (λ z. omega arith),
     )
 
     seq-new : seqIn vs₁ p₁ (h .n) ≡ vertexSequence g (headOr 0 prevs) ++ vertexSequence g bottom
-    seq-new = rw (put-start, put-size) (W .is ∙ sym (λ i. (ap (vertexSequence g) head-is ∙ seq-at (h .k .0) (h .n) (h .m) es vs p first first-below) i ++ seq-at (h .k .0) (h .n) (h .m) es vs p bottom (M .below) i))
+    seq-new = rw (put-start, put-size) (W .is ∙ sym (λ i. (ap (vertexSequence g) head-is
+        ∙ seq-at (h .k .0) (h .n) (h .m) es vs p first first-below) i ++ seq-at (h .k .0) (h .n) (h .m) es vs p bottom (M .below) i))
 
     seq-old : (v : ℕ) → v < h .n → seqIn vs₁ p₁ v ≡ seqIn vs p v
     seq-old v b = let z = put-other v (λ e. omega arith) in rw (z .0, z .1)
-        (part-same p p₁ (getD vs (2 * v) 0) (getD vs (2 * v) 0) (getD vs (2 * v + 1) 0) (in-pool .at v b) (omega (arith, in-pool .at v b, q)) (λ x d. W .old (getD vs (2 * v) 0 + x) (omega (arith, H .within .at v b))))
+        (part-same p p₁ (getD vs (2 * v) 0) (getD vs (2 * v) 0) (getD vs (2 * v + 1) 0) (in-pool .at v b)
+        (omega (arith, in-pool .at v b, q)) (λ x d. W .old (getD vs (2 * v) 0 + x) (omega (arith, H .within .at v b))))
 
     verts-with : seqsIn (h .n + 1) vs₁ p₁ ≡ g .verts ++ change .verts
     unfolding mergeChange
@@ -217,7 +245,8 @@ module _ {h : Held} {es vs p heads nexts nodes mp : List ℕ} {c bottom : ℕ}
     within-with = record {
       at = λ v b. byTest (eqb v (h .n))
           (λ t. rw (eqb-true v (h .n) t) (omega (arith, put-start, put-size, end-high, end-low)))
-          (λ t. let ne = eqb-false v (h .n) t in let z = put-other v ne in omega (arith, z .0, z .1, H .within .at v (byOrder (h .n) v (λ a. absurd (ne (omega arith))) (λ a. a)), H .used-room));
+          (λ t. let ne = eqb-false v (h .n) t in let z = put-other v ne in
+          omega (arith, z .0, z .1, H .within .at v (byOrder (h .n) v (λ a. absurd (ne (omega arith))) (λ a. a)), H .used-room));
     }
 
     -- ---- closing up
@@ -226,22 +255,31 @@ module _ {h : Held} {es vs p heads nexts nodes mp : List ℕ} {c bottom : ℕ}
       k-few : k + 1 ≤ 2 * edgeRoom nexts
       k-few = omega (arith, length-tab k (edgeIn es₁), ap length (E .is ∙ edges-with), few-edges)
 
-      pub merge-compactable : {vs₂ mp₂ : List ℕ} → length es₁ ≡ length es → length vs₂ ≡ length vs → length mp₂ ≡ length mp → Compactable (h .n + 1) k es₁ vs₂ mp₂
+      pub merge-compactable : {vs₂ mp₂ : List ℕ} → length es₁ ≡ length es → length vs₂ ≡ length vs → length mp₂ ≡ length mp
+          → Compactable (h .n + 1) k es₁ vs₂ mp₂
       merge-compactable a b d = record {
         es-room = omega (arith, a, k-few, R .es-room);
         vs-room = omega (arith, b, put-room);
         mp-room = omega (arith, d, n-room, M .below, R .map-room);
         small = omega (arith, n-room, M .below, R .vertices-edges, R .small);
-        ends = mem-ends (h .n + 1) k es₁ (λ e m. let z = L.boundedG g bottom (good .0 .bounded) (good .0 .rank) (good .0 .ranks) inside (M .ok) e (subst (λ (l : List Edge). List·Memᴰ e l) (E .is ∙ edges-with) m) in (omega (arith, z .0, size), omega (arith, z .1, size)));
+        ends = mem-ends (h .n + 1) k es₁ (λ e m. let z = L.boundedG g bottom (good .0 .bounded) (good .0 .rank) (good .0 .ranks) inside
+            (M .ok) e (subst (λ (l : List Edge). List·Memᴰ e l) (E .is ∙ edges-with) m) in
+            (omega (arith, z .0, size), omega (arith, z .1, size)));
       }
         where
           size : nodeCount (withAdditions change g) ≡ h .n + 1
           size = order-grown g change ∙ unfold mergeChange in (λ i. order i + 1)
 
-      module _ {vs₂ : List ℕ} (put : vs₂ ≡ vs₁) {r : Counts} {es₃ vs₃ mp₃ : List ℕ} (D : Removed (h .n + 1) k es₁ vs₂ (bottom ∷ numsIn c nodes) r es₃ vs₃ mp₃) where
+      module _ {vs₂ : List ℕ} (put : vs₂ ≡ vs₁) {r : Counts} {es₃ vs₃ mp₃ : List ℕ} (D :
+          Removed (h .n + 1) k es₁ vs₂ (bottom ∷ numsIn c nodes) r es₃ vs₃ mp₃) where
         removed-is : graphIn (h .k .0) (r .n) (r .m) es₃ vs₃ p₁ ≡ applyChange g change
         unfolding applyChange withAdditions
-        removed-is = D .is (h .k .0) p₁ ∙ (λ i. removeVerticesById (gone i) record { k = h .k .0; verts = (ap (λ (x : List ℕ). seqsIn (h .n + 1) x p₁) put ∙ verts-with) i; edges = (E .is ∙ edges-with) i })
+        removed-is = D .is (h .k .0) p₁ ∙ (λ i. removeVerticesById (gone i) record {
+          k = h .k .0;
+          verts =
+              (ap (λ (x : List ℕ). seqsIn (h .n + 1) x p₁) put ∙ verts-with) i;
+          edges = (E .is ∙ edges-with) i;
+        })
           where
             gone : bottom ∷ numsIn c nodes ≡ change .gone
             gone = ap (λ (l : List ℕ). bottom ∷ l) (M .are) ∙ unfold mergeChange in refl
@@ -271,8 +309,14 @@ module _ {h : Held} {es vs p heads nexts nodes mp : List ℕ} {c bottom : ℕ}
             → Merged h es vs p heads nexts bottom record { k = h .k; n = r .n; m = r .m; used = used } es₃ vs₄ p₄
         merged {used} {vs₄} {p₄} P b =
             let s = packed-seqs P pool-rest (omega (arith, P .used-is, bytes-rest, R .p-room, q, b)) in
-            let same : graphIn (h .k .0) (r .n) (r .m) es₃ vs₄ p₄ ≡ graphIn (h .k .0) (r .n) (r .m) es₃ vs₃ p₁ = λ i. record { k = h .k .0; verts = s i; edges = edgesIn (r .m) es₃ } in
+            let same : graphIn (h .k .0) (r .n) (r .m) es₃ vs₄ p₄ ≡ graphIn (h .k .0) (r .n) (r .m) es₃ vs₃ p₁ = λ i.
+            record { k = h .k .0; verts = s i; edges = edgesIn (r .m) es₃ } in
             record {
               is = same ∙ removed-is;
-              holds = record { fit = rw same fit-rest; within = packed-within P pool-rest (omega (arith, P .used-is, bytes-rest, R .p-room, q, b)); used-room = omega (arith, P .used-is, bytes-rest) };
+              holds = record {
+                fit = rw same fit-rest;
+                within = packed-within
+                    P pool-rest (omega (arith, P .used-is, bytes-rest, R .p-room, q, b));
+                used-room = omega (arith, P .used-is, bytes-rest);
+              };
             }

@@ -40,7 +40,8 @@ pub record Comparing (p : List ℕ) (a b n i : ℕ) : Type 0 where
 byte : (p : List ℕ) (a n i : ℕ) → i < n → getD (part p a n) i 0 ≡ getD p (a + i) 0
 byte p a n i h = getD-take n (drop a p) i 0 h ∙ getD-drop a p i 0
 
-pub comparing-no : {p : List ℕ} {a b n i : ℕ} → Comparing p a b n i → i < n → (getD p (a + i) 0 ≡ getD p (b + i) 0 → ⊥) → false ≡ sameList (part p a n) (part p b n)
+pub comparing-no : {p : List ℕ} {a b n i : ℕ} → Comparing p a b n i → i < n → (getD p (a + i) 0 ≡ getD p (b + i) 0 → ⊥) → false
+    ≡ sameList (part p a n) (part p b n)
 comparing-no {p} {a} {b} {n} {i} C h ne = sym (same-not _ _ (λ q. ne (sym (byte p a n i h) ∙ ap (λ (l : List ℕ). getD l i 0) q ∙ byte p b n i h)))
 
 pub comparing-end : {p : List ℕ} {a b n i : ℕ} → Comparing p a b n i → a + n ≤ length p → b + n ≤ length p → n ≤ i → true ≡ sameList (part p a n) (part p b n)
@@ -105,14 +106,16 @@ module _ (k n m : ℕ) (es vs p : List ℕ) where
   abbrev g : Graph
   g = graphIn k n m es vs p
 
-  prev-is : (first v : ℕ) → first < n → v < n → (sameList (vertexSequence g v) (vertexSequence g first) && (eqb (outDegree g v) 1 && ltb 0 (inDegree g v))) ≡ isPrev m es vs p first v
+  prev-is : (first v : ℕ) → first < n → v < n → (sameList (vertexSequence g v) (vertexSequence g first)
+      && (eqb (outDegree g v) 1 && ltb 0 (inDegree g v))) ≡ isPrev m es vs p first v
   prev-is first v a b = rw (seq-at k n m es vs p v b, seq-at k n m es vs p first a, out-degree-is k n m es vs p v, in-degree-is k n m es vs p v) refl
 
   merge-at : (nodes : List ℕ) (c : ℕ) → 0 < c → Below nodes c n → isMerge g (numsIn c nodes) ≡ allOf (isPrev m es vs p (getD nodes 0 0)) (numsIn c nodes)
   unfolding isMerge
   merge-at nodes c h B =
       rw (length-tab c (λ (i : ℕ). getD nodes i 0), lt-ltb 0 c h, head-tab c (λ (i : ℕ). getD nodes i 0) h)
-      (allOf-same _ (isPrev m es vs p (getD nodes 0 0)) (numsIn c nodes) (λ x e. let z = of-mem-tab c (λ (i : ℕ). getD nodes i 0) e in prev-is (getD nodes 0 0) x (B .at 0 h) (rw (z .2) (B .at (z .0) (z .1)))))
+      (allOf-same _ (isPrev m es vs p (getD nodes 0 0)) (numsIn c nodes) (λ x e. let z = of-mem-tab c (λ (i : ℕ). getD nodes i 0) e in
+      prev-is (getD nodes 0 0) x (B .at 0 h) (rw (z .2) (B .at (z .0) (z .1)))))
 
   none-at : (nodes : List ℕ) (c : ℕ) → c ≡ 0 → isMerge g (numsIn c nodes) ≡ false
   unfolding isMerge

@@ -39,12 +39,14 @@ module _ {h : Held} {es vs p heads nexts nodes mp : List ℕ} (R : Room es vs p 
 
   module _ {bottom c : ℕ} {nodes′ : List ℕ} (C : Collected 1 (h .m) es bottom c nodes′) (q : length nodes′ ≡ length nodes) where
     pub prevs-are : numsIn c nodes′ ≡ incomingNodes g bottom
-    prevs-are = C .is ∙ (λ i. map (λ (e : ℕ). getD es (add-zero (4 * e) i) 0) (edgesAt (endOf 1 es) (h .m) bottom)) ∙ sym (incoming-is (h .k .0) (h .n) (h .m) es vs p bottom)
+    prevs-are = C .is ∙ (λ i. map (λ (e : ℕ). getD es (add-zero (4 * e) i) 0) (edgesAt (endOf 1 es) (h .m) bottom))
+        ∙ sym (incoming-is (h .k .0) (h .n) (h .m) es vs p bottom)
 
     pub prevs-below : Below nodes′ c (h .n)
     prevs-below = record {
       room = omega (arith, C .most, collect-room, q);
-      at = λ k b. let z = of-mem-ins g (getD nodes′ k 0) bottom (subst (λ (l : List ℕ). List·Memᴰ (getD nodes′ k 0) l) prevs-are (mem-tab c (λ (i : ℕ). getD nodes′ i 0) k b)) in
+      at = λ k b. let z = of-mem-ins g (getD nodes′ k 0) bottom
+          (subst (λ (l : List ℕ). List·Memᴰ (getD nodes′ k 0) l) prevs-are (mem-tab c (λ (i : ℕ). getD nodes′ i 0) k b)) in
           omega (arith, (H .fit .good .0 .bounded (z .0) (z .1)) .0, z .2, order-in (h .k .0) (h .n) (h .m) es vs p);
     }
 

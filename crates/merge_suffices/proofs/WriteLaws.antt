@@ -22,7 +22,12 @@ module _ {vs p : List ℕ} {used first bottom : ℕ} (F : Writable vs p used fir
 
   module _ {p₁ : List ℕ} (M : Moved p used a x p₁) (l : length p₁ ≡ length p) where
     pub second-apart : Apart p₁ (used + x) b y
-    second-apart = record { to-room = omega (arith, F .room); from-room = omega (arith, F .room, F .bottom-before); apart = inl (omega (arith, F .bottom-before)) }
+    second-apart = record {
+      to-room = omega (arith, F .room);
+      from-room = omega (arith, F .room, F .bottom-before);
+      apart =
+          inl (omega (arith, F .bottom-before));
+    }
 
     pub written : {p₂ : List ℕ} → Moved p₁ (used + x) b y p₂ → length p₂ ≡ length p₁ → Written vs p used first bottom (used + x + y) p₂
     written {p₂} N k = record {
@@ -35,10 +40,13 @@ module _ {vs p : List ℕ} {used first bottom : ℕ} (F : Writable vs p used fir
         size = omega arith
 
         one : part p₂ used x ≡ seqIn vs p first
-        one = part-same p p₂ a used x (omega (arith, F .room, F .first-before)) (omega (arith, F .room, l, k)) (λ i h. N .before (used + i) (omega arith) ∙ M .copied i h) ∙ (λ i. part p (qa i) (qx i))
+        one = part-same p p₂ a used x (omega (arith, F .room, F .first-before)) (omega (arith, F .room, l, k)) (λ i h.
+            N .before (used + i) (omega arith) ∙ M .copied i h) ∙ (λ i. part p (qa i) (qx i))
 
         two : take y (drop x (drop used p₂)) ≡ seqIn vs p bottom
-        two = ap (take y) (drop-drop x used p₂) ∙ part-same p p₂ b (used + x) y (omega (arith, F .room, F .bottom-before)) (omega (arith, F .room, l, k)) (λ i h. N .copied i h ∙ M .before (b + i) (omega (arith, F .bottom-before))) ∙ (λ i. part p (qb i) (qy i))
+        two = ap (take y) (drop-drop x used p₂) ∙ part-same p p₂ b (used + x) y (omega (arith, F .room, F .bottom-before))
+            (omega (arith, F .room, l, k)) (λ i h. N .copied i h ∙ M .before (b + i) (omega (arith, F .bottom-before)))
+            ∙ (λ i. part p (qb i) (qy i))
 
 -- one vertex more goes
 pub marked-more : {gone : List ℕ} {n : ℕ} {mp : List ℕ} (v : ℕ) → v < length mp → Marked gone n mp → Marked (v ∷ gone) n (set mp v 1)

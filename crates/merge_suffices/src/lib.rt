@@ -78,7 +78,8 @@ fn all_prevs(
     c: usize,
 ) -> bool
     requires { ⌜ Below (now nodes) c n × Testable n m (now es) (now vs) (now p) (now heads) (now nexts) ⌝ }
-    ensures { λ r. ⌜ r ≡ allOf (isPrev m (now (es .entry)) (now (vs .entry)) (now (p .entry)) (getD (now (nodes .entry)) 0 0)) (numsIn c (now (nodes .entry))) ⌝ }
+    ensures { λ r. ⌜ r ≡ allOf (isPrev m (now (es .entry)) (now (vs .entry)) (now (p .entry)) (getD (now (nodes .entry)) 0 0))
+        (numsIn c (now (nodes .entry))) ⌝ }
 {
     let mut i = 0;
     while i < c {
@@ -182,7 +183,8 @@ fn remove_merged(
     map: &mut [u32],
 ) -> Counts
     requires { ⌜ Compactable n m (now es) (now vs) (now map) × (Below (now nodes) c n × (bottom < n)) ⌝ }
-    ensures { λ r. ⌜ Removed n m (now (es .entry)) (now (vs .entry)) (bottom ∷ numsIn c (now (nodes .entry))) r (now (es .exit)) (now (vs .exit)) (now (map .exit)) ⌝ }
+    ensures { λ r. ⌜ Removed n m (now (es .entry)) (now (vs .entry)) (bottom ∷ numsIn c (now (nodes .entry))) r (now (es .exit))
+        (now (vs .exit)) (now (map .exit)) ⌝ }
 {
     compact::mark_gone(map, n, nodes, c);
     map[bottom] = 1;
@@ -202,8 +204,11 @@ fn merge_common_suffices(
     bottom: usize,
     c: usize,
 ) -> Held
-    requires { ⌜ Room (now es) (now vs) (now p) (now heads) (now nexts) (now nodes) (now map) × (Holds held (now es) (now vs) (now p) (now heads) (now nexts) × (Indexed (held .m) (held .n) (now es) (now heads) (now nexts) × Mergeable held (now es) (now vs) (now p) (now nodes) c bottom)) ⌝ }
-    ensures { λ r. ⌜ Merged held (now (es .entry)) (now (vs .entry)) (now (p .entry)) (now (heads .entry)) (now (nexts .entry)) bottom r (now (es .exit)) (now (vs .exit)) (now (p .exit)) ⌝ }
+    requires { ⌜ Room (now es) (now vs) (now p) (now heads) (now nexts) (now nodes) (now map)
+        × (Holds held (now es) (now vs) (now p) (now heads) (now nexts)
+        × (Indexed (held .m) (held .n) (now es) (now heads) (now nexts) × Mergeable held (now es) (now vs) (now p) (now nodes) c bottom)) ⌝ }
+    ensures { λ r. ⌜ Merged held (now (es .entry)) (now (vs .entry)) (now (p .entry)) (now (heads .entry)) (now (nexts .entry)) bottom r
+        (now (es .exit)) (now (vs .exit)) (now (p .exit)) ⌝ }
 {
     let n = held.n;
     let m = held.m;
@@ -237,8 +242,12 @@ pub fn try_merge_common_suffices(
     map: &mut [u32],
     bottom: usize,
 ) -> Tried
-    requires { ⌜ Room (now es) (now vs) (now p) (now heads) (now nexts) (now nodes) (now map) × (Holds held (now es) (now vs) (now p) (now heads) (now nexts) × (Indexed (held .m) (held .n) (now es) (now heads) (now nexts) × (bottom < held .n))) ⌝ }
-    ensures { λ r. ⌜ Left (tryMergeCommonSuffices (graphOf held (now (es .entry)) (now (vs .entry)) (now (p .entry))) bottom) held (now (es .entry)) (now (vs .entry)) (now (p .entry)) (now (heads .entry)) (now (nexts .entry)) r (now (es .exit)) (now (vs .exit)) (now (p .exit)) ⌝ }
+    requires { ⌜ Room (now es) (now vs) (now p) (now heads) (now nexts) (now nodes) (now map)
+        × (Holds held (now es) (now vs) (now p) (now heads) (now nexts)
+        × (Indexed (held .m) (held .n) (now es) (now heads) (now nexts) × (bottom < held .n))) ⌝ }
+    ensures { λ r. ⌜ Left (tryMergeCommonSuffices (graphOf held (now (es .entry)) (now (vs .entry)) (now (p .entry))) bottom) held
+        (now (es .entry)) (now (vs .entry)) (now (p .entry)) (now (heads .entry)) (now (nexts .entry)) r (now (es .exit)) (now (vs .exit))
+        (now (p .exit)) ⌝ }
 {
     let n = held.n;
     let m = held.m;

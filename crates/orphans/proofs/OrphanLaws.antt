@@ -10,7 +10,8 @@ use lib.Dec.{eqb}
 use lib.ListN.{length, set, length-set}
 use borrow.Author.Tests.{eqb-true, eqb-false, eq-eqb, ne-eqb}
 use Rattle.defs.specs.Lists.{keepIf, rank, anyOf, elemOf, upFrom}
-use Rattle.defs.specs.SeqGraph.{Edge, Graph, nodeCount, edgesFrom, edgesInto, inDegree, outDegree, isRefSource, remapEdge, compactVertices, keeps, removeVerticesById}
+use Rattle.defs.specs.SeqGraph.{Edge, Graph, nodeCount, edgesFrom, edgesInto, inDegree, outDegree, isRefSource, remapEdge, compactVertices}
+use Rattle.defs.specs.SeqGraph.{keeps, removeVerticesById}
 use Rattle.defs.specs.Cleanup.{singletonOrphans, removeOrphans, removeSingletonOrphanVertices}
 use Rattle.defs.specs.Strings.{HasEdge}
 use Rattle.laws.proofs.Walks.{byTest}
@@ -58,7 +59,8 @@ module _ (m n : ℕ) (es : List ℕ) (v : ℕ) where
   orphan-left q ne = record { is = at }
     where
       at : (k : ℕ) (vs p : List ℕ) → false ≡ isOrphan (graphIn k n m es vs p) v
-      at k vs p = second-no (eqb (inDegree (graphIn k n m es vs p) v) 0) (not (isRefSource (graphIn k n m es vs p) v)) (ne-eqb (outDegree (graphIn k n m es vs p) v) 0 (λ z. ne (q ∙ sym (out-degree-is k n m es vs p v) ∙ z)))
+      at k vs p = second-no (eqb (inDegree (graphIn k n m es vs p) v) 0) (not (isRefSource (graphIn k n m es vs p) v))
+          (ne-eqb (outDegree (graphIn k n m es vs p) v) 0 (λ z. ne (q ∙ sym (out-degree-is k n m es vs p v) ∙ z)))
 
   pub orphan-source : RefSource m n es v true → Orphan m n es v false
   unfolding isOrphan
@@ -67,12 +69,17 @@ module _ (m n : ℕ) (es : List ℕ) (v : ℕ) where
       at : (k : ℕ) (vs p : List ℕ) → false ≡ isOrphan (graphIn k n m es vs p) v
       at k vs p = third-no (eqb (inDegree (graphIn k n m es vs p) v) 0) (eqb (outDegree (graphIn k n m es vs p) v) 0) (ap not (sym (S .is k vs p)))
 
-  pub orphan-yes : {c d : ℕ} → c ≡ length (edgesAt (endOf 1 es) m v) → c ≡ 0 → d ≡ length (edgesAt (endOf 0 es) m v) → d ≡ 0 → RefSource m n es v false → Orphan m n es v true
+  pub orphan-yes : {c d : ℕ} → c ≡ length (edgesAt (endOf 1 es) m v) → c ≡ 0 → d ≡ length (edgesAt (endOf 0 es) m v) → d ≡ 0
+      → RefSource m n es v false → Orphan m n es v true
   unfolding isOrphan
   orphan-yes a x b y S = record { is = at }
     where
       at : (k : ℕ) (vs p : List ℕ) → true ≡ isOrphan (graphIn k n m es vs p) v
-      at k vs p = rw (eq-eqb (inDegree (graphIn k n m es vs p) v) 0 (in-degree-is k n m es vs p v ∙ sym a ∙ x), eq-eqb (outDegree (graphIn k n m es vs p) v) 0 (out-degree-is k n m es vs p v ∙ sym b ∙ y), ← (S .is k vs p)) refl
+      at k vs p = rw (
+        eq-eqb (inDegree (graphIn k n m es vs p) v) 0 (in-degree-is k n m es vs p v ∙ sym a ∙ x),
+        eq-eqb (outDegree (graphIn k n m es vs p) v) 0 (out-degree-is k n m es vs p v ∙ sym b ∙ y),
+        ← (S .is k vs p),
+      ) refl
 
 -- ---- the marks
 
@@ -92,17 +99,20 @@ module _ {m n : ℕ} {es mp₀ : List ℕ} where
   pub marking-start : Marking m n es mp₀ mp₀ 0
   marking-start = record { high = omega arith; len = refl; at = λ v b. absurd (omega arith) }
 
-  more : {mp : List ℕ} {i : ℕ} (x : ℕ) → Marking m n es mp₀ mp i → i < n → n ≤ length mp₀ → Orphan m n es i (not (eqb x 0)) → Marking m n es mp₀ (set mp i x) (i + 1)
+  more : {mp : List ℕ} {i : ℕ} (x : ℕ) → Marking m n es mp₀ mp i → i < n → n ≤ length mp₀ → Orphan m n es i (not (eqb x 0))
+      → Marking m n es mp₀ (set mp i x) (i + 1)
   more {mp} {i} x M b room O = record {
     high = omega arith;
     len = length-set mp i x ∙ M .len;
     at = set-more (λ v y. Orphan m n es v (not (eqb y 0))) mp i x (omega (arith, M .len)) (M .at) O;
   }
 
-  pub marking-yes : {mp : List ℕ} {i : ℕ} {r : Bool} → Marking m n es mp₀ mp i → i < n → n ≤ length mp₀ → Orphan m n es i r → r ≡ true → Marking m n es mp₀ (set mp i 1) (i + 1)
+  pub marking-yes : {mp : List ℕ} {i : ℕ} {r : Bool} → Marking m n es mp₀ mp i → i < n → n ≤ length mp₀ → Orphan m n es i r → r ≡ true
+      → Marking m n es mp₀ (set mp i 1) (i + 1)
   marking-yes M b room O t = more 1 M b room (orphan-as t O)
 
-  pub marking-no : {mp : List ℕ} {i : ℕ} {r : Bool} → Marking m n es mp₀ mp i → i < n → n ≤ length mp₀ → Orphan m n es i r → r ≡ false → Marking m n es mp₀ (set mp i 0) (i + 1)
+  pub marking-no : {mp : List ℕ} {i : ℕ} {r : Bool} → Marking m n es mp₀ mp i → i < n → n ≤ length mp₀ → Orphan m n es i r → r ≡ false
+      → Marking m n es mp₀ (set mp i 0) (i + 1)
   marking-no M b room O t = more 0 M b room (orphan-as t O)
 
   pub marking-end : {mp : List ℕ} {i : ℕ} → Marking m n es mp₀ mp i → n ≤ i → OrphansMarked m n es mp
@@ -138,7 +148,8 @@ module _ (g : Graph) where
 
   no-in : (v w : ℕ) → isOrphan g v ≡ true → HasEdge g w v → ⊥
   unfolding isOrphan inDegree
-  no-in v w t (e, i, p, q) = empty (edgesInto g v) (eqb-true (length (edgesInto g v)) 0 (and-split (eqb (length (edgesInto g v)) 0) _ t .0)) (in-edgesInto g v e i q)
+  no-in v w t (e, i, p, q) = empty (edgesInto g v) (eqb-true (length (edgesInto g v)) 0 (and-split (eqb (length (edgesInto g v)) 0) _ t .0))
+      (in-edgesInto g v e i q)
     where
       empty : (l : List Edge) {x : Edge} → length l ≡ 0 → List·Memᴰ x l → ⊥
       empty [] z k = List·Memᴰ·not-nil k
@@ -221,7 +232,8 @@ edges-all : (l : List Edge) → map (remapEdge (keeps [])) (keepIf (λ (e : Edge
 unfolding keepIf
 edges-all [] = refl
 edges-all (e ∷ l) =
-    ap (map (remapEdge (keeps []))) (keepIf-yes (λ (e : Edge). keeps [] (e .from) && keeps [] (e .to)) e l (and-true _ _ (keeps-other [] (e .from) List·Memᴰ·not-nil) (keeps-other [] (e .to) List·Memᴰ·not-nil)))
+    ap (map (remapEdge (keeps []))) (keepIf-yes (λ (e : Edge). keeps [] (e .from) && keeps [] (e .to)) e l
+    (and-true _ _ (keeps-other [] (e .from) List·Memᴰ·not-nil) (keeps-other [] (e .to) List·Memᴰ·not-nil)))
     ∙ (λ i. renumber-all e i ∷ edges-all l i)
 
 remove-none : (g : Graph) → removeVerticesById [] g ≡ g
@@ -232,15 +244,18 @@ pub orphans-once : (g : Graph) → Bounded g → removeSingletonOrphanVertices g
 unfolding removeSingletonOrphanVertices
 orphans-once g b = byList (singletonOrphans g)
     (λ t. orphans-nil (nodeCount g) g t ∙ sym (remove-none g) ∙ ap (λ l. removeVerticesById l g) (sym t))
-    (λ v vs t. orphans-cons (nodeCount g) g v vs t ∙ ap (λ l. removeOrphans (nodeCount g) (removeVerticesById l g)) (sym t) ∙ still (nodeCount g) v (orphan-in g v (rw t (List·Memᴰ·head refl)) .0) (rw t (List·Memᴰ·head refl)))
+    (λ v vs t. orphans-cons (nodeCount g) g v vs t ∙ ap (λ l. removeOrphans (nodeCount g) (removeVerticesById l g)) (sym t)
+    ∙ still (nodeCount g) v (orphan-in g v (rw t (List·Memᴰ·head refl)) .0) (rw t (List·Memᴰ·head refl)))
   where
-    still : (fuel v : ℕ) → v < fuel → List·Memᴰ v (singletonOrphans g) → removeOrphans fuel (removeVerticesById (singletonOrphans g) g) ≡ removeVerticesById (singletonOrphans g) g
+    still : (fuel v : ℕ) → v < fuel → List·Memᴰ v (singletonOrphans g) → removeOrphans fuel (removeVerticesById (singletonOrphans g) g)
+        ≡ removeVerticesById (singletonOrphans g) g
     still zero v l i = absurd (omega arith)
     still (suc fuel) v l i = orphans-nil fuel (removeVerticesById (singletonOrphans g) g) (none-left g b v i)
 
 -- ---- what is left
 
-pub reduced-closed : {h : Held} {es vs mp es′ vs′ mp′ : List ℕ} {c : Counts} {r : Held} → Compacted (h .n) (h .m) es vs mp c es′ vs′ mp′ → r ≡ record { k = h .k; n = c .n; m = c .m; used = h .used }
+pub reduced-closed : {h : Held} {es vs mp es′ vs′ mp′ : List ℕ} {c : Counts} {r : Held} → Compacted (h .n) (h .m) es vs mp c es′ vs′ mp′ → r
+    ≡ record { k = h .k; n = c .n; m = c .m; used = h .used }
     → Reduced (λ (g : Graph). compactVertices (unmarked mp) g) h es vs r es′ vs′
 reduced-closed {h} {es} {vs} {mp} {es′} {vs′} {c = c} C q = rw q record {
   is = λ p. C .is (h .k .0) p;
@@ -252,7 +267,8 @@ reduced-closed {h} {es} {vs} {mp} {es′} {vs′} {c = c} C q = rw q record {
 }
 
 -- the same, by a test that agrees
-pub reduced-as : {f f′ : Graph → Graph} {h : Held} {es vs : List ℕ} {r : Held} {es′ vs′ : List ℕ} → ((p : List ℕ) → f (graphOf h es vs p) ≡ f′ (graphOf h es vs p))
+pub reduced-as : {f f′ : Graph → Graph} {h : Held} {es vs : List ℕ} {r : Held} {es′ vs′ : List ℕ}
+    → ((p : List ℕ) → f (graphOf h es vs p) ≡ f′ (graphOf h es vs p))
     → Reduced f h es vs r es′ vs′ → Reduced f′ h es vs r es′ vs′
 reduced-as same R = record { is = λ p. R .is p ∙ same p; most-n = R .most-n; most-m = R .most-m; ends = R .ends; within = R .within; used-is = R .used-is }
 

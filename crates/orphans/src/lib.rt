@@ -45,7 +45,8 @@ fn mark_orphans(es: &[u32], m: usize, n: usize, heads: &[u32], nexts: &[u32], ma
 // Takes away the vertices that are marked in `map`.
 pub fn remove_marked(held: Held, es: &mut [u32], vs: &mut [u32], map: &mut [u32]) -> Held
     requires { ⌜ Compactable (held .n) (held .m) (now es) (now vs) (now map) ⌝ }
-    ensures { λ r. ⌜ Reduced (λ (g : Graph). compactVertices (unmarked (now (map .entry))) g) held (now (es .entry)) (now (vs .entry)) r (now (es .exit)) (now (vs .exit)) ⌝ }
+    ensures { λ r. ⌜ Reduced (λ (g : Graph). compactVertices (unmarked (now (map .entry))) g) held (now (es .entry)) (now (vs .entry)) r
+        (now (es .exit)) (now (vs .exit)) ⌝ }
 {
     let c = compact::compact_vertices(es, vs, held.n, held.m, map);
     let kmer_size = held.k;

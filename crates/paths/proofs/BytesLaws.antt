@@ -20,7 +20,8 @@ use Rattle.paths.specs.Paths.{EdgePath, PathNodes, Spellable}
 use Rattle.paths.proofs.RouteLaws.{Route, path-of, path-short, route-spelled}
 
 -- a held graph is spellable
-pub held-spellable : {h : Held} {es vs p heads nexts nodes mp : List ℕ} → Room es vs p heads nexts nodes mp → Holds h es vs p heads nexts → Spellable h es vs p nodes
+pub held-spellable : {h : Held} {es vs p heads nexts nodes mp : List ℕ} → Room es vs p heads nexts nodes mp → Holds h es vs p heads nexts
+    → Spellable h es vs p nodes
 held-spellable R H = record {
   sound = H .fit .good .0;
   within = record { at = λ v b. omega (arith, H .within .at v b, H .used-room, R .p-room) };
@@ -38,7 +39,8 @@ given-no : {A : Type 0} (b : Bool) (a : A) → b ≡ false → given b a ≡ non
 unfolding given
 given-no b a t = rw t
 
-module _ {h : Held} {es vs p nodes : List ℕ} (S : Spellable h es vs p nodes) {start : ℕ} {list : List ℕ} {r : Bool} (E : EdgePath (h .m) (h .n) es start list r) where
+module _ {h : Held} {es vs p nodes : List ℕ} (S : Spellable h es vs p nodes) {start : ℕ} {list : List ℕ} {r : Bool} (E :
+    EdgePath (h .m) (h .n) es start list r) where
   abbrev g : Graph
   g = graphOf h es vs p
 
@@ -50,7 +52,13 @@ module _ {h : Held} {es vs p nodes : List ℕ} (S : Spellable h es vs p nodes) {
     is-path = sym (E .is (h .k .0) vs p) ∙ t
 
     pub path-room : length (edgeEnds list) < length nodes
-    path-room = omega (arith, path-short g (S .sound) start (edgeEnds list) (path-of g (S .sound .bounded) start list is-path), order-in (h .k .0) (h .n) (h .m) es vs p, S .nodes-room)
+    path-room = omega (
+      arith,
+      path-short g (S .sound) start (edgeEnds list) (path-of g (S .sound .bounded) start list is-path),
+      order-in
+          (h .k .0) (h .n) (h .m) es vs p,
+      S .nodes-room,
+    )
 
     pub path-route : {nodes′ : List ℕ} {c : ℕ} → PathNodes start list c nodes′ → Route g nodes′ c
     path-route N = record { first = start; others = edgeEnds list; path = path-of g (S .sound .bounded) start list is-path; is = N .is; room = N .room }

@@ -40,13 +40,21 @@ noting-start {start} {list} nodes h = record {
   high = omega arith;
   low = omega arith;
   len = refl;
-  is = ap (λ (l : List ℕ). l ++ edgeEnds list) (sym (nums-push 0 start nodes h ∙ ap (λ (l : List ℕ). l ++ (start ∷ [])) (tab-zero (λ (i : ℕ). getD nodes i 0))));
+  is = ap (λ (l : List ℕ). l ++ edgeEnds list) (sym (nums-push 0 start nodes h
+      ∙ ap (λ (l : List ℕ). l ++ (start ∷ [])) (tab-zero (λ (i : ℕ). getD nodes i 0))));
 }
 
 module _ {start : ℕ} {list nodes₀ : List ℕ} where
   module _ {nodes : List ℕ} {c i : ℕ} (N : Noting start list nodes₀ nodes c i) (room : length (edgeEnds list) < length nodes₀) where
     pub noting-room : i + 1 < length list → c < length nodes
-    noting-room h = omega (arith, N .len, ap length (N .is), length-append (numsIn c nodes) (edgeEnds (drop i list)), length-tab c (λ (i : ℕ). getD nodes i 0), ap length (ends-pair list i h))
+    noting-room h = omega (
+      arith,
+      N .len,
+      ap length (N .is),
+      length-append (numsIn c nodes) (edgeEnds (drop i list)),
+      length-tab c (λ (i : ℕ). getD nodes i 0),
+      ap length (ends-pair list i h),
+    )
 
     pub noting-more : i + 1 < length list → Noting start list nodes₀ (set nodes c (getD list (i + 1) 0)) (c + 1) (i + 2)
     noting-more h = record {

@@ -95,7 +95,8 @@ module _ {h : Held} {es vs p nodes₀ nodes : List ℕ} {c : ℕ} (S : Spellable
   g = graphOf h es vs p
 
   node-below : (i : ℕ) → i < c → getD nodes i 0 < h .n
-  node-below i b = rw (order-in (h .k .0) (h .n) (h .m) es vs p) at (path-below g (R .first) (R .others) (R .path) (getD nodes i 0) (rw (R .is) at (mem-tab c (λ (i : ℕ). getD nodes i 0) i b)))
+  node-below i b = rw (order-in (h .k .0) (h .n) (h .m) es vs p) at
+      (path-below g (R .first) (R .others) (R .path) (getD nodes i 0) (rw (R .is) at (mem-tab c (λ (i : ℕ). getD nodes i 0) i b)))
 
   size : (v : ℕ) → v < h .n → length (getD (g .verts) v []) ≡ getD vs (2 * v + 1) 0
   size v b = ap length (getD-tab (h .n) (seqIn vs p) v [] b) ∙ part-long p _ _ (S .within .at v b)
@@ -105,7 +106,8 @@ module _ {h : Held} {es vs p nodes₀ nodes : List ℕ} {c : ℕ} (S : Spellable
       ap (total (λ (v : ℕ). length (getD (g .verts) v []))) (sym (R .is))
       ∙ total-map (λ (v : ℕ). length (getD (g .verts) v [])) (numsIn c nodes)
       ∙ ap sum (map-tab (λ (v : ℕ). length (getD (g .verts) v [])) c (λ (i : ℕ). getD nodes i 0)
-      ∙ tab-ext c (λ (i : ℕ). length (getD (g .verts) (getD nodes i 0) [])) (λ (i : ℕ). getD vs (2 * getD nodes i 0 + 1) 0) (λ i b. size (getD nodes i 0) (node-below i b)))
+      ∙ tab-ext c (λ (i : ℕ). length (getD (g .verts) (getD nodes i 0) [])) (λ (i : ℕ). getD vs (2 * getD nodes i 0 + 1) 0) (λ i b.
+      size (getD nodes i 0) (node-below i b)))
 
   pub route-listed : Listed vs p nodes c
   route-listed = record {
@@ -113,7 +115,9 @@ module _ {h : Held} {es vs p nodes₀ nodes : List ℕ} {c : ℕ} (S : Spellable
     vs-room = λ i b. omega (arith, node-below i b, S .vs-room);
     within = λ i b. S .within .at (getD nodes i 0) (node-below i b);
     total =
-        let k = total-kept length [] (g .verts) (R .first ∷ R .others) (path-distinct g (S .sound .rank) (S .sound .ranks) (R .first) (R .others) (R .path)) (λ v m. unfold nodeCount in (path-below g (R .first) (R .others) (R .path) v m)) in
+        let k = total-kept length [] (g .verts) (R .first ∷ R .others)
+        (path-distinct g (S .sound .rank) (S .sound .ranks) (R .first) (R .others) (R .path)) (λ v m. unfold nodeCount in
+        (path-below g (R .first) (R .others) (R .path) v m)) in
         omega (arith, k, bytes-is (g .verts), S .bytes, sums);
   }
 
@@ -121,5 +125,6 @@ module _ {h : Held} {es vs p nodes₀ nodes : List ℕ} {c : ℕ} (S : Spellable
   unfolding spelled vertexSequence
   route-spelled =
       ap concat (map-tab (seqIn vs p) c (λ (i : ℕ). getD nodes i 0)
-      ∙ tab-ext c (λ (i : ℕ). seqIn vs p (getD nodes i 0)) (λ (i : ℕ). getD (g .verts) (getD nodes i 0) []) (λ i b. sym (getD-tab (h .n) (seqIn vs p) (getD nodes i 0) [] (node-below i b)))
+      ∙ tab-ext c (λ (i : ℕ). seqIn vs p (getD nodes i 0)) (λ (i : ℕ). getD (g .verts) (getD nodes i 0) []) (λ i b.
+      sym (getD-tab (h .n) (seqIn vs p) (getD nodes i 0) [] (node-below i b)))
       ∙ sym (map-tab (λ (v : ℕ). getD (g .verts) v []) c (λ (i : ℕ). getD nodes i 0)))

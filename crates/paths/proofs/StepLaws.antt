@@ -43,8 +43,12 @@ unfolding hasEnds
 any-kept u v [] = unfold anyOf keepIf in refl
 any-kept u v (e ∷ l) = byTest (eqb (e .from) u)
     (λ t. byTest (eqb (e .to) v)
-    (λ s. any-yes (hasEnds u v) e l (rw (t, s)) ∙ sym (ap (anyOf (λ (e : Edge). eqb (e .to) v)) (keepIf-yes (λ (e : Edge). eqb (e .from) u) e l t) ∙ any-yes (λ (e : Edge). eqb (e .to) v) e (keepIf (λ (e : Edge). eqb (e .from) u) l) s))
-    (λ s. any-no (hasEnds u v) e l (rw (t, s)) ∙ any-kept u v l ∙ sym (ap (anyOf (λ (e : Edge). eqb (e .to) v)) (keepIf-yes (λ (e : Edge). eqb (e .from) u) e l t) ∙ any-no (λ (e : Edge). eqb (e .to) v) e (keepIf (λ (e : Edge). eqb (e .from) u) l) s)))
+    (λ s. any-yes (hasEnds u v) e l (rw (t, s)) ∙ sym (ap (anyOf (λ (e : Edge). eqb (e .to) v))
+    (keepIf-yes (λ (e : Edge). eqb (e .from) u) e l t) ∙ any-yes (λ (e : Edge). eqb (e .to) v) e
+    (keepIf (λ (e : Edge). eqb (e .from) u) l) s))
+    (λ s. any-no (hasEnds u v) e l (rw (t, s)) ∙ any-kept u v l
+    ∙ sym (ap (anyOf (λ (e : Edge). eqb (e .to) v)) (keepIf-yes (λ (e : Edge). eqb (e .from) u) e l t)
+    ∙ any-no (λ (e : Edge). eqb (e .to) v) e (keepIf (λ (e : Edge). eqb (e .from) u) l) s)))
     (λ t. any-no (hasEnds u v) e l (rw t) ∙ any-kept u v l ∙ ap (anyOf (λ (e : Edge). eqb (e .to) v)) (sym (keepIf-no (λ (e : Edge). eqb (e .from) u) e l t)))
 
 -- whether edge e enters v
@@ -53,10 +57,12 @@ entersAt es v e = eqb (getD es (4 * e + 1) 0) v
 
 pub any-ends : (m : ℕ) (es : List ℕ) (u v : ℕ) → anyOf (entersAt es v) (edgesAt (endOf 0 es) m u) ≡ anyOf (hasEnds u v) (edgesIn m es)
 unfolding edgesFrom
-any-ends m es u v = sym (any-kept u v (edgesIn m es) ∙ ap (anyOf (λ (e : Edge). eqb (e .to) v)) (from-is 0 0 m es [] [] u) ∙ any-map (λ (e : Edge). eqb (e .to) v) (edgeIn es) (edgesAt (endOf 0 es) m u))
+any-ends m es u v = sym (any-kept u v (edgesIn m es) ∙ ap (anyOf (λ (e : Edge). eqb (e .to) v)) (from-is 0 0 m es [] [] u)
+    ∙ any-map (λ (e : Edge). eqb (e .to) v) (edgeIn es) (edgesAt (endOf 0 es) m u))
 
 -- the index over the edges out of each vertex, where the code reads it
-pub out-index : {m n : ℕ} {es heads nexts : List ℕ} → Indexed m n es heads nexts → Index (endOf 0 es) m n (λ (v : ℕ). getD heads (2 * v) 0) (λ (e : ℕ). getD nexts (2 * e) 0)
+pub out-index : {m n : ℕ} {es heads nexts : List ℕ} → Indexed m n es heads nexts
+    → Index (endOf 0 es) m n (λ (v : ℕ). getD heads (2 * v) 0) (λ (e : ℕ). getD nexts (2 * e) 0)
 out-index I = let J = I .index 0 (omega arith) in record {
   heads = λ v h. rw (add-zero (2 * v)) at (J .heads v h);
   nexts = λ e h. rw (add-zero (2 * e)) at (J .nexts e h);
@@ -79,7 +85,8 @@ module _ (g : Graph) (v : ℕ) where
   unfolding isEdgePath
   path-odd a q = rw q
 
-  path-yes : {l : List ℕ} (a b : ℕ) (rest : List ℕ) → l ≡ a ∷ b ∷ rest → eqb a v && anyOf (hasEnds a b) (g .edges) ≡ true → isEdgePath g v l ≡ isEdgePath g b rest
+  path-yes : {l : List ℕ} (a b : ℕ) (rest : List ℕ) → l ≡ a ∷ b ∷ rest → eqb a v && anyOf (hasEnds a b) (g .edges) ≡ true → isEdgePath g v l
+      ≡ isEdgePath g b rest
   unfolding isEdgePath
   path-yes a b rest q t = let s = and-split (eqb a v) (anyOf (hasEnds a b) (g .edges)) t in rw (q, s .0, s .1)
 
@@ -110,7 +117,8 @@ module _ {m n : ℕ} {es : List ℕ} {start : ℕ} {list : List ℕ} where
   pub following-start : start < n → Following m n es start list start 0
   following-start h = record { high = omega arith; start-below = h; below = h; left = λ k vs p. refl }
 
-  following-answer : {at i : ℕ} {r : Bool} → Following m n es start list at i → ((k : ℕ) (vs p : List ℕ) → isEdgePath (graphIn k n m es vs p) at (drop i list) ≡ r) → EdgePath m n es start list r
+  following-answer : {at i : ℕ} {r : Bool} → Following m n es start list at i
+      → ((k : ℕ) (vs p : List ℕ) → isEdgePath (graphIn k n m es vs p) at (drop i list) ≡ r) → EdgePath m n es start list r
   unfolding isPathOf
   following-answer F e = record { is = λ k vs p. sym (rw (order-in k n m es vs p, lt-ltb start n (F .start-below)) (F .left k vs p ∙ e k vs p)) }
 
@@ -123,7 +131,8 @@ module _ {m n : ℕ} {es : List ℕ} {start : ℕ} {list : List ℕ} where
     pub following-odd : i < length list → length list - i < 2 → EdgePath m n es start list false
     following-odd h o =
         let q : suc i ≡ length list = omega arith in
-        following-answer F (λ k vs p. path-odd (graphIn k n m es vs p) at (getD list i 0) (drop-cons list i 0 h ∙ ap (λ (l : List ℕ). getD list i 0 ∷ l) (ap (λ (x : ℕ). drop x list) q ∙ drop-length list)))
+        following-answer F (λ k vs p. path-odd (graphIn k n m es vs p) at (getD list i 0) (drop-cons list i 0 h
+        ∙ ap (λ (l : List ℕ). getD list i 0 ∷ l) (ap (λ (x : ℕ). drop x list) q ∙ drop-length list)))
 
     module _ {a b : ℕ} (two : 2 ≤ length list - i) (qa : a ≡ getD list i 0) (qb : b ≡ getD list (i + 1) 0) where
       pair : drop i list ≡ a ∷ b ∷ drop (i + 2) list

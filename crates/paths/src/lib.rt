@@ -122,7 +122,9 @@ pub fn path_bases_bytes(
     out: &mut [u8],
 ) -> Bytes
     requires { ⌜ Spellable held (now es) (now vs) (now p) (now nodes) × Indexed (held .m) (held .n) (now es) (now heads) (now nexts) ⌝ }
-    ensures { λ r. ⌜ Told (given (isPathOf (graphOf held (now (es .entry)) (now (vs .entry)) (now (p .entry))) start (now (list .entry))) (pathBasesBytes (graphOf held (now (es .entry)) (now (vs .entry)) (now (p .entry))) start (now (list .entry)))) (now (out .entry)) r (now (out .exit)) ⌝ }
+    ensures { λ r. ⌜ Told (given (isPathOf (graphOf held (now (es .entry)) (now (vs .entry)) (now (p .entry))) start (now (list .entry)))
+        (pathBasesBytes (graphOf held (now (es .entry)) (now (vs .entry)) (now (p .entry))) start (now (list .entry)))) (now (out .entry)) r
+        (now (out .exit)) ⌝ }
 {
     let n = held.n;
     let m = held.m;

@@ -28,7 +28,8 @@ module _ {p₀ : List ℕ} {to from n : ℕ} where
   pub copying-start : Copying p₀ to from n p₀ 0
   copying-start = record { high = omega arith; len = refl; done = λ j h. absurd (omega arith); before = λ k h. refl; behind = λ k h. refl }
 
-  pub copying-more : {p : List ℕ} {i : ℕ} → Apart p₀ to from n → Copying p₀ to from n p i → i < n → Copying p₀ to from n (set p (to + i) (getD p (from + i) 0)) (i + 1)
+  pub copying-more : {p : List ℕ} {i : ℕ} → Apart p₀ to from n → Copying p₀ to from n p i → i < n
+      → Copying p₀ to from n (set p (to + i) (getD p (from + i) 0)) (i + 1)
   copying-more {p} {i} A C h = record {
     high = omega arith;
     len = length-set p _ _ ∙ C .len;
@@ -86,7 +87,8 @@ module _ {base n : ℕ} {vs₀ p₀ : List ℕ} (F : Packable n vs₀ p₀ base)
   }
 
   -- what the copy of vertex v asks
-  pub gathering-apart : {vs p : List ℕ} {used v start len : ℕ} → Gathering base n vs₀ p₀ vs p used v → v < n → start ≡ getD vs (2 * v) 0 → len ≡ getD vs (2 * v + 1) 0 → Apart p (base + used) start len
+  pub gathering-apart : {vs p : List ℕ} {used v start len : ℕ} → Gathering base n vs₀ p₀ vs p used v → v < n → start ≡ getD vs (2 * v) 0
+      → len ≡ getD vs (2 * v + 1) 0 → Apart p (base + used) start len
   gathering-apart {vs} {p} {used} {v} {start} {len} G h qs ql =
       let w = F .within .at v h in
       let b = bytes-below n v vs₀ h in
@@ -96,7 +98,8 @@ module _ {base n : ℕ} {vs₀ p₀ : List ℕ} (F : Packable n vs₀ p₀ base)
         apart = inl (omega (arith, qs, ql, G .sizes v, G .rest v (omega arith), w));
       }
 
-  pub gathering-more : {vs p p′ : List ℕ} {used v start len : ℕ} → Gathering base n vs₀ p₀ vs p used v → v < n → start ≡ getD vs (2 * v) 0 → len ≡ getD vs (2 * v + 1) 0
+  pub gathering-more : {vs p p′ : List ℕ} {used v start len : ℕ} → Gathering base n vs₀ p₀ vs p used v → v < n → start ≡ getD vs (2 * v) 0
+      → len ≡ getD vs (2 * v + 1) 0
       → Moved p (base + used) start len p′ → length p′ ≡ length p → Gathering base n vs₀ p₀ (set vs (2 * v) used) p′ (used + len) (v + 1)
   gathering-more {vs} {p} {p′} {used} {v} {start} {len} G h qs ql M l =
       let w = F .within .at v h in
@@ -126,7 +129,12 @@ module _ {base n : ℕ} {vs₀ p₀ : List ℕ} (F : Packable n vs₀ p₀ base)
   pub gathering-end : {vs p : List ℕ} {used v : ℕ} → Gathering base n vs₀ p₀ vs p used v → n ≤ v → Packed base n vs₀ p₀ used vs p
   gathering-end {vs} {p} {used} {v} G h =
       let q : v ≡ n = omega (arith, G .high) in
-      record { used-is = G .used-is ∙ ap (λ (x : ℕ). bytesIn x vs₀) q; starts = λ u b. G .starts u (omega arith); sizes = λ u b. G .sizes u; bytes = λ u b. G .bytes u (omega arith) }
+      record {
+        used-is = G .used-is ∙ ap (λ (x : ℕ). bytesIn x vs₀) q;
+        starts = λ u b. G .starts u (omega arith);
+        sizes = λ u b. G .sizes u;
+        bytes = λ u b. G .bytes u (omega arith);
+      }
 
   -- and down to the front
   pub packed-front : {vs p p′ : List ℕ} {used : ℕ} → Packed base n vs₀ p₀ used vs p → Moved p 0 base used p′ → Packed 0 n vs₀ p₀ used vs p′
@@ -134,7 +142,9 @@ module _ {base n : ℕ} {vs₀ p₀ : List ℕ} (F : Packable n vs₀ p₀ base)
     used-is = P .used-is;
     starts = P .starts;
     sizes = P .sizes;
-    bytes = λ v h i c. ap (λ (x : ℕ). getD p′ x 0) (omega arith) ∙ M .copied (bytesIn v vs₀ + i) (omega (arith, P .used-is, bytes-below n v vs₀ h)) ∙ ap (λ (x : ℕ). getD p x 0) (omega arith) ∙ P .bytes v h i c;
+    bytes = λ v h i c. ap (λ (x : ℕ). getD p′ x 0) (omega arith)
+        ∙ M .copied (bytesIn v vs₀ + i) (omega (arith, P .used-is, bytes-below n v vs₀ h)) ∙ ap (λ (x : ℕ). getD p x 0) (omega arith)
+        ∙ P .bytes v h i c;
   }
 
 -- ---- the sequences, after packing
@@ -143,15 +153,18 @@ module _ {base n : ℕ} {vs₀ p₀ : List ℕ} (F : Packable n vs₀ p₀ base)
 pub part-long : (p : List ℕ) (a n : ℕ) → a + n ≤ length p → length (part p a n) ≡ n
 part-long p a n h = length-take n (drop a p) ∙ rw (length-drop a p) (omega arith)
 
-pub part-same : (p p′ : List ℕ) (a b n : ℕ) → a + n ≤ length p → b + n ≤ length p′ → ((i : ℕ) → i < n → getD p′ (b + i) 0 ≡ getD p (a + i) 0) → part p′ b n ≡ part p a n
+pub part-same : (p p′ : List ℕ) (a b n : ℕ) → a + n ≤ length p → b + n ≤ length p′
+    → ((i : ℕ) → i < n → getD p′ (b + i) 0 ≡ getD p (a + i) 0) → part p′ b n ≡ part p a n
 part-same p p′ a b n ha hb e = ext-getD 0 _ _
     (part-long p′ b n hb ∙ sym (part-long p a n ha))
-    (λ i h. let c : i < n = omega (arith, h, part-long p′ b n hb) in getD-take n (drop b p′) i 0 c ∙ getD-drop b p′ i 0 ∙ e i c ∙ sym (getD-take n (drop a p) i 0 c ∙ getD-drop a p i 0))
+    (λ i h. let c : i < n = omega (arith, h, part-long p′ b n hb) in getD-take n (drop b p′) i 0 c ∙ getD-drop b p′ i 0 ∙ e i c
+    ∙ sym (getD-take n (drop a p) i 0 c ∙ getD-drop a p i 0))
 
 module _ {n : ℕ} {vs p vs′ p′ : List ℕ} {used : ℕ} (P : Packed 0 n vs p used vs′ p′) (W : Within (length p) n vs) (room : used ≤ length p′) where
   pub packed-seqs : seqsIn n vs′ p′ ≡ seqsIn n vs p
   packed-seqs = tab-ext n (seqIn vs′ p′) (seqIn vs p) (λ v h.
-      rw (P .starts v h, P .sizes v h) (part-same p p′ (getD vs (2 * v) 0) (bytesIn v vs) (getD vs (2 * v + 1) 0) (W .at v h) (omega (arith, P .used-is, bytes-below n v vs h, room)) (λ i c. ap (λ (x : ℕ). getD p′ x 0) (omega arith) ∙ P .bytes v h i c)))
+      rw (P .starts v h, P .sizes v h) (part-same p p′ (getD vs (2 * v) 0) (bytesIn v vs) (getD vs (2 * v + 1) 0) (W .at v h)
+      (omega (arith, P .used-is, bytes-below n v vs h, room)) (λ i c. ap (λ (x : ℕ). getD p′ x 0) (omega arith) ∙ P .bytes v h i c)))
 
   pub packed-within : Within used n vs′
   packed-within = record { at = λ v h. omega (arith, P .starts v h, P .sizes v h, P .used-is, bytes-below n v vs h) }

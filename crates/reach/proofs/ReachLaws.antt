@@ -67,7 +67,8 @@ mark-stays marks w v r t = elim (ℕ-discrete v w) [
 pub grown-same : {marks queue : List ℕ} {tail : ℕ} → Grown marks queue tail marks queue tail
 grown-same = record { more = omega arith; marks-stay = λ v t. t; queue-stays = λ i b. refl }
 
-grown-push : {marks₀ queue₀ : List ℕ} {tail₀ : ℕ} {marks queue : List ℕ} {tail : ℕ} (w : ℕ) → w < length marks → Grown marks₀ queue₀ tail₀ marks queue tail → Grown marks₀ queue₀ tail₀ (set marks w 1) (set queue tail w) (tail + 1)
+grown-push : {marks₀ queue₀ : List ℕ} {tail₀ : ℕ} {marks queue : List ℕ} {tail : ℕ} (w : ℕ) → w < length marks
+    → Grown marks₀ queue₀ tail₀ marks queue tail → Grown marks₀ queue₀ tail₀ (set marks w 1) (set queue tail w) (tail + 1)
 grown-push {marks = marks} {queue} {tail} w r G = record {
   more = omega (arith, G .more);
   marks-stay = λ v t. mark-stays marks w v r (G .marks-stay v t);
@@ -81,7 +82,8 @@ module _ {plain : Bool} {kind m n : ℕ} {es : List ℕ} {s : ℕ} {marks queue 
   pub found-most : tail ≤ n
   found-most = omega (
     arith,
-    distinct-length n (tab tail (λ (i : ℕ). getD queue i 0)) queue-distinct (λ v k. let r = of-mem-tab tail (λ (i : ℕ). getD queue i 0) k in rw (r .2) (F .vertex (r .0) (r .1))),
+    distinct-length n (tab tail (λ (i : ℕ). getD queue i 0)) queue-distinct (λ v k. let r = of-mem-tab tail (λ (i : ℕ). getD queue i 0) k in
+        rw (r .2) (F .vertex (r .0) (r .1))),
     length-tab tail (λ (i : ℕ). getD queue i 0),
   )
 
@@ -96,11 +98,13 @@ module _ {plain : Bool} {kind m n : ℕ} {es : List ℕ} {s : ℕ} {marks queue 
           arith,
           distinct-length n (w ∷ tab tail (λ (i : ℕ). getD queue i 0))
               (λ k. let r = of-mem-tab tail (λ (i : ℕ). getD queue i 0) k in other (r .0) (r .1) (sym (r .2)), queue-distinct)
-              (λ x k. ⊎-elim (λ (q : x ≡ w). omega arith) (λ j. let r = of-mem-tab tail (λ (i : ℕ). getD queue i 0) j in rw (r .2) (F .vertex (r .0) (r .1))) (List·Memᴰ·cases-cons k)),
+              (λ x k. ⊎-elim (λ (q : x ≡ w). omega arith) (λ j. let r = of-mem-tab tail (λ (i : ℕ). getD queue i 0) j in
+              rw (r .2) (F .vertex (r .0) (r .1))) (List·Memᴰ·cases-cons k)),
           length-tab tail (λ (i : ℕ). getD queue i 0),
         )
 
-    module _ (marks-room : n ≤ length marks) (queue-room : n ≤ length queue) {h : ℕ} (l : h < tail) (hop : Hop (walkStep plain kind) (bare m es) (getD queue h 0) w) where
+    module _ (marks-room : n ≤ length marks) (queue-room : n ≤ length queue) {h : ℕ} (l : h < tail) (hop :
+        Hop (walkStep plain kind) (bare m es) (getD queue h 0) w) where
       here : getD (set queue tail w) tail 0 ≡ w
       here = getD-set-same queue tail w 0 (omega (arith, found-room))
 
@@ -143,7 +147,8 @@ module _ {plain : Bool} {kind m n : ℕ} {es : List ℕ} {s : ℕ} {marks queue 
 
 -- ---- the edges at the end `off` of u, which stands at h of the queue: those before number e are done
 
-pub record Pushing (plain : Bool) (kind off m n : ℕ) (es : List ℕ) (s h u : ℕ) (marks₀ queue₀ : List ℕ) (queued : ℕ) (marks queue : List ℕ) (tail e : ℕ) : Type 0 where
+pub record Pushing (plain : Bool) (kind off m n : ℕ) (es : List ℕ) (s h u : ℕ) (marks₀ queue₀ : List ℕ) (queued : ℕ) (marks queue :
+    List ℕ) (tail e : ℕ) : Type 0 where
   pub high : e ≤ m
   pub hit : e < m → endOf off es e ≡ u
   pub marks-len : length marks ≡ length marks₀
@@ -153,7 +158,8 @@ pub record Pushing (plain : Bool) (kind off m n : ℕ) (es : List ℕ) (s h u : 
   pub grown : Grown marks₀ queue₀ queued marks queue tail
   pub spread : Spread plain kind off es u e marks
 
-spread-next : {plain : Bool} {kind off m : ℕ} {es : List ℕ} {u e e′ : ℕ} {marks : List ℕ} → Spread plain kind off es u e marks → Next (endOf off es) m u (e + 1) e′
+spread-next : {plain : Bool} {kind off m : ℕ} {es : List ℕ} {u e e′ : ℕ} {marks : List ℕ} → Spread plain kind off es u e marks
+    → Next (endOf off es) m u (e + 1) e′
     → (takesEnd kind off ≡ true → passable plain es e ≡ true → isSet (getD marks (endOf (1 - off) es e) 0) ≡ true) → Spread plain kind off es u e′ marks
 spread-next {off = off} {es = es} {u} {e} {marks = marks} S N f = record {
   at = λ j b t p q. byOrder e j
@@ -164,7 +170,8 @@ spread-next {off = off} {es = es} {u} {e} {marks = marks} S N f = record {
       (λ (o : j < e). S .at j o t p q);
 }
 
-spread-stays : {plain : Bool} {kind off : ℕ} {es : List ℕ} {u e : ℕ} {marks marks′ : List ℕ} → ((v : ℕ) → isSet (getD marks v 0) ≡ true → isSet (getD marks′ v 0) ≡ true)
+spread-stays : {plain : Bool} {kind off : ℕ} {es : List ℕ} {u e : ℕ} {marks marks′ : List ℕ}
+    → ((v : ℕ) → isSet (getD marks v 0) ≡ true → isSet (getD marks′ v 0) ≡ true)
     → Spread plain kind off es u e marks → Spread plain kind off es u e marks′
 spread-stays stay S = record { at = λ j b t p q. stay _ (S .at j b t p q) }
 
@@ -186,7 +193,8 @@ module _ {m n : ℕ} {es heads nexts : List ℕ} (X : Indexed m n es heads nexts
       spread = record { at = λ j b t p r. absurd (N .skip j (omega arith) b r) };
     }
 
-    module _ {u : ℕ} {marks₀ queue₀ : List ℕ} {queued : ℕ} {marks queue : List ℕ} {tail e : ℕ} (P : Pushing plain kind off m n es s h u marks₀ queue₀ queued marks queue tail e) (k : e < m) where
+    module _ {u : ℕ} {marks₀ queue₀ : List ℕ} {queued : ℕ} {marks queue : List ℕ} {tail e : ℕ} (P : Pushing plain
+        kind off m n es s h u marks₀ queue₀ queued marks queue tail e) (k : e < m) where
       N : Next (endOf off es) m u (e + 1) (pairAt off nexts e)
       N = let z = index-at .nexts e k in record {
         low = z .low;
@@ -217,7 +225,8 @@ module _ {m n : ℕ} {es heads nexts : List ℕ} (X : Indexed m n es heads nexts
       pub pushing-shut : passable plain es e ≡ false → Pushing plain kind off m n es s h u marks₀ queue₀ queued marks queue tail (pairAt off nexts e)
       pushing-shut f = passed (λ t p. clash p f)
 
-      pub pushing-seen : isSet (getD marks (endOf (1 - off) es e) 0) ≡ true → Pushing plain kind off m n es s h u marks₀ queue₀ queued marks queue tail (pairAt off nexts e)
+      pub pushing-seen : isSet (getD marks (endOf (1 - off) es e) 0) ≡ true → Pushing plain
+          kind off m n es s h u marks₀ queue₀ queued marks queue tail (pairAt off nexts e)
       pushing-seen t = passed (λ _ _. t)
 
       module _ (R : Walkable n marks₀ queue₀) (new : isSet (getD marks (endOf (1 - off) es e) 0) ≡ false) where
@@ -225,7 +234,8 @@ module _ {m n : ℕ} {es heads nexts : List ℕ} (X : Indexed m n es heads nexts
         pushing-room = found-room (P .found) pushing-below new
 
         pub pushing-push : h < queued → takesEnd kind off ≡ true → passable plain es e ≡ true
-            → Pushing plain kind off m n es s h u marks₀ queue₀ queued (set marks (endOf (1 - off) es e) 1) (set queue tail (endOf (1 - off) es e)) (tail + 1) (pairAt off nexts e)
+            → Pushing plain kind off m n es s h u marks₀ queue₀ queued (set marks (endOf (1 - off) es e) 1)
+            (set queue tail (endOf (1 - off) es e)) (tail + 1) (pairAt off nexts e)
         pushing-push l t p =
             let w = endOf (1 - off) es e in
             let r : n ≤ length marks = omega (arith, P .marks-len, R .marks-room) in
@@ -237,16 +247,28 @@ module _ {m n : ℕ} {es heads nexts : List ℕ} (X : Indexed m n es heads nexts
               queue-len = length-set queue tail w ∙ P .queue-len;
               is-u = P .is-u;
               found = found-push (P .found) pushing-below new r (omega (arith, P .queue-len, R .queue-room)) {h = h} (omega (arith, P .grown .more))
-                  (step-hop record { edge = e; below = k; passes = p; off = off; is-end = o; takes = t; here = P .hit k ∙ sym (P .is-u) ∙ sym (P .grown .queue-stays h l); there = refl });
+                  (step-hop record {
+                    edge = e;
+                    below = k;
+                    passes = p;
+                    off = off;
+                    is-end = o;
+                    takes = t;
+                    here = P .hit k ∙ sym (P .is-u)
+                        ∙ sym (P .grown .queue-stays h l);
+                    there = refl;
+                  });
               grown = grown-push w y (P .grown);
               spread = spread-next (spread-stays (λ v. mark-stays marks w v y) (P .spread)) N (λ _ _. ap isSet (getD-set-same marks w 1 0 y));
             }
 
-    pub pushing-end : {u : ℕ} {marks₀ queue₀ : List ℕ} {queued : ℕ} {marks queue : List ℕ} {tail e : ℕ} → Pushing plain kind off m n es s h u marks₀ queue₀ queued marks queue tail e → m ≤ e
+    pub pushing-end : {u : ℕ} {marks₀ queue₀ : List ℕ} {queued : ℕ} {marks queue : List ℕ} {tail e : ℕ} → Pushing plain
+        kind off m n es s h u marks₀ queue₀ queued marks queue tail e → m ≤ e
         → Pushed plain kind off m n es s h marks₀ queue₀ queued marks queue tail
     pushing-end P l = record { found = P .found; grown = P .grown; spread = record { at = λ j b t p q. P .spread .at j (omega arith) t p (q ∙ P .is-u) } }
 
-pub pushed-none : {plain : Bool} {kind off m n : ℕ} {es : List ℕ} {s h : ℕ} {marks queue : List ℕ} {tail : ℕ} → Found plain kind m n es s marks queue tail → takesEnd kind off ≡ false
+pub pushed-none : {plain : Bool} {kind off m n : ℕ} {es : List ℕ} {s h : ℕ} {marks queue : List ℕ} {tail : ℕ} → Found plain
+    kind m n es s marks queue tail → takesEnd kind off ≡ false
     → Pushed plain kind off m n es s h marks queue tail marks queue tail
 pushed-none F f = record { found = F; grown = grown-same; spread = record { at = λ j b t p q. clash t f } }
 
@@ -255,13 +277,16 @@ pushed-none F f = record { found = F; grown = grown-same; spread = record { at =
 module _ {plain : Bool} {kind m n : ℕ} {es : List ℕ} {s h : ℕ} {marks queue : List ℕ} {tail : ℕ} (l : h < tail)
     {marks₁ queue₁ : List ℕ} {tail₁ : ℕ} (A : Pushed plain kind 0 m n es s h marks queue tail marks₁ queue₁ tail₁)
     {marks₂ queue₂ : List ℕ} {tail₂ : ℕ} (B : Pushed plain kind 1 m n es s h marks₁ queue₁ tail₁ marks₂ queue₂ tail₂) where
-  step-marked : (off e : ℕ) → off ≤ 1 → e < m → takesEnd kind off ≡ true → passable plain es e ≡ true → endOf off es e ≡ getD queue h 0 → isSet (getD marks₂ (endOf (1 - off) es e) 0) ≡ true
+  step-marked : (off e : ℕ) → off ≤ 1 → e < m → takesEnd kind off ≡ true → passable plain es e ≡ true → endOf off es e ≡ getD queue h 0
+      → isSet (getD marks₂ (endOf (1 - off) es e) 0) ≡ true
   step-marked zero e o k t p q = B .grown .marks-stay _ (A .spread .at e k t p q)
   step-marked (suc zero) e o k t p q = B .spread .at e k t p (q ∙ sym (A .grown .queue-stays h l))
   step-marked (suc (suc n)) e o k t p q = absurd (omega arith)
 
   left-h : (w : ℕ) → Hop (walkStep plain kind) (bare m es) (getD queue h 0) w → isSet (getD marks₂ w 0) ≡ true
-  left-h w j = let S = hop-step {plain = plain} {kind = kind} {m = m} {es = es} {u = getD queue h 0} {w = w} j in ap (λ (x : ℕ). isSet (getD marks₂ x 0)) (sym (S .there)) ∙ step-marked (S .off) (S .edge) (S .is-end) (S .below) (S .takes) (S .passes) (S .here)
+  left-h w j = let S = hop-step {plain = plain} {kind = kind} {m = m} {es = es} {u = getD queue h 0} {w = w} j in
+      ap (λ (x : ℕ). isSet (getD marks₂ x 0)) (sym (S .there))
+      ∙ step-marked (S .off) (S .edge) (S .is-end) (S .below) (S .takes) (S .passes) (S .here)
 
   pub vertex-left : VertexLeft plain kind m n es s h marks queue tail marks₂ queue₂ tail₂
   vertex-left = record {
@@ -284,7 +309,8 @@ pub record Walking (plain : Bool) (kind m n : ℕ) (es : List ℕ) (s : ℕ) (ma
   pub start : isSet (getD marks s 0) ≡ true
   pub left : (i : ℕ) → i < h → (w : ℕ) → Hop (walkStep plain kind) (bare m es) (getD queue i 0) w → isSet (getD marks w 0) ≡ true
 
-pub walkable-kept : {n : ℕ} {marks marks′ queue queue′ : List ℕ} → Walkable n marks queue → length marks′ ≡ length marks → length queue′ ≡ length queue → Walkable n marks′ queue′
+pub walkable-kept : {n : ℕ} {marks marks′ queue queue′ : List ℕ} → Walkable n marks queue → length marks′ ≡ length marks → length queue′
+    ≡ length queue → Walkable n marks′ queue′
 walkable-kept R a b = record { marks-room = omega (arith, R .marks-room); queue-room = omega (arith, R .queue-room); small = R .small }
 
 module _ {plain : Bool} {kind m n : ℕ} {es : List ℕ} {s : ℕ} where
@@ -318,7 +344,8 @@ module _ {plain : Bool} {kind m n : ℕ} {es : List ℕ} {s : ℕ} where
       ]
 
   pub walking-more : {marks₀ queue₀ marks queue : List ℕ} {tail h : ℕ} → Walking plain kind m n es s marks₀ queue₀ marks queue tail h → h < tail
-      → {marks′ queue′ : List ℕ} {tail′ : ℕ} → VertexLeft plain kind m n es s h marks queue tail marks′ queue′ tail′ → length marks′ ≡ length marks → length queue′ ≡ length queue
+      → {marks′ queue′ : List ℕ} {tail′ : ℕ} → VertexLeft plain kind m n es s h marks queue tail marks′ queue′ tail′ → length marks′
+      ≡ length marks → length queue′ ≡ length queue
       → Walking plain kind m n es s marks₀ queue₀ marks′ queue′ tail′ (h + 1)
   walking-more {queue = queue} {h = h} W l {marks′} L a b = record {
     high = omega (arith, L .grown .more);
@@ -332,9 +359,11 @@ module _ {plain : Bool} {kind m n : ℕ} {es : List ℕ} {s : ℕ} where
       at : (i : ℕ) → i < h + 1 → (w : ℕ) → Hop (walkStep plain kind) (bare m es) (getD queue i 0) w → isSet (getD marks′ w 0) ≡ true
       at i k w j = elim (ℕ-discrete i h) [ yes q ↦ L .left w (rw q at j) | no ne ↦ L .grown .marks-stay w (W .left i (omega arith) w j) ]
 
-  module _ (E : EndsBelow n m es) (b : s < n) {marks₀ queue₀ marks queue : List ℕ} {tail h : ℕ} (W : Walking plain kind m n es s marks₀ queue₀ marks queue tail h) (over : tail ≤ h) where
+  module _ (E : EndsBelow n m es) (b : s < n) {marks₀ queue₀ marks queue : List ℕ} {tail h : ℕ} (W : Walking plain
+      kind m n es s marks₀ queue₀ marks queue tail h) (over : tail ≤ h) where
     hop-below : (u w : ℕ) → Hop (walkStep plain kind) (bare m es) u w → w < n
-    hop-below u w j = let S = hop-step {plain = plain} {kind = kind} {m = m} {es = es} {u = u} {w = w} j in omega (arith, S .there, end-below (1 - S .off) E (S .edge) (S .below) (omega arith))
+    hop-below u w j = let S = hop-step {plain = plain} {kind = kind} {m = m} {es = es} {u = u} {w = w} j in
+        omega (arith, S .there, end-below (1 - S .off) E (S .edge) (S .below) (omega arith))
 
     way-marked : (d u v : ℕ) → u < n → isSet (getD marks u 0) ≡ true → Way (walkStep plain kind) (bare m es) d u v → isSet (getD marks v 0) ≡ true
     way-marked zero u v k t q = rw q at t

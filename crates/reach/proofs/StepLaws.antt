@@ -58,11 +58,13 @@ step-yes (suc (suc kind)) (suc (suc n)) x u w l t p q = absurd (omega arith)
 
 of-along : (kind : ℕ) (x : Edge) (u w : ℕ) → takesEnd kind 0 ≡ true → forward x u w ≡ true → Over kind x u w
 unfolding forward endAt
-of-along kind x u w t e = let h = and-split (eqb (x .from) u) (eqb (x .to) w) e in record { off = 0; is-end = omega arith; takes = t; here = eqb-true _ _ (h .0); there = eqb-true _ _ (h .1) }
+of-along kind x u w t e = let h = and-split (eqb (x .from) u) (eqb (x .to) w) e in
+    record { off = 0; is-end = omega arith; takes = t; here = eqb-true _ _ (h .0); there = eqb-true _ _ (h .1) }
 
 of-against : (kind : ℕ) (x : Edge) (u w : ℕ) → takesEnd kind 1 ≡ true → backward x u w ≡ true → Over kind x u w
 unfolding backward endAt
-of-against kind x u w t e = let h = and-split (eqb (x .to) u) (eqb (x .from) w) e in record { off = 1; is-end = omega arith; takes = t; here = eqb-true _ _ (h .0); there = eqb-true _ _ (h .1) }
+of-against kind x u w t e = let h = and-split (eqb (x .to) u) (eqb (x .from) w) e in
+    record { off = 1; is-end = omega arith; takes = t; here = eqb-true _ _ (h .0); there = eqb-true _ _ (h .1) }
 
 pub of-step : (kind : ℕ) (x : Edge) (u w : ℕ) → stepOf kind x u w ≡ true → Over kind x u w
 unfolding stepOf either takesEnd
@@ -77,12 +79,14 @@ end-is es zero e l = ap (λ (x : ℕ). getD es x 0) (sym (add-zero (4 * e)))
 end-is es (suc zero) e l = refl
 end-is es (suc (suc n)) e l = absurd (omega arith)
 
-walk-yes : (plain : Bool) (kind : ℕ) (es : List ℕ) (e u w : ℕ) → passable plain es e ≡ true → stepOf kind (edgeIn es e) u w ≡ true → walkStep plain kind (edgeIn es e) u w ≡ true
+walk-yes : (plain : Bool) (kind : ℕ) (es : List ℕ) (e u w : ℕ) → passable plain es e ≡ true → stepOf kind (edgeIn es e) u w ≡ true
+    → walkStep plain kind (edgeIn es e) u w ≡ true
 unfolding walkStep passable
 walk-yes true kind es e u w p t = and-true _ _ p t
 walk-yes false kind es e u w p t = t
 
-of-walk : (plain : Bool) (kind : ℕ) (es : List ℕ) (e u w : ℕ) → walkStep plain kind (edgeIn es e) u w ≡ true → (passable plain es e ≡ true) × (stepOf kind (edgeIn es e) u w ≡ true)
+of-walk : (plain : Bool) (kind : ℕ) (es : List ℕ) (e u w : ℕ) → walkStep plain kind (edgeIn es e) u w ≡ true → (passable plain es e ≡ true)
+    × (stepOf kind (edgeIn es e) u w ≡ true)
 unfolding walkStep passable
 of-walk true kind es e u w t = and-split _ _ t
 of-walk false kind es e u w t = (refl, t)
@@ -102,7 +106,8 @@ pub step-hop : {plain : Bool} {kind m : ℕ} {es : List ℕ} {u w : ℕ} → Ste
 step-hop {plain} {kind} {m} {es} {u} {w} S = (
   edgeIn es (S .edge),
   mem-tab m (edgeIn es) (S .edge) (S .below),
-  walk-yes plain kind es (S .edge) u w (S .passes) (step-yes kind (S .off) (edgeIn es (S .edge)) u w (S .is-end) (S .takes) (end-is es (S .off) (S .edge) (S .is-end) ∙ S .here) (end-is es (1 - S .off) (S .edge) (omega arith) ∙ S .there)),
+  walk-yes plain kind es (S .edge) u w (S .passes) (step-yes kind (S .off) (edgeIn es (S .edge)) u w (S .is-end) (S .takes)
+      (end-is es (S .off) (S .edge) (S .is-end) ∙ S .here) (end-is es (1 - S .off) (S .edge) (omega arith) ∙ S .there)),
 )
 
 hop-at : (plain : Bool) (kind m : ℕ) (es : List ℕ) (u w e : ℕ) → e < m → walkStep plain kind (edgeIn es e) u w ≡ true → Step plain kind m es u w
@@ -121,7 +126,8 @@ hop-at plain kind m es u w e b t =
     }
 
 pub hop-step : {plain : Bool} {kind m : ℕ} {es : List ℕ} {u w : ℕ} → Hop (walkStep plain kind) (bare m es) u w → Step plain kind m es u w
-hop-step {plain} {kind} {m} {es} {u} {w} (x, i, t) = let j = of-mem-tab m (edgeIn es) i in hop-at plain kind m es u w (j .0) (j .1) (ap (λ (y : Edge). walkStep plain kind y u w) (sym (j .2)) ∙ t)
+hop-step {plain} {kind} {m} {es} {u} {w} (x, i, t) = let j = of-mem-tab m (edgeIn es) i in hop-at plain
+    kind m es u w (j .0) (j .1) (ap (λ (y : Edge). walkStep plain kind y u w) (sym (j .2)) ∙ t)
 
 -- ---- a way of at most as many steps as there are vertices ends in a vertex that is reached
 
@@ -137,7 +143,8 @@ module _ (step : Edge → ℕ → ℕ → Bool) (g : Graph) (inside : (u v : ℕ
 
   more-hop : (seen : List ℕ) (u v : ℕ) → elemOf u seen ≡ true → Hop step g u v → elemOf v (more seen) ≡ true
   more-hop seen u v t (e, m, j) =
-      in-more seen v (inside u v (e, m, j)) (or-right (elemOf v seen) (anyOf-mem (λ e. anyOf (λ u. step e u v) seen) (g .edges) m (anyOf-mem (λ u. step e u v) seen (elemOf-true u seen t) j)))
+      in-more seen v (inside u v (e, m, j)) (or-right (elemOf v seen)
+      (anyOf-mem (λ e. anyOf (λ u. step e u v) seen) (g .edges) m (anyOf-mem (λ u. step e u v) seen (elemOf-true u seen t) j)))
 
   in-grow : (n : ℕ) (seen : List ℕ) (l u v : ℕ) → l ≤ n → u < nodeCount g → elemOf u seen ≡ true → Way step g l u v → elemOf v (grow step g n seen) ≡ true
   unfolding grow

@@ -76,13 +76,15 @@ pub record Grown (marks queue : List ℕ) (tail : ℕ) (marks′ queue′ : List
 pub record Spread (plain : Bool) (kind off : ℕ) (es : List ℕ) (u c : ℕ) (marks : List ℕ) : Type 0 where
   pub at : (e : ℕ) → e < c → takesEnd kind off ≡ true → passable plain es e ≡ true → endOf off es e ≡ u → isSet (getD marks (endOf (1 - off) es e) 0) ≡ true
 
-pub record Pushed (plain : Bool) (kind off m n : ℕ) (es : List ℕ) (s h : ℕ) (marks queue : List ℕ) (tail : ℕ) (marks′ queue′ : List ℕ) (tail′ : ℕ) : Type 0 where
+pub record Pushed (plain : Bool) (kind off m n : ℕ) (es : List ℕ) (s h : ℕ) (marks queue : List ℕ) (tail : ℕ) (marks′ queue′ :
+    List ℕ) (tail′ : ℕ) : Type 0 where
   pub found : Found plain kind m n es s marks′ queue′ tail′
   pub grown : Grown marks queue tail marks′ queue′ tail′
   pub spread : Spread plain kind off es (getD queue h 0) m marks′
 
 -- every step from the vertex at h of the queue leads to a marked vertex
-pub record VertexLeft (plain : Bool) (kind m n : ℕ) (es : List ℕ) (s h : ℕ) (marks queue : List ℕ) (tail : ℕ) (marks′ queue′ : List ℕ) (tail′ : ℕ) : Type 0 where
+pub record VertexLeft (plain : Bool) (kind m n : ℕ) (es : List ℕ) (s h : ℕ) (marks queue : List ℕ) (tail : ℕ) (marks′ queue′ :
+    List ℕ) (tail′ : ℕ) : Type 0 where
   pub found : Found plain kind m n es s marks′ queue′ tail′
   pub grown : Grown marks queue tail marks′ queue′ tail′
   pub left : (w : ℕ) → Hop (walkStep plain kind) (bare m es) (getD queue h 0) w → isSet (getD marks′ w 0) ≡ true

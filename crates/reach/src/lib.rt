@@ -57,8 +57,10 @@ fn push_steps(
     queue: &mut [u32],
     queued: usize,
 ) -> usize
-    requires { ⌜ (h < queued) × ((off ≤ 1) × (Indexed m n (now es) (now heads) (now nexts) × (Walkable n (now marks) (now queue) × Found plain kind m n (now es) s (now marks) (now queue) queued))) ⌝ }
-    ensures { λ r. ⌜ Pushed plain kind off m n (now (es .entry)) s h (now (marks .entry)) (now (queue .entry)) queued (now (marks .exit)) (now (queue .exit)) r ⌝ }
+    requires { ⌜ (h < queued) × ((off ≤ 1) × (Indexed m n (now es) (now heads) (now nexts)
+        × (Walkable n (now marks) (now queue) × Found plain kind m n (now es) s (now marks) (now queue) queued))) ⌝ }
+    ensures { λ r. ⌜ Pushed plain kind off m n (now (es .entry)) s h (now (marks .entry)) (now (queue .entry)) queued (now (marks .exit))
+        (now (queue .exit)) r ⌝ }
 {
     if !takes_end(kind, off) {
         return queued;
@@ -96,8 +98,10 @@ fn leave_vertex(
     queue: &mut [u32],
     queued: usize,
 ) -> usize
-    requires { ⌜ (h < queued) × (Indexed m n (now es) (now heads) (now nexts) × (Walkable n (now marks) (now queue) × Found plain kind m n (now es) s (now marks) (now queue) queued)) ⌝ }
-    ensures { λ r. ⌜ VertexLeft plain kind m n (now (es .entry)) s h (now (marks .entry)) (now (queue .entry)) queued (now (marks .exit)) (now (queue .exit)) r ⌝ }
+    requires { ⌜ (h < queued) × (Indexed m n (now es) (now heads) (now nexts)
+        × (Walkable n (now marks) (now queue) × Found plain kind m n (now es) s (now marks) (now queue) queued)) ⌝ }
+    ensures { λ r. ⌜ VertexLeft plain kind m n (now (es .entry)) s h (now (marks .entry)) (now (queue .entry)) queued (now (marks .exit))
+        (now (queue .exit)) r ⌝ }
 {
     let t = push_steps(
         es,

@@ -62,13 +62,15 @@ module _ (bs : List ℕ) (W : WellFormed bs) (z : kindOf bs ≡ 0) where
   kmer-bytes-most = omega (arith, W .lengths, W .vertices, sum-most 128 (verticesOf bs) (lengthAt bs) (λ i b. omega (arith, W .kmers z i b, W .k-most)))
 
 module _ (bs : List ℕ) where
-  pub read-refused : {i : ℕ} {r : Read} {es vs p heads nexts order : List ℕ} → i ≡ refusalOf (take 5 (recordCauses kmerOnly bs)) → (i ≡ 0 → ⊥) → r .number ≡ i → KmersRead bs r es vs p heads nexts order
+  pub read-refused : {i : ℕ} {r : Read} {es vs p heads nexts order : List ℕ} → i ≡ refusalOf (take 5 (recordCauses kmerOnly bs))
+      → (i ≡ 0 → ⊥) → r .number ≡ i → KmersRead bs r es vs p heads nexts order
   read-refused {i} e o q = record {
     number = q ∙ sym (refused-early kmerOnly bs (sym e) (byOrder 1 i (λ b. b) (λ b. absurd (o (omega arith)))));
     holds = λ z. absurd (o (sym q ∙ z));
   }
 
-  module _ (layout : refusalOf (take 5 (recordCauses kmerOnly bs)) ≡ 0) {es vs p heads nexts order scratch place : List ℕ} (Y : Roomy bs es vs p heads nexts order scratch place) where
+  module _ (layout : refusalOf (take 5 (recordCauses kmerOnly bs)) ≡ 0) {es vs p heads nexts order scratch place : List ℕ} (Y :
+      Roomy bs es vs p heads nexts order scratch place) where
     formed : WellFormed bs
     formed = well-formed kmerOnly bs layout
 
@@ -117,14 +119,19 @@ module _ (bs : List ℕ) where
       }
 
       pub read-peelable : {scratch′ : List ℕ} → length scratch′ ≡ length scratch → Peelable (h .n) scratch′ place
-      read-peelable l = record { degrees-room = omega (arith, l, L .n, R .scratch-room); queue-room = omega (arith, L .n, R .place-room); small = omega (arith, n-small) }
+      read-peelable l = record {
+        degrees-room = omega (arith, l, L .n, R .scratch-room);
+        queue-room = omega (arith, L .n, R .place-room);
+        small = omega (arith, n-small);
+      }
 
       pub few-edges : h .m < 4294967296
       few-edges = omega (arith, m-small)
 
       doubled-is : doubled bs ≡ (doubledEdge (edgesIn (h .m) es′) || equalKmers (seqsIn (h .n) vs′ p′))
       unfolding doubled
-      doubled-is = (λ j. doubledEdge ((sym (L .is) j) .edges) || (eqb (kindOf bs) 0 && equalKmers ((sym (L .is) j) .verts))) ∙ rw (eq-eqb (kindOf bs) 0 (kmer-kind bs layout))
+      doubled-is = (λ j. doubledEdge ((sym (L .is) j) .edges) || (eqb (kindOf bs) 0 && equalKmers ((sym (L .is) j) .verts)))
+          ∙ rw (eq-eqb (kindOf bs) 0 (kmer-kind bs layout))
 
       -- a vertex's k-mer has k bytes
       size-held : length p′ ≡ length p → (v : ℕ) → v < h .n → getD vs′ (2 * v + 1) 0 ≡ h .k .0
@@ -150,7 +157,8 @@ module _ (bs : List ℕ) where
           pub read-7 : {r : Read} → c ≡ true → r .number ≡ 7 → {es₂ vs₂ p₂ heads₂ nexts₂ order₂ : List ℕ} → KmersRead bs r es₂ vs₂ p₂ heads₂ nexts₂ order₂
           read-7 s q = record { number = q ∙ sym (refused-7 kmerOnly bs layout none-doubled (cycle-is ∙ s)); holds = λ y. absurd (omega arith) }
 
-          pub read-0 : c ≡ false → length p′ ≡ length p → {heads′ nexts′ : List ℕ} → Indexed (h .m) (h .n) es′ heads′ nexts′ → KmersRead bs record { number = 0; held = h } es′ vs′ p′ heads′ nexts′ order′
+          pub read-0 : c ≡ false → length p′ ≡ length p → {heads′ nexts′ : List ℕ} → Indexed (h .m) (h .n) es′ heads′ nexts′
+              → KmersRead bs record { number = 0; held = h } es′ vs′ p′ heads′ nexts′ order′
           read-0 s l I =
               let apart = or-false (doubledEdge (edgesIn (h .m) es′)) (equalKmers (seqsIn (h .n) vs′ p′)) (sym (D .is) ∙ t) in
               record {
@@ -181,5 +189,6 @@ pub layout-is : (bs : List ℕ) {i : ℕ} → i ≡ refusalOf (take 5 (recordCau
 unfolding takesOf
 layout-is bs e = e
 
-pub layout-zero : (bs : List ℕ) {i : ℕ} → i ≡ refusalOf (take 5 (recordCauses (takesOf KmerOnly) bs)) → i ≡ 0 → refusalOf (take 5 (recordCauses kmerOnly bs)) ≡ 0
+pub layout-zero : (bs : List ℕ) {i : ℕ} → i ≡ refusalOf (take 5 (recordCauses (takesOf KmerOnly) bs)) → i ≡ 0
+    → refusalOf (take 5 (recordCauses kmerOnly bs)) ≡ 0
 layout-zero bs e z = sym (layout-is bs e) ∙ z

@@ -20,7 +20,8 @@ pub fn is_doubled(
     order: &mut [u32],
     scratch: &mut [u32],
 ) -> bool
-    requires { ⌜ Indexed m n (now es) (now heads) (now nexts) × (Markable n (now scratch) × Sortable (Sequence (now vs) (now p)) n (now order) (now scratch)) ⌝ }
+    requires { ⌜ Indexed m n (now es) (now heads) (now nexts)
+        × (Markable n (now scratch) × Sortable (Sequence (now vs) (now p)) n (now order) (now scratch)) ⌝ }
     ensures { λ r. ⌜ Doubles m n (now (es .entry)) (now (vs .entry)) (now (p .entry)) r (now (order .exit)) ⌝ }
 {
     if doubled::doubled_edge(es, m, n, heads, nexts, scratch) {
@@ -42,7 +43,8 @@ pub fn read_kmer_graph(
     place: &mut [u32],
 ) -> Read
     requires { ⌜ Roomy (now rec) (now es) (now vs) (now p) (now heads) (now nexts) (now order) (now scratch) (now place) ⌝ }
-    ensures { λ r. ⌜ KmersRead (now (rec .entry)) r (now (es .exit)) (now (vs .exit)) (now (p .exit)) (now (heads .exit)) (now (nexts .exit)) (now (order .exit)) ⌝ }
+    ensures { λ r. ⌜ KmersRead (now (rec .entry)) r (now (es .exit)) (now (vs .exit)) (now (p .exit)) (now (heads .exit))
+        (now (nexts .exit)) (now (order .exit)) ⌝ }
 {
     let number = record::layout_refusal(rec, Takes::KmerOnly);
     if number != 0 {

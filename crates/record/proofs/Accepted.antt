@@ -14,7 +14,8 @@ use Rattle.defs.specs.Refusals.{Takes, kmerOnly, sequenceOnly, bothKinds, refus
 use Rattle.laws.proofs.ListLaws.{clash}
 use Rattle.record.specs.Layout.{otherKmerLength, GoodEdge, WellFormed}
 use Rattle.record.proofs.TurnLaws.{any-false}
-use Rattle.record.proofs.Tests.{same-cons, or-false, no-cause, any-bad-is, offsets-agree, lengths-offset, edges-offset, bytes-offset, whole-is, sum-is, kmers-are}
+use Rattle.record.proofs.Tests.{same-cons, or-false, no-cause, any-bad-is, offsets-agree, lengths-offset, edges-offset, bytes-offset}
+use Rattle.record.proofs.Tests.{whole-is, sum-is, kmers-are}
 
 and-true : (a b : Bool) → (a && b) ≡ true → (a ≡ true) × (b ≡ true)
 and-true true b h = (refl, h)

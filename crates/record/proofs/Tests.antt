@@ -9,7 +9,8 @@ use lib.Dec.{eqb, ltb, leb}
 use lib.ListN.{length, getD, take}
 use borrow.Author.Tests.{lt-ltb, le-ltb, le-leb, lt-leb, eq-eqb, ne-eqb, ltb-false, eqb-true, not-false}
 use Rattle.defs.specs.Lists.{tabFrom, tab, sum, sameList, anyOf, upFrom}
-use Rattle.defs.specs.Record.{mark, kindOf, statusOf, kOf, verticesOf, edgesOf, bytesOf, u32At, lengthsAt, edgesAt, bytesAt, wholeLength, lengthAt, edgeAt, flagAt}
+use Rattle.defs.specs.Record.{mark, kindOf, statusOf, kOf, verticesOf, edgesOf, bytesOf, u32At, lengthsAt, edgesAt, bytesAt, wholeLength}
+use Rattle.defs.specs.Record.{lengthAt, edgeAt, flagAt}
 use Rattle.defs.specs.Refusals.{Cause, Takes, refusalOf, recordCauses, takesKind, otherLength, wrongMark, pastLimit, layoutDisagrees, badEdge, anyBadEdge}
 use Rattle.laws.proofs.ListLaws.{clash}
 use Rattle.tabs.proofs.Tabs.{take-tab}

@@ -7,7 +7,8 @@ use mathlib.Core.List.{List}
 use lib.Dec.{eqb}
 use lib.ListN.{length, take}
 use Rattle.defs.specs.Lists.{tab, sum}
-use Rattle.defs.specs.Record.{mark, kindOf, statusOf, kOf, verticesOf, edgesOf, bytesOf, u32At, lengthsAt, edgesAt, bytesAt, wholeLength, lengthAt, edgeAt, flagAt}
+use Rattle.defs.specs.Record.{mark, kindOf, statusOf, kOf, verticesOf, edgesOf, bytesOf, u32At, lengthsAt, edgesAt, bytesAt, wholeLength}
+use Rattle.defs.specs.Record.{lengthAt, edgeAt, flagAt}
 
 -- the test of cause 4 that each vertex of a k-mer graph has k bytes, at one vertex
 abbrev pub otherKmerLength : List ℕ → ℕ → Bool

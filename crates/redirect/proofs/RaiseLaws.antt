@@ -68,13 +68,15 @@ module _ (a b s : ℕ) (r : Bool) where
           (λ u. first-yes (hasEnds c d) _ es (ends-same c d e _ refl refl ∙ u) ∙ sym (first-yes (hasEnds c d) e es u))
           (λ u. first-no (hasEnds c d) _ es (ends-same c d e _ refl refl ∙ u) ∙ sym (first-no (hasEnds c d) e es u))
 
-      tail : (findEdge c d es < length es → findEdge c d (addOrUpdateEdge a b s r es) ≡ findEdge c d es) → firstIx (hasEnds c d) (e ∷ addOrUpdateEdge a b s r es) ≡ findEdge c d (e ∷ es)
+      tail : (findEdge c d es < length es → findEdge c d (addOrUpdateEdge a b s r es) ≡ findEdge c d es)
+          → firstIx (hasEnds c d) (e ∷ addOrUpdateEdge a b s r es) ≡ findEdge c d (e ∷ es)
       tail ih = byTest (hasEnds c d e)
           (λ u. first-yes (hasEnds c d) e _ u ∙ sym (first-yes (hasEnds c d) e es u))
           (λ u. first-no (hasEnds c d) e _ u ∙ ap suc (ih (omega (arith, h, first-no (hasEnds c d) e es u))) ∙ sym (first-no (hasEnds c d) e es u))
 
   -- another edge that was not there is not there
-  pub find-missing : (c d : ℕ) → ((c ≡ a) → (d ≡ b) → ⊥) → (es : List Edge) → length es ≤ findEdge c d es → findEdge c d (addOrUpdateEdge a b s r es) ≡ length (addOrUpdateEdge a b s r es)
+  pub find-missing : (c d : ℕ) → ((c ≡ a) → (d ≡ b) → ⊥) → (es : List Edge) → length es ≤ findEdge c d es
+      → findEdge c d (addOrUpdateEdge a b s r es) ≡ length (addOrUpdateEdge a b s r es)
   unfolding addOrUpdateEdge
   find-missing c d ne [] h = first-no (hasEnds c d) _ [] (byTest (hasEnds c d record { from = a; to = b; support = s; isRef = r })
       (λ t. absurd (let z = joins-ends c d s r _ t in ne (sym (z .0)) (sym (z .1)))) (λ t. t)) ∙ unfold firstIx in refl
@@ -105,14 +107,19 @@ module _ (a b s : ℕ) (r : Bool) where
 pub raiseAll-longer : (ns es : List Edge) → length es ≤ length (addOrUpdateEdges ns es)
 unfolding addOrUpdateEdges
 raiseAll-longer [] es = omega arith
-raiseAll-longer (n ∷ ns) es = omega (arith, raise-longer (n .from) (n .to) (n .support) (n .isRef) es, raiseAll-longer ns (addOrUpdateEdge (n .from) (n .to) (n .support) (n .isRef) es))
+raiseAll-longer (n ∷ ns) es = omega (
+  arith,
+  raise-longer (n .from) (n .to) (n .support) (n .isRef) es,
+  raiseAll-longer ns (addOrUpdateEdge (n .from) (n .to) (n .support) (n .isRef) es),
+)
 
 pub raiseAll-cons : (n : Edge) (ns es : List Edge) → addOrUpdateEdges (n ∷ ns) es ≡ addOrUpdateEdges ns (addOrUpdateEdges (n ∷ []) es)
 unfolding addOrUpdateEdges
 raiseAll-cons n ns es = refl
 
 -- what holds of the ends of the old edges and of the new ones holds of all
-pub raiseAll-ends : (P : ℕ → ℕ → Type 0) (ns es : List Edge) → ((e : Edge) → List·Memᴰ e es → P (e .from) (e .to)) → ((e : Edge) → List·Memᴰ e ns → P (e .from) (e .to))
+pub raiseAll-ends : (P : ℕ → ℕ → Type 0) (ns es : List Edge) → ((e : Edge) → List·Memᴰ e es → P (e .from) (e .to))
+    → ((e : Edge) → List·Memᴰ e ns → P (e .from) (e .to))
     → (e : Edge) → List·Memᴰ e (addOrUpdateEdges ns es) → P (e .from) (e .to)
 raiseAll-ends P ns es o k e m = of-raiseAll ns es (e .from) (e .to) (e, m, refl, refl)
     (λ l. rw (l .2, l .3) at (o (l .0) (l .1)))

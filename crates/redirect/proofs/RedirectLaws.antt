@@ -21,7 +21,8 @@ use Rattle.index.specs.Index.{endOf, atFrom, Index, pairAt}
 use Rattle.index.proofs.AdjLaws.{at-head, at-step, at-end}
 use Rattle.index.proofs.IndexLaws.{end-below}
 use Rattle.redirect.specs.Redirect.{newFrom, newTo, redirected, redirectedAll, place, Marks, OneReady, OneDone, Redirectable, Redirected}
-use Rattle.redirect.proofs.RaiseLaws.{first-missing, find-raised, find-added, find-other, find-missing, raise-old, raise-longer, raiseAll-longer, raiseAll-cons}
+use Rattle.redirect.proofs.RaiseLaws.{first-missing, find-raised, find-added, find-other, find-missing, raise-old, raise-longer}
+use Rattle.redirect.proofs.RaiseLaws.{raiseAll-longer, raiseAll-cons}
 
 -- ---- `if t { x } else { y }`
 
@@ -65,12 +66,14 @@ place-high : (lo m x : ℕ) → lo < x → place lo m x ≡ x - 1
 place-high lo m x h = rw (lt-leb x lo h)
 
 -- marks of an earlier use say nothing, where no edge has y at that end
-pub marks-start : (off y n m : ℕ) (es mp : List ℕ) → off ≤ 1 → n ≤ length mp → ((x : ℕ) → x < n → getD mp x 0 ≤ m) → ((j : ℕ) → j < m → endOf off es j ≡ y → ⊥) → Marks off y n m m es mp
+pub marks-start : (off y n m : ℕ) (es mp : List ℕ) → off ≤ 1 → n ≤ length mp → ((x : ℕ) → x < n → getD mp x 0 ≤ m)
+    → ((j : ℕ) → j < m → endOf off es j ≡ y → ⊥) → Marks off y n m m es mp
 marks-start off y n m es mp h room most free = record {
   room = room;
   low = omega arith;
   most = most;
-  is = λ x b. place-low m m (getD mp x 0) (most x b) ∙ sym (first-missing (hasEnds (newFrom off y x) (newTo off y x)) no-edge (edgesIn m es) (λ j c. none x j (omega (arith, c, length-tab m (edgeIn es)))) ∙ length-tab m (edgeIn es));
+  is = λ x b. place-low m m (getD mp x 0) (most x b) ∙ sym (first-missing (hasEnds (newFrom off y x) (newTo off y x)) no-edge (edgesIn m es)
+      (λ j c. none x j (omega (arith, c, length-tab m (edgeIn es)))) ∙ length-tab m (edgeIn es));
 }
   where
     none : (x j : ℕ) → j < m → hasEnds (newFrom off y x) (newTo off y x) (getD (edgesIn m es) j no-edge) ≡ false
@@ -108,14 +111,19 @@ module _ {off y n lo m : ℕ} {es mp : List ℕ} (M : Marks off y n lo m es mp) 
 
     most-new : (z : ℕ) → z < n → getD (set mp x (at + 1)) z 0 ≤ k
     most-new z c = elim (ℕ-discrete z x) [
-      | yes e ↦ rw (e, getD-set-same mp x (at + 1) 0 (omega (arith, M .room))) (omega (arith, find-new, size, find-added (newFrom off y x) (newTo off y x) s r (edgesIn m es)))
+      | yes e ↦ rw (e, getD-set-same mp x (at + 1) 0 (omega (arith, M .room)))
+          (omega (arith, find-new, size, find-added (newFrom off y x) (newTo off y x) s r (edgesIn m es)))
       | no ne ↦ rw (getD-set-other mp x z (at + 1) 0 ne) (omega (arith, M .most z c, longer))
     ]
 
     other-new : (z : ℕ) → z < n → (z ≡ x → ⊥) → place lo k (getD mp z 0) ≡ findEdge (newFrom off y z) (newTo off y z) added
     other-new z c ne = byOrder (getD mp z 0) lo
-        (λ h. place-low lo k (getD mp z 0) h ∙ sym (find-missing (newFrom off y x) (newTo off y x) s r (newFrom off y z) (newTo off y z) (λ a d. ne (ends-other off y x z a d)) (edgesIn m es) (omega (arith, size-old, M .is z c, place-low lo m (getD mp z 0) h)) ∙ size))
-        (λ h. place-high lo k (getD mp z 0) h ∙ sym (find-other (newFrom off y x) (newTo off y x) s r (newFrom off y z) (newTo off y z) (edgesIn m es) (omega (arith, size-old, M .is z c, place-high lo m (getD mp z 0) h, M .most z c)) ∙ sym (M .is z c) ∙ place-high lo m (getD mp z 0) h))
+        (λ h. place-low lo k (getD mp z 0) h ∙ sym (find-missing (newFrom off y x) (newTo off y x) s r (newFrom off y z) (newTo off y z)
+        (λ a d. ne (ends-other off y x z a d)) (edgesIn m es) (omega (arith, size-old, M .is z c, place-low lo m (getD mp z 0) h))
+        ∙ size))
+        (λ h. place-high lo k (getD mp z 0) h ∙ sym (find-other (newFrom off y x) (newTo off y x) s r (newFrom off y z) (newTo off y z)
+        (edgesIn m es) (omega (arith, size-old, M .is z c, place-high lo m (getD mp z 0) h, M .most z c)) ∙ sym (M .is z c)
+        ∙ place-high lo m (getD mp z 0) h))
 
     is-new : (z : ℕ) → z < n → place lo k (getD (set mp x (at + 1)) z 0) ≡ findEdge (newFrom off y z) (newTo off y z) (edgesIn k es′)
     is-new z c = rw is (elim (ℕ-discrete z x) [
@@ -135,7 +143,8 @@ module _ {off y n lo m : ℕ} {es mp : List ℕ} {e : ℕ} (E : OneReady off y n
   pub edge-small : at + 1 < 4294967296
   edge-small = omega (arith, at-most (E .marks) _ (E .other) q, E .small)
 
-  pub one-done : {u v s f k : ℕ} {es′ : List ℕ} → u ≡ newFrom off y (endOf (1 - off) es e) → v ≡ newTo off y (endOf (1 - off) es e) → s ≡ getD es (4 * e + 2) 0 → f ≡ getD es (4 * e + 3) 0
+  pub one-done : {u v s f k : ℕ} {es′ : List ℕ} → u ≡ newFrom off y (endOf (1 - off) es e) → v ≡ newTo off y (endOf (1 - off) es e) → s
+      ≡ getD es (4 * e + 2) 0 → f ≡ getD es (4 * e + 3) 0
       → edgesIn k es′ ≡ addOrUpdateEdge u v s (isSet f) (edgesIn m es) → OneDone off y n lo m es e k es′ (set mp (endOf (1 - off) es e) (at + 1))
   unfolding addOrUpdateEdges
   one-done {u} {v} {s} {f} {k} {es′} hu hv hs hf is =
@@ -149,7 +158,13 @@ abbrev pub redirect : ℕ → ℕ → Edge → Edge
 redirect off y e = record { from = newFrom off y (endAt (1 - off) e); to = newTo off y (endAt (1 - off) e); support = e .support; isRef = e .isRef }
 
 pub redirected-is : (off y : ℕ) (es : List ℕ) (e : ℕ) → redirected off y es e ≡ redirect off y (edgeIn es e)
-redirected-is off y es e = λ i. record { from = newFrom off y (end-at (1 - off) es e less i); to = newTo off y (end-at (1 - off) es e less i); support = getD es (4 * e + 2) 0; isRef = isSet (getD es (4 * e + 3) 0) }
+redirected-is off y es e = λ i. record {
+  from = newFrom off y (end-at (1 - off) es e less i);
+  to =
+      newTo off y (end-at (1 - off) es e less i);
+  support = getD es (4 * e + 2) 0;
+  isRef = isSet (getD es (4 * e + 3) 0);
+}
   where
     less : 1 - off ≤ 1
     less = omega arith
@@ -168,7 +183,8 @@ pub record Redirecting (off y n lo m₀ m : ℕ) (es₀ mp₀ : List ℕ) (v k :
   pub grown : m ≤ k
   pub old : (j : ℕ) → j < m₀ → edgeIn es j ≡ edgeIn es₀ j
   pub marks : Marks off y n lo k es mp
-  pub left : addOrUpdateEdges (map (redirected off y es₀) (atFrom (endOf off es₀) m₀ v e)) (edgesIn k es) ≡ addOrUpdateEdges (redirectedAll off y m₀ es₀ v) (edgesIn m es₀)
+  pub left : addOrUpdateEdges (map (redirected off y es₀) (atFrom (endOf off es₀) m₀ v e)) (edgesIn k es)
+      ≡ addOrUpdateEdges (redirectedAll off y m₀ es₀ v) (edgesIn m es₀)
 
 module _ {off y n lo m₀ m : ℕ} {es₀ heads nexts mp₀ : List ℕ} {v : ℕ} (F : Redirectable off y n lo m₀ m es₀ heads nexts mp₀ v) where
   abbrev index : Index (endOf off es₀) m₀ n (pairAt off heads) (pairAt off nexts)
@@ -183,12 +199,18 @@ module _ {off y n lo m₀ m : ℕ} {es₀ heads nexts mp₀ : List ℕ} {v : ℕ
     grown = omega arith;
     old = λ j b. refl;
     marks = F .marks;
-    left = ap (λ (l : List ℕ). addOrUpdateEdges (map (redirected off y es₀) l) (edgesIn m es₀)) (sym (at-head (endOf off es₀) m₀ n (pairAt off heads) (pairAt off nexts) v index (F .below)));
+    left = ap (λ (l : List ℕ). addOrUpdateEdges (map (redirected off y es₀) l) (edgesIn m es₀))
+        (sym (at-head (endOf off es₀) m₀ n (pairAt off heads) (pairAt off nexts) v index (F .below)));
   }
 
   module _ {k : ℕ} {es mp : List ℕ} {e : ℕ} (R : Redirecting off y n lo m₀ m es₀ mp₀ v k es mp e) where
     most : k ≤ length (addOrUpdateEdges (redirectedAll off y m₀ es₀ v) (edgesIn m es₀))
-    most = omega (arith, length-tab k (edgeIn es), ap length (R .left), raiseAll-longer (map (redirected off y es₀) (atFrom (endOf off es₀) m₀ v e)) (edgesIn k es))
+    most = omega (
+      arith,
+      length-tab k (edgeIn es),
+      ap length (R .left),
+      raiseAll-longer (map (redirected off y es₀) (atFrom (endOf off es₀) m₀ v e)) (edgesIn k es),
+    )
 
     module _ (h : e < m₀) where
       pub redirecting-edge : OneReady off y n lo k es mp e
@@ -207,7 +229,8 @@ module _ {off y n lo m₀ m : ℕ} {es₀ heads nexts mp₀ : List ℕ} {v : ℕ
       pub redirecting-on : e < pairAt off nexts e
       redirecting-on = omega (arith, index .nexts e h .low)
 
-      pub redirecting-more : {k′ : ℕ} {es′ mp′ : List ℕ} → OneDone off y n lo k es e k′ es′ mp′ → length es′ ≡ length es → length mp′ ≡ length mp → Redirecting off y n lo m₀ m es₀ mp₀ v k′ es′ mp′ (pairAt off nexts e)
+      pub redirecting-more : {k′ : ℕ} {es′ mp′ : List ℕ} → OneDone off y n lo k es e k′ es′ mp′ → length es′ ≡ length es → length mp′
+          ≡ length mp → Redirecting off y n lo m₀ m es₀ mp₀ v k′ es′ mp′ (pairAt off nexts e)
       unfolding addOrUpdateEdges
       redirecting-more {k′} {es′} {mp′} E a b = let N = index .nexts e h in record {
         high = N .high;
@@ -217,23 +240,34 @@ module _ {off y n lo m₀ m : ℕ} {es₀ heads nexts mp₀ : List ℕ} {v : ℕ
         grown = omega (arith, R .grown, size);
         old = λ j c. old-kept j c ∙ R .old j c;
         marks = E .marks;
-        left = ap (addOrUpdateEdges (map (redirected off y es₀) (atFrom (endOf off es₀) m₀ v (pairAt off nexts e)))) (E .is ∙ ap (λ (x : Edge). addOrUpdateEdges (x ∷ []) (edgesIn k es)) (redirected-same off y es₀ es e (R .old e h)))
+        left = ap (addOrUpdateEdges (map (redirected off y es₀) (atFrom (endOf off es₀) m₀ v (pairAt off nexts e)))) (E .is
+            ∙ ap (λ (x : Edge). addOrUpdateEdges (x ∷ []) (edgesIn k es)) (redirected-same off y es₀ es e (R .old e h)))
             ∙ sym (raiseAll-cons (redirected off y es₀ e) (map (redirected off y es₀) (atFrom (endOf off es₀) m₀ v (pairAt off nexts e))) (edgesIn k es))
-            ∙ ap (λ (l : List ℕ). addOrUpdateEdges (map (redirected off y es₀) l) (edgesIn k es)) (sym (at-step (endOf off es₀) m₀ n (pairAt off heads) (pairAt off nexts) v e index h (R .hit h)))
+            ∙ ap (λ (l : List ℕ). addOrUpdateEdges (map (redirected off y es₀) l) (edgesIn k es))
+            (sym (at-step (endOf off es₀) m₀ n (pairAt off heads) (pairAt off nexts) v e index h (R .hit h)))
             ∙ R .left;
       }
         where
           size : k ≤ k′
-          size = omega (arith, ap length (E .is), length-tab k′ (edgeIn es′), length-tab k (edgeIn es), raiseAll-longer (redirected off y es e ∷ []) (edgesIn k es))
+          size = omega (
+            arith,
+            ap length (E .is),
+            length-tab k′ (edgeIn es′),
+            length-tab k (edgeIn es),
+            raiseAll-longer (redirected off y es e ∷ []) (edgesIn k es),
+          )
 
           free : (j : ℕ) → j < m₀ → endAt off (edgeIn es j) ≡ y → ⊥
-          free j c q = let z = sym (end-same off es₀ es j (F .off-low) (R .old j c)) ∙ end-at off es j (F .off-low) ∙ q in omega (arith, z, end-below off (F .indexed .ends) j c (F .off-low), F .new)
+          free j c q = let z = sym (end-same off es₀ es j (F .off-low) (R .old j c)) ∙ end-at off es j (F .off-low) ∙ q in
+              omega (arith, z, end-below off (F .indexed .ends) j c (F .off-low), F .new)
 
           old-kept : (j : ℕ) → j < m₀ → edgeIn es′ j ≡ edgeIn es j
           old-kept j c =
               let below : j < k = omega (arith, R .grown, F .behind) in
               sym (getD-tab k′ (edgeIn es′) j no-edge (omega (arith, size))) ∙ ap (λ (l : List Edge). getD l j no-edge) (E .is)
-              ∙ raise-old (newFrom off y (endOf (1 - off) es e)) (newTo off y (endOf (1 - off) es e)) (getD es (4 * e + 2) 0) (isSet (getD es (4 * e + 3) 0)) no-edge (edgesIn k es) j (omega (arith, length-tab k (edgeIn es))) (rw (getD-tab k (edgeIn es) j no-edge below) (not-there off y (endOf (1 - off) es e) (edgeIn es j) (free j c)))
+              ∙ raise-old (newFrom off y (endOf (1 - off) es e)) (newTo off y (endOf (1 - off) es e)) (getD es (4 * e + 2) 0)
+              (isSet (getD es (4 * e + 3) 0)) no-edge (edgesIn k es) j (omega (arith, length-tab k (edgeIn es)))
+              (rw (getD-tab k (edgeIn es) j no-edge below) (not-there off y (endOf (1 - off) es e) (edgeIn es j) (free j c)))
               ∙ getD-tab k (edgeIn es) j no-edge below
 
     pub redirecting-end : m₀ ≤ e → Redirected off y n lo m₀ m es₀ v k es mp

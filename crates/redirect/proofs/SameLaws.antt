@@ -18,7 +18,8 @@ use Rattle.redirect.specs.Redirect.{redirectedAll}
 use Rattle.redirect.proofs.RedirectLaws.{endAt, end-at, end-same, redirect, redirected-is}
 
 -- the edges of a vertex, redirected, by the list of edges
-all-is : (off y m : ℕ) (es : List ℕ) (v : ℕ) → off ≤ 1 → redirectedAll off y m es v ≡ map (redirect off y) (keepIf (λ (e : Edge). eqb (endAt off e) v) (edgesIn m es))
+all-is : (off y m : ℕ) (es : List ℕ) (v : ℕ) → off ≤ 1 → redirectedAll off y m es v
+    ≡ map (redirect off y) (keepIf (λ (e : Edge). eqb (endAt off e) v) (edgesIn m es))
 all-is off y m es v h =
     (λ i. map (λ (j : ℕ). redirected-is off y es j i) (edgesAt (endOf off es) m v))
     ∙ sym (map-map (redirect off y) (edgeIn es) (edgesAt (endOf off es) m v))
@@ -42,7 +43,8 @@ into-ends {n} {m} {es} E y v e k =
 module _ (m : ℕ) (es es′ : List ℕ) (same : (j : ℕ) → j < m → edgeIn es′ j ≡ edgeIn es j) where
   pub all-same : (off y v : ℕ) → off ≤ 1 → redirectedAll off y m es′ v ≡ redirectedAll off y m es v
   all-same off y v h =
-      all-is off y m es′ v h ∙ ap (λ (l : List Edge). map (redirect off y) (keepIf (λ (e : Edge). eqb (endAt off e) v) l)) (tab-ext m (edgeIn es′) (edgeIn es) same)
+      all-is off y m es′ v h ∙ ap (λ (l : List Edge). map (redirect off y) (keepIf (λ (e : Edge). eqb (endAt off e) v) l))
+      (tab-ext m (edgeIn es′) (edgeIn es) same)
       ∙ sym (all-is off y m es v h)
 
   pub indexed-same : {n : ℕ} {heads nexts : List ℕ} → length es′ ≡ length es → Indexed m n es heads nexts → Indexed m n es′ heads nexts

@@ -21,7 +21,8 @@ use Rattle.paths.proofs.RouteLaws.{Route, route-spelled}
 use Rattle.reference.specs.Reference.{Walked}
 use Rattle.reference.proofs.WalkLaws.{reference-begun}
 
-module _ {h : Held} {es vs p nodes : List ℕ} (S : Spellable h es vs p nodes) {s t : ℕ} (A : FirstSource (h .m) (h .n) es s) (B : FirstSink (h .m) (h .n) es t) where
+module _ {h : Held} {es vs p nodes : List ℕ} (S : Spellable h es vs p nodes) {s t : ℕ} (A : FirstSource (h .m) (h .n) es s) (B :
+    FirstSink (h .m) (h .n) es t) where
   abbrev g : Graph
   g = graphOf h es vs p
 
@@ -48,9 +49,11 @@ module _ {h : Held} {es vs p nodes : List ℕ} (S : Spellable h es vs p nodes) {
         module _ (some-are : c ≡ 0 → ⊥) (len : length nodes′ ≡ length nodes) where
           pub walked-route : Route g nodes′ c
           walked-route =
-              let r = reference-begun g (S .sound .bounded) (h .n) t s (numsIn c nodes′) (omega (arith, a, order-in (h .k .0) (h .n) (h .m) es vs p)) (W .found some-are (h .k .0) vs p) in
+              let r = reference-begun g (S .sound .bounded) (h .n) t s (numsIn c nodes′)
+              (omega (arith, a, order-in (h .k .0) (h .n) (h .m) es vs p)) (W .found some-are (h .k .0) vs p) in
               record { first = s; others = r .0; path = r .2; is = r .1; room = omega (arith, W .most, S .nodes-room) }
 
-          pub walked-told : {l : ℕ} {out out′ : List ℕ} → Answered (spelledIn vs p nodes′ c) out l out′ → Told (referencePathBytes g) out (record { found = true; len = l }) out′
+          pub walked-told : {l : ℕ} {out out′ : List ℕ} → Answered (spelledIn vs p nodes′ c) out l out′
+              → Told (referencePathBytes g) out (record { found = true; len = l }) out′
           unfolding spelledBy
           walked-told X = told-some (bytes-are ∙ ap (spelledBy g) (W .found some-are (h .k .0) vs p)) (answered-as (route-spelled S walked-route) X)

@@ -34,7 +34,12 @@ pub record Looking (m : ℕ) (es : List ℕ) (v e : ℕ) : Type 0 where
 
 module _ {m n : ℕ} {es heads nexts : List ℕ} (I : Indexed m n es heads nexts) {v : ℕ} where
   pub looking-start : v < n → Looking m es v (getD heads (2 * v) 0)
-  looking-start h = let N = out-index I .heads v h in record { high = N .high; hit = N .hit; left = ap (chosen m es v) (at-head (endOf 0 es) m n (λ (v : ℕ). getD heads (2 * v) 0) (λ (e : ℕ). getD nexts (2 * e) 0) v (out-index I) h) }
+  looking-start h = let N = out-index I .heads v h in record {
+    high = N .high;
+    hit = N .hit;
+    left =
+        ap (chosen m es v) (at-head (endOf 0 es) m n (λ (v : ℕ). getD heads (2 * v) 0) (λ (e : ℕ). getD nexts (2 * e) 0) v (out-index I) h);
+  }
 
   step : (e : ℕ) → e < m → endOf 0 es e ≡ v → atFrom (endOf 0 es) m v e ≡ e ∷ atFrom (endOf 0 es) m v (getD nexts (2 * e) 0)
   step e h q = at-step (endOf 0 es) m n (λ (v : ℕ). getD heads (2 * v) 0) (λ (e : ℕ). getD nexts (2 * e) 0) v e (out-index I) h q
@@ -44,7 +49,8 @@ module _ {m n : ℕ} {es heads nexts : List ℕ} (I : Indexed m n es heads nexts
     high = N .high;
     hit = λ b. N .hit b ∙ L .hit h;
     left = L .left ∙ ap (chosen m es v) (step e h (L .hit h))
-        ∙ ap (λ (l : List Edge). firstTo (l ++ map (edgeIn es) (edgesAt (endOf 0 es) m v))) (keepIf-no (λ (e : Edge). e .isRef) (edgeIn es e) (map (edgeIn es) (atFrom (endOf 0 es) m v (getD nexts (2 * e) 0))) f);
+        ∙ ap (λ (l : List Edge). firstTo (l ++ map (edgeIn es) (edgesAt (endOf 0 es) m v)))
+        (keepIf-no (λ (e : Edge). e .isRef) (edgeIn es e) (map (edgeIn es) (atFrom (endOf 0 es) m v (getD nexts (2 * e) 0))) f);
   }
 
   next-by : {x : ℕ} → x < n → chosen m es v (edgesAt (endOf 0 es) m v) ≡ some x → NextOn m n es v x
@@ -53,10 +59,12 @@ module _ {m n : ℕ} {es heads nexts : List ℕ} (I : Indexed m n es heads nexts
   pub looking-found : {e x : ℕ} → Looking m es v e → e < m → refAt es e ≡ true → x ≡ getD es (4 * e + 1) 0 → NextOn m n es v x
   unfolding firstTo
   looking-found {e} {x} L h t q = next-by (omega (arith, (I .ends .at e h) .1)) (L .left ∙ ap (chosen m es v) (step e h (L .hit h))
-      ∙ ap (λ (l : List Edge). firstTo (l ++ map (edgeIn es) (edgesAt (endOf 0 es) m v))) (keepIf-yes (λ (e : Edge). e .isRef) (edgeIn es e) (map (edgeIn es) (atFrom (endOf 0 es) m v (getD nexts (2 * e) 0))) t)
+      ∙ ap (λ (l : List Edge). firstTo (l ++ map (edgeIn es) (edgesAt (endOf 0 es) m v)))
+      (keepIf-yes (λ (e : Edge). e .isRef) (edgeIn es e) (map (edgeIn es) (atFrom (endOf 0 es) m v (getD nexts (2 * e) 0))) t)
       ∙ ap some (sym q))
 
-  pub looking-end : {e x : ℕ} (first : ℕ) → v < n → Looking m es v e → m ≤ e → first ≡ getD heads (2 * v) 0 → first < m → x ≡ getD es (4 * first + 1) 0 → NextOn m n es v x
+  pub looking-end : {e x : ℕ} (first : ℕ) → v < n → Looking m es v e → m ≤ e → first ≡ getD heads (2 * v) 0 → first < m → x
+      ≡ getD es (4 * first + 1) 0 → NextOn m n es v x
   unfolding firstTo keepIf
   looking-end {e} {x} first b L h z f q = next-by (omega (arith, (I .ends .at first f) .1)) (L .left ∙ ap (chosen m es v) (at-end (endOf 0 es) m v e h)
       ∙ ap (λ (l : List ℕ). firstTo (map (edgeIn es) l)) (at-first (out-index I) b first z f) ∙ ap some (sym q))
@@ -65,5 +73,6 @@ module _ {m n : ℕ} {es heads nexts : List ℕ} (I : Indexed m n es heads nexts
   unfolding firstTo keepIf
   looking-none first b z h = record {
     found = λ c. absurd (omega arith);
-    missing = λ _ k vs p. next-is k n m es vs p v ∙ ap (λ (l : List ℕ). firstTo (keepIf (λ (e : Edge). e .isRef) (map (edgeIn es) l) ++ map (edgeIn es) l)) (at-none (out-index I) b first z h);
+    missing = λ _ k vs p. next-is k n m es vs p v ∙ ap (λ (l : List ℕ).
+        firstTo (keepIf (λ (e : Edge). e .isRef) (map (edgeIn es) l) ++ map (edgeIn es) l)) (at-none (out-index I) b first z h);
   }

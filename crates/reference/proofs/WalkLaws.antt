@@ -51,7 +51,8 @@ next-edge : (g : Graph) (v w : ℕ) → nextOnReference g v ≡ some w → HasEd
 unfolding nextOnReference edgesFrom
 next-edge g v w q =
     let x = first-mem (keepIf (λ e. e .isRef) (edgesFrom g v) ++ edgesFrom g v) w q in
-    let a : List·Memᴰ (x .0) (edgesFrom g v) = ⊎-elim (λ k. (of-keepIf (λ (e : Edge). e .isRef) (edgesFrom g v) k) .0) (λ k. k) (List·Memᴰ·append-cases (keepIf (λ e. e .isRef) (edgesFrom g v)) (x .1)) in
+    let a : List·Memᴰ (x .0) (edgesFrom g v) = ⊎-elim (λ k. (of-keepIf (λ (e : Edge). e .isRef) (edgesFrom g v) k) .0) (λ k.
+    k) (List·Memᴰ·append-cases (keepIf (λ e. e .isRef) (edgesFrom g v)) (x .1)) in
     let b = of-keepIf (λ (e : Edge). eqb (e .from) v) (g .edges) a in
     (x .0, b .0, eqb-true (x .0 .from) v (b .1), x .2)
 
@@ -104,7 +105,8 @@ pub record Walking (m n : ℕ) (es : List ℕ) (source sink : ℕ) (nodes₀ nod
   pub below : v < n
   pub source-below : source < n
   pub len : length nodes ≡ length nodes₀
-  pub is : (k : ℕ) (vs p : List ℕ) → referencePath n (graphIn k n m es vs p) sink source ≡ prepends (numsIn c nodes) (referencePath (n - c) (graphIn k n m es vs p) sink v)
+  pub is : (k : ℕ) (vs p : List ℕ) → referencePath n (graphIn k n m es vs p) sink source
+      ≡ prepends (numsIn c nodes) (referencePath (n - c) (graphIn k n m es vs p) sink v)
 
 module _ {m n : ℕ} {es : List ℕ} {source sink : ℕ} {nodes₀ : List ℕ} where
   pub walking-start : source < n → Walking m n es source sink nodes₀ nodes₀ source 0
@@ -116,7 +118,8 @@ module _ {m n : ℕ} {es : List ℕ} {source sink : ℕ} {nodes₀ : List ℕ} w
         below = h;
         source-below = h;
         len = refl;
-        is = λ k vs p. sym (ap (λ (l : List ℕ). prepends l (referencePath (n - 0) (graphIn k n m es vs p) sink source)) (tab-zero (λ (i : ℕ). getD nodes₀ i 0)) ∙ ap (λ (x : ℕ). referencePath x (graphIn k n m es vs p) sink source) z);
+        is = λ k vs p. sym (ap (λ (l : List ℕ). prepends l (referencePath (n - 0) (graphIn k n m es vs p) sink source))
+            (tab-zero (λ (i : ℕ). getD nodes₀ i 0)) ∙ ap (λ (x : ℕ). referencePath x (graphIn k n m es vs p) sink source) z);
       }
 
   module _ {nodes : List ℕ} {v c : ℕ} (W : Walking m n es source sink nodes₀ nodes v c) (room : n ≤ length nodes₀) (h : c < n) where
@@ -126,13 +129,16 @@ module _ {m n : ℕ} {es : List ℕ} {source sink : ℕ} {nodes₀ : List ℕ} w
     fuel-is : n - c ≡ suc (n - (c + 1))
     fuel-is = omega arith
 
-    left-is : (k : ℕ) (vs p : List ℕ) → referencePath n (graphIn k n m es vs p) sink source ≡ prepends (numsIn c nodes) (referencePath (suc (n - (c + 1))) (graphIn k n m es vs p) sink v)
+    left-is : (k : ℕ) (vs p : List ℕ) → referencePath n (graphIn k n m es vs p) sink source
+        ≡ prepends (numsIn c nodes) (referencePath (suc (n - (c + 1))) (graphIn k n m es vs p) sink v)
     left-is k vs p = W .is k vs p ∙ ap (λ (x : ℕ). prepends (numsIn c nodes) (referencePath x (graphIn k n m es vs p) sink v)) fuel-is
 
     pub walking-there : v ≡ sink → Walked m n es source sink (c + 1) (set nodes c v)
     walking-there q = record {
       most = omega arith;
-      found = λ _ k vs p. left-is k vs p ∙ ap (prepends (numsIn c nodes)) (ref-here (n - (c + 1)) (graphIn k n m es vs p) sink v (eq-eqb v sink q)) ∙ prepends-some (numsIn c nodes) (v ∷ []) ∙ ap some (sym pushed);
+      found = λ _ k vs p. left-is k vs p ∙ ap (prepends (numsIn c nodes))
+          (ref-here (n - (c + 1)) (graphIn k n m es vs p) sink v (eq-eqb v sink q)) ∙ prepends-some (numsIn c nodes) (v ∷ [])
+          ∙ ap some (sym pushed);
       missing = λ z. absurd (omega arith);
     }
 
@@ -140,7 +146,8 @@ module _ {m n : ℕ} {es : List ℕ} {source sink : ℕ} {nodes₀ : List ℕ} w
     walking-stuck nodes′ q N b = record {
       most = omega arith;
       found = λ z. absurd (z refl);
-      missing = λ _ k vs p s. left-is k vs p ∙ ap (prepends (numsIn c nodes)) (ref-none (n - (c + 1)) (graphIn k n m es vs p) sink v (ne-eqb v sink q) (N .missing b k vs p)) ∙ prepends-none (numsIn c nodes);
+      missing = λ _ k vs p s. left-is k vs p ∙ ap (prepends (numsIn c nodes))
+          (ref-none (n - (c + 1)) (graphIn k n m es vs p) sink v (ne-eqb v sink q) (N .missing b k vs p)) ∙ prepends-none (numsIn c nodes);
     }
 
     pub walking-more : {w : ℕ} → (v ≡ sink → ⊥) → NextOn m n es v w → w < n → Walking m n es source sink nodes₀ (set nodes c v) w (c + 1)
@@ -149,7 +156,8 @@ module _ {m n : ℕ} {es : List ℕ} {source sink : ℕ} {nodes₀ : List ℕ} w
       below = b;
       source-below = W .source-below;
       len = length-set nodes c v ∙ W .len;
-      is = λ k vs p. left-is k vs p ∙ ap (prepends (numsIn c nodes)) (ref-step (n - (c + 1)) (graphIn k n m es vs p) sink v w (ne-eqb v sink q) (N .found b k vs p))
+      is = λ k vs p. left-is k vs p ∙ ap (prepends (numsIn c nodes))
+          (ref-step (n - (c + 1)) (graphIn k n m es vs p) sink v w (ne-eqb v sink q) (N .found b k vs p))
           ∙ sym (prepends-snoc (numsIn c nodes) v (referencePath (n - (c + 1)) (graphIn k n m es vs p) sink w))
           ∙ ap (λ (l : List ℕ). prepends l (referencePath (n - (c + 1)) (graphIn k n m es vs p) sink w)) (sym pushed);
     }
@@ -159,14 +167,24 @@ module _ {m n : ℕ} {es : List ℕ} {source sink : ℕ} {nodes₀ : List ℕ} w
   walking-end {nodes} {v} {c} W h = record { most = omega arith; found = λ z. absurd (z refl); missing = λ _ k vs p s. stop k vs p s }
     where
       last : (k : ℕ) (vs p : List ℕ) → referencePath n (graphIn k n m es vs p) sink source ≡ prepends (numsIn c nodes) (given (eqb v sink) (v ∷ []))
-      last k vs p = let z : n - c ≡ 0 = omega arith in W .is k vs p ∙ ap (λ (x : ℕ). prepends (numsIn c nodes) (referencePath x (graphIn k n m es vs p) sink v)) z ∙ unfold referencePath in refl
+      last k vs p = let z : n - c ≡ 0 = omega arith in W .is k vs p
+          ∙ ap (λ (x : ℕ). prepends (numsIn c nodes) (referencePath x (graphIn k n m es vs p) sink v)) z ∙ unfold referencePath in refl
 
       stop : (k : ℕ) (vs p : List ℕ) → Sound (graphIn k n m es vs p) → referencePath n (graphIn k n m es vs p) sink source ≡ none
       stop k vs p s = byTest (eqb v sink)
-          (λ t. absurd (too-long (last k vs p ∙ ap (λ (b : Bool). prepends (numsIn c nodes) (given b (v ∷ []))) t ∙ unfold given in (prepends-some (numsIn c nodes) (v ∷ [])))))
+          (λ t. absurd (too-long (last k vs p ∙ ap (λ (b : Bool). prepends (numsIn c nodes) (given b (v ∷ []))) t ∙ unfold given in
+          (prepends-some (numsIn c nodes) (v ∷ [])))))
           (λ t. last k vs p ∙ ap (λ (b : Bool). prepends (numsIn c nodes) (given b (v ∷ []))) t ∙ unfold given in (prepends-none (numsIn c nodes)))
         where
           too-long : referencePath n (graphIn k n m es vs p) sink source ≡ some (numsIn c nodes ++ (v ∷ [])) → ⊥
           too-long q =
-              let B = reference-begun (graphIn k n m es vs p) (s .bounded) n sink source (numsIn c nodes ++ (v ∷ [])) (omega (arith, W .source-below, order-in k n m es vs p)) q in
-              omega (arith, path-short (graphIn k n m es vs p) s source (B .0) (B .2), ap length (B .1), length-append (numsIn c nodes) (v ∷ []), length-tab c (λ (i : ℕ). getD nodes i 0), order-in k n m es vs p)
+              let B = reference-begun (graphIn k n m es vs p) (s .bounded) n sink source (numsIn c nodes ++ (v ∷ []))
+              (omega (arith, W .source-below, order-in k n m es vs p)) q in
+              omega (
+                arith,
+                path-short (graphIn k n m es vs p) s source (B .0) (B .2),
+                ap length (B .1),
+                length-append (numsIn c nodes) (v ∷ []),
+                length-tab c (λ (i : ℕ). getD nodes i 0),
+                order-in k n m es vs p,
+              )

@@ -88,17 +88,25 @@ unfolding keepIf
 node-split v [] = unfold anyOf in refl
 node-split v (e ∷ l) = byTest (e .isRef)
     (λ r. byTest (eqb (e .from) v)
-    (λ a. any-yes _ e l (rw (r, a)) ∙ sym (rw a (ap (λ (x : Bool). x || anyOf (λ (e : Edge). e .isRef) (cond (eqb (e .to) v) (e ∷ keepIf (λ (e : Edge). eqb (e .to) v) l) (keepIf (λ (e : Edge). eqb (e .to) v) l))) (any-yes (λ (e : Edge). e .isRef) e _ r))))
+    (λ a. any-yes _ e l (rw (r, a)) ∙ sym (rw a (ap (λ (x : Bool). x
+    || anyOf (λ (e : Edge). e .isRef) (cond (eqb (e .to) v) (e ∷ keepIf (λ (e : Edge). eqb (e .to) v) l)
+    (keepIf (λ (e : Edge). eqb (e .to) v) l))) (any-yes (λ (e : Edge). e .isRef) e _ r))))
     (λ a. byTest (eqb (e .to) v)
-    (λ b. any-yes _ e l (rw (r, a, b)) ∙ sym (rw (a, b) (ap (λ (x : Bool). anyOf (λ (e : Edge). e .isRef) (keepIf (λ (e : Edge). eqb (e .from) v) l) || x) (any-yes (λ (e : Edge). e .isRef) e _ r) ∙ or-true (anyOf (λ (e : Edge). e .isRef) (keepIf (λ (e : Edge). eqb (e .from) v) l)))))
+    (λ b. any-yes _ e l (rw (r, a, b)) ∙ sym (rw (a, b) (ap (λ (x : Bool).
+    anyOf (λ (e : Edge). e .isRef) (keepIf (λ (e : Edge). eqb (e .from) v) l) || x) (any-yes (λ (e : Edge). e .isRef) e _ r)
+    ∙ or-true (anyOf (λ (e : Edge). e .isRef) (keepIf (λ (e : Edge). eqb (e .from) v) l)))))
     (λ b. any-no _ e l (rw (r, a, b)) ∙ rw (a, b) (node-split v l))))
     (λ r. any-no _ e l (rw r) ∙ node-split v l ∙ sym ((λ i. drop-from (eqb (e .from) v) r i || drop-to (eqb (e .to) v) r i)))
   where
-    drop-from : (t : Bool) → e .isRef ≡ false → anyOf (λ (e : Edge). e .isRef) (cond t (e ∷ keepIf (λ (e : Edge). eqb (e .from) v) l) (keepIf (λ (e : Edge). eqb (e .from) v) l)) ≡ anyOf (λ (e : Edge). e .isRef) (keepIf (λ (e : Edge). eqb (e .from) v) l)
+    drop-from : (t : Bool) → e .isRef ≡ false → anyOf (λ (e : Edge).
+        e .isRef) (cond t (e ∷ keepIf (λ (e : Edge). eqb (e .from) v) l) (keepIf (λ (e : Edge). eqb (e .from) v) l))
+        ≡ anyOf (λ (e : Edge). e .isRef) (keepIf (λ (e : Edge). eqb (e .from) v) l)
     drop-from true r = any-no (λ (e : Edge). e .isRef) e _ r
     drop-from false r = refl
 
-    drop-to : (t : Bool) → e .isRef ≡ false → anyOf (λ (e : Edge). e .isRef) (cond t (e ∷ keepIf (λ (e : Edge). eqb (e .to) v) l) (keepIf (λ (e : Edge). eqb (e .to) v) l)) ≡ anyOf (λ (e : Edge). e .isRef) (keepIf (λ (e : Edge). eqb (e .to) v) l)
+    drop-to : (t : Bool) → e .isRef ≡ false → anyOf (λ (e : Edge).
+        e .isRef) (cond t (e ∷ keepIf (λ (e : Edge). eqb (e .to) v) l) (keepIf (λ (e : Edge). eqb (e .to) v) l))
+        ≡ anyOf (λ (e : Edge). e .isRef) (keepIf (λ (e : Edge). eqb (e .to) v) l)
     drop-to true r = any-no (λ (e : Edge). e .isRef) e _ r
     drop-to false r = refl
 
@@ -171,7 +179,9 @@ first-no p i (suc n) o = rw (o i (omega arith) (omega arith), firstOf) (first-no
 module _ {m n : ℕ} {es : List ℕ} where
   pub first-source : (v : ℕ) → v < n → ((k : ℕ) → k < v → RefSource m n es k false) → RefSource m n es v true → FirstSource m n es v
   first-source v h o t = record {
-    found = λ _ k vs p. unfold referenceSourceVertex in (rw (order-in k n m es vs p) (first-yes (isRefSource (graphIn k n m es vs p)) 0 n v (omega arith) (omega arith) (λ j a b. sym (o j b .is k vs p)) (sym (t .is k vs p))));
+    found = λ _ k vs p. unfold referenceSourceVertex in (rw (order-in k n m es vs p)
+        (first-yes (isRefSource (graphIn k n m es vs p)) 0 n v (omega arith) (omega arith) (λ j a b. sym (o j b .is k vs p))
+        (sym (t .is k vs p))));
     missing = λ b. absurd (omega arith);
     most = omega arith;
   }
@@ -179,13 +189,16 @@ module _ {m n : ℕ} {es : List ℕ} where
   pub no-source : (v : ℕ) → n ≤ v → ((k : ℕ) → k < v → RefSource m n es k false) → FirstSource m n es n
   no-source v h o = record {
     found = λ b. absurd (omega arith);
-    missing = λ _ k vs p. unfold referenceSourceVertex in (rw (order-in k n m es vs p) (first-no (isRefSource (graphIn k n m es vs p)) 0 n (λ j a b. sym (o j (omega arith) .is k vs p))));
+    missing = λ _ k vs p. unfold referenceSourceVertex in (rw (order-in k n m es vs p)
+        (first-no (isRefSource (graphIn k n m es vs p)) 0 n (λ j a b. sym (o j (omega arith) .is k vs p))));
     most = omega arith;
   }
 
   pub first-sink : (v : ℕ) → v < n → ((k : ℕ) → k < v → RefSink m n es k false) → RefSink m n es v true → FirstSink m n es v
   first-sink v h o t = record {
-    found = λ _ k vs p. unfold referenceSinkVertex in (rw (order-in k n m es vs p) (first-yes (isRefSink (graphIn k n m es vs p)) 0 n v (omega arith) (omega arith) (λ j a b. sym (o j b .is k vs p)) (sym (t .is k vs p))));
+    found = λ _ k vs p. unfold referenceSinkVertex in (rw (order-in k n m es vs p)
+        (first-yes (isRefSink (graphIn k n m es vs p)) 0 n v (omega arith) (omega arith) (λ j a b. sym (o j b .is k vs p))
+        (sym (t .is k vs p))));
     missing = λ b. absurd (omega arith);
     most = omega arith;
   }
@@ -193,7 +206,8 @@ module _ {m n : ℕ} {es : List ℕ} where
   pub no-sink : (v : ℕ) → n ≤ v → ((k : ℕ) → k < v → RefSink m n es k false) → FirstSink m n es n
   no-sink v h o = record {
     found = λ b. absurd (omega arith);
-    missing = λ _ k vs p. unfold referenceSinkVertex in (rw (order-in k n m es vs p) (first-no (isRefSink (graphIn k n m es vs p)) 0 n (λ j a b. sym (o j (omega arith) .is k vs p))));
+    missing = λ _ k vs p. unfold referenceSinkVertex in (rw (order-in k n m es vs p)
+        (first-no (isRefSink (graphIn k n m es vs p)) 0 n (λ j a b. sym (o j (omega arith) .is k vs p))));
     most = omega arith;
   }
 

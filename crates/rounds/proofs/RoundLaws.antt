@@ -16,14 +16,14 @@ use Rattle.defs.specs.Simplify as S
 use Rattle.defs.specs.Simplify.{simplifyGraphOnce, graphTopologySignature, roundsFrom, simplified, endNumber, quiet, repeated, full}
 use Rattle.tabs.proofs.Tabs.{tab-zero, length-tab}
 use Rattle.store.specs.Store.{numsIn, edgeIn}
-use Rattle.memory.specs.Memory.{graphOf, workOf, vertexRoom, Holds, Ready}
+use Rattle.memory.specs.Memory.{graphOf, workOf, vertexRoom, Holds, Ready, Countable}
 use Rattle.memory.specs.declared.Held.{Held}
 use Rattle.memory.specs.declared.Work.{Work}
 use Rattle.memory.proofs.RoomLaws.{held-vertices, held-edges, fit-bytes, holds-kept}
 use Rattle.zip.proofs.JoinLaws.{held-bytes}
 use Rattle.signature.specs.Signature.{Writable, Signature}
 use Rattle.signature.specs.declared.Signed.{Signed}
-use Rattle.rounds.specs.Rounds.{Countable, Once, Answers, Whole}
+use Rattle.rounds.specs.Rounds.{Once, Answers, Whole}
 use Rattle.rounds.specs.declared.Simplified.{Simplified}
 
 -- ---- the definition, case by case
@@ -31,20 +31,24 @@ module _ (least k n : ℕ) (sig : List ℕ) (w : Z.Work) where
   next : Z.Work
   next = simplifyGraphOnce least w
 
-  rounds-quiet : eqb ((simplifyGraphOnce least w) .rewrites) (w .rewrites) ≡ true → roundsFrom least (suc k) n sig w ≡ simplified (simplifyGraphOnce least w) (suc n) quiet
+  rounds-quiet : eqb ((simplifyGraphOnce least w) .rewrites) (w .rewrites) ≡ true → roundsFrom least (suc k) n sig w
+      ≡ simplified (simplifyGraphOnce least w) (suc n) quiet
   unfolding roundsFrom
   rounds-quiet t = rw (t, roundsFrom)
 
-  rounds-early : eqb ((simplifyGraphOnce least w) .rewrites) (w .rewrites) ≡ false → ltb n 6 ≡ true → roundsFrom least (suc k) n sig w ≡ roundsFrom least k (suc n) sig (simplifyGraphOnce least w)
+  rounds-early : eqb ((simplifyGraphOnce least w) .rewrites) (w .rewrites) ≡ false → ltb n 6 ≡ true → roundsFrom least (suc k) n sig w
+      ≡ roundsFrom least k (suc n) sig (simplifyGraphOnce least w)
   unfolding roundsFrom
   rounds-early t s = rw (t, roundsFrom) (rw s)
 
-  rounds-repeated : eqb ((simplifyGraphOnce least w) .rewrites) (w .rewrites) ≡ false → ltb n 6 ≡ false → sameList sig (graphTopologySignature ((simplifyGraphOnce least w) .graph)) ≡ true
+  rounds-repeated : eqb ((simplifyGraphOnce least w) .rewrites) (w .rewrites) ≡ false → ltb n 6 ≡ false
+      → sameList sig (graphTopologySignature ((simplifyGraphOnce least w) .graph)) ≡ true
       → roundsFrom least (suc k) n sig w ≡ simplified (simplifyGraphOnce least w) (suc n) repeated
   unfolding roundsFrom
   rounds-repeated t s e = rw (t, roundsFrom) (rw s (rw e))
 
-  rounds-on : eqb ((simplifyGraphOnce least w) .rewrites) (w .rewrites) ≡ false → ltb n 6 ≡ false → sameList sig (graphTopologySignature ((simplifyGraphOnce least w) .graph)) ≡ false
+  rounds-on : eqb ((simplifyGraphOnce least w) .rewrites) (w .rewrites) ≡ false → ltb n 6 ≡ false
+      → sameList sig (graphTopologySignature ((simplifyGraphOnce least w) .graph)) ≡ false
       → roundsFrom least (suc k) n sig w ≡ roundsFrom least k (suc n) (graphTopologySignature ((simplifyGraphOnce least w) .graph)) (simplifyGraphOnce least w)
   unfolding roundsFrom
   rounds-on t s e = rw (t, roundsFrom) (rw s (rw e))
@@ -69,7 +73,8 @@ pub record Rounding (least : ℕ) (w₀ : Work) (es₀ vs₀ p₀ heads₀ sig�
   pub is : roundsFrom least (100 - n) n (numsIn old sig) (workOf w es vs p) ≡ roundsFrom least 100 0 [] (workOf w₀ es₀ vs₀ p₀)
 
 module _ {least : ℕ} {w₀ : Work} {es₀ vs₀ p₀ heads₀ sig₀ : List ℕ} where
-  pub rounding-start : {nexts nodes mp : List ℕ} → Ready least (w₀ .held) es₀ vs₀ p₀ heads₀ nexts nodes mp → Rounding least w₀ es₀ vs₀ p₀ heads₀ sig₀ w₀ es₀ vs₀ p₀ heads₀ nexts nodes mp sig₀ 0 0
+  pub rounding-start : {nexts nodes mp : List ℕ} → Ready least (w₀ .held) es₀ vs₀ p₀ heads₀ nexts nodes mp
+      → Rounding least w₀ es₀ vs₀ p₀ heads₀ sig₀ w₀ es₀ vs₀ p₀ heads₀ nexts nodes mp sig₀ 0 0
   rounding-start R = record {
     high = omega arith;
     ready = R;
@@ -80,7 +85,8 @@ module _ {least : ℕ} {w₀ : Work} {es₀ vs₀ p₀ heads₀ sig₀ : List �
     is = ap (λ (l : List ℕ). roundsFrom least 100 0 l (workOf w₀ es₀ vs₀ p₀)) (tab-zero (λ (i : ℕ). getD sig₀ i 0));
   }
 
-  module _ {w : Work} {es vs p heads nexts nodes mp sig : List ℕ} {n old : ℕ} (Q : Rounding least w₀ es₀ vs₀ p₀ heads₀ sig₀ w es vs p heads nexts nodes mp sig n old) where
+  module _ {w : Work} {es vs p heads nexts nodes mp sig : List ℕ} {n old : ℕ} (Q :
+      Rounding least w₀ es₀ vs₀ p₀ heads₀ sig₀ w es vs p heads nexts nodes mp sig n old) where
     pub round-countable : n < 100 → Countable 500 (w₀ .rewrites) heads₀ → Countable 5 (w .rewrites) heads
     round-countable h C = record { small = rw (Q .heads-len) (omega (arith, Q .count, C .small, most)) }
       where
@@ -90,7 +96,8 @@ module _ {least : ℕ} {w₀ : Work} {es₀ vs₀ p₀ heads₀ sig₀ : List �
             bound : (x : ℕ) → x ≤ 100 → x * (5 * vertexRoom heads₀) ≤ 500 * vertexRoom heads₀
             bound x b = omega (arith, mul-le-mul-right (5 * vertexRoom heads₀) b)
 
-    module _ (h : n < 100) {r : Work} {es′ vs′ p′ heads′ nexts′ nodes′ mp′ : List ℕ} (O : Once least w es vs p r es′ vs′ p′ heads′ nexts′ nodes′ mp′) (lh : length heads′ ≡ length heads) where
+    module _ (h : n < 100) {r : Work} {es′ vs′ p′ heads′ nexts′ nodes′ mp′ : List ℕ} (O :
+        Once least w es vs p r es′ vs′ p′ heads′ nexts′ nodes′ mp′) (lh : length heads′ ≡ length heads) where
       fuel-is : 100 - n ≡ suc (100 - (n + 1))
       fuel-is = omega arith
 
@@ -103,7 +110,9 @@ module _ {least : ℕ} {w₀ : Work} {es₀ vs₀ p₀ heads₀ sig₀ : List �
       graph-is : graphOf (r .held) es′ vs′ p′ ≡ (simplifyGraphOnce least (workOf w es vs p)) .graph
       graph-is = ap (λ (x : Z.Work). x .graph) (O .is)
 
-      ended : (e : S.End) (k : ℕ) → k ≡ endNumber e → {heads″ nexts″ : List ℕ} → length heads″ ≡ length heads′ → length nexts″ ≡ length nexts′ → roundsFrom least 100 0 [] (workOf w₀ es₀ vs₀ p₀) ≡ simplified (simplifyGraphOnce least (workOf w es vs p)) (suc n) e
+      ended : (e : S.End) (k : ℕ) → k ≡ endNumber e → {heads″ nexts″ : List ℕ} → length heads″ ≡ length heads′ → length nexts″
+          ≡ length nexts′ → roundsFrom least 100 0 [] (workOf w₀ es₀ vs₀ p₀)
+          ≡ simplified (simplifyGraphOnce least (workOf w es vs p)) (suc n) e
           → Whole least w₀ es₀ vs₀ p₀ heads″ nexts″ record { held = r .held; rewrites = r .rewrites; rounds = n + 1; end = k } es′ vs′ p′
       unfolding simplified
       ended e k q a b i = record {
@@ -118,7 +127,8 @@ module _ {least : ℕ} {w₀ : Work} {es₀ vs₀ p₀ heads₀ sig₀ : List �
 
       pub round-quiet : {heads″ nexts″ : List ℕ} → length heads″ ≡ length heads′ → length nexts″ ≡ length nexts′ → r .rewrites ≡ w .rewrites
           → Whole least w₀ es₀ vs₀ p₀ heads″ nexts″ record { held = r .held; rewrites = r .rewrites; rounds = n + 1; end = 1 } es′ vs′ p′
-      round-quiet a b e = ended quiet 1 (unfold endNumber in refl) a b (sym turn ∙ rounds-quiet least (100 - (n + 1)) n (numsIn old sig) (workOf w es vs p) (eq-eqb _ _ (sym rewrites-is ∙ e)))
+      round-quiet a b e = ended quiet 1 (unfold endNumber in refl) a b (sym turn
+          ∙ rounds-quiet least (100 - (n + 1)) n (numsIn old sig) (workOf w es vs p) (eq-eqb _ _ (sym rewrites-is ∙ e)))
 
       module _ (o : r .rewrites ≡ w .rewrites → ⊥) where
         worked : eqb ((simplifyGraphOnce least (workOf w es vs p)) .rewrites) (w .rewrites) ≡ false
@@ -135,13 +145,15 @@ module _ {least : ℕ} {w₀ : Work} {es₀ vs₀ p₀ heads₀ sig₀ : List �
           sig-len = Q .sig-len;
           old-room = Q .old-room;
           count = omega (arith, Q .count, O .most, more, lh, Q .heads-len);
-          is = (λ j. roundsFrom least (100 - (n + 1)) (add-one n j) (numsIn old sig) (O .is j)) ∙ sym (rounds-early least (100 - (n + 1)) n (numsIn old sig) (workOf w es vs p) worked (lt-ltb n 6 (omega arith))) ∙ turn;
+          is = (λ j. roundsFrom least (100 - (n + 1)) (add-one n j) (numsIn old sig) (O .is j))
+              ∙ sym (rounds-early least (100 - (n + 1)) n (numsIn old sig) (workOf w es vs p) worked (lt-ltb n 6 (omega arith))) ∙ turn;
         }
 
         pub round-writable : 2 + 2 * vertexRoom heads₀ ≤ length sig₀ → Writable sig old (r .held) vs′ p′
         round-writable b =
             let H = O .ready .holds in
-            let W : Rattle.store.specs.Store.Within (length p′) (r .held .n) vs′ = record { at = λ v c. omega (arith, H .within .at v c, H .used-room, O .ready .room .p-room) } in
+            let W : Rattle.store.specs.Store.Within (length p′) (r .held .n) vs′ =
+            record { at = λ v c. omega (arith, H .within .at v c, H .used-room, O .ready .room .p-room) } in
             record {
               old-room = Q .old-room;
               vs-room = omega (arith, held-vertices H, O .ready .room .vs-room);
@@ -163,9 +175,11 @@ module _ {least : ℕ} {w₀ : Work} {es₀ vs₀ p₀ heads₀ sig₀ : List �
 
           pub round-repeated : {heads″ nexts″ : List ℕ} → length heads″ ≡ length heads′ → length nexts″ ≡ length nexts′ → s .same ≡ true
               → Whole least w₀ es₀ vs₀ p₀ heads″ nexts″ record { held = r .held; rewrites = r .rewrites; rounds = n + 1; end = 2 } es′ vs′ p′
-          round-repeated a b t = ended repeated 2 (unfold endNumber in refl) a b (sym turn ∙ rounds-repeated least (100 - (n + 1)) n (numsIn old sig) (workOf w es vs p) worked late (sym same-is ∙ t))
+          round-repeated a b t = ended repeated 2 (unfold endNumber in refl) a b (sym turn
+              ∙ rounds-repeated least (100 - (n + 1)) n (numsIn old sig) (workOf w es vs p) worked late (sym same-is ∙ t))
 
-          pub round-on : s .same ≡ false → length sig′ ≡ length sig → Rounding least w₀ es₀ vs₀ p₀ heads₀ sig₀ r es′ vs′ p′ heads′ nexts′ nodes′ mp′ sig′ (n + 1) (s .at)
+          pub round-on : s .same ≡ false → length sig′ ≡ length sig
+              → Rounding least w₀ es₀ vs₀ p₀ heads₀ sig₀ r es′ vs′ p′ heads′ nexts′ nodes′ mp′ sig′ (n + 1) (s .at)
           round-on t l = record {
             high = omega arith;
             ready = O .ready;
@@ -180,11 +194,14 @@ module _ {least : ℕ} {w₀ : Work} {es₀ vs₀ p₀ heads₀ sig₀ : List �
               sig-is : numsIn (s .at) sig′ ≡ graphTopologySignature ((simplifyGraphOnce least (workOf w es vs p)) .graph)
               sig-is = G .is (graphOf (r .held) es′ vs′ p′) refl edges-are ∙ ap graphTopologySignature graph-is
 
-    pub round-full : 100 ≤ n → {heads″ nexts″ : List ℕ} → length heads″ ≡ length heads → length nexts″ ≡ length nexts → Whole least w₀ es₀ vs₀ p₀ heads″ nexts″ record { held = w .held; rewrites = w .rewrites; rounds = n; end = 3 } es vs p
+    pub round-full : 100 ≤ n → {heads″ nexts″ : List ℕ} → length heads″ ≡ length heads → length nexts″ ≡ length nexts
+        → Whole least w₀ es₀ vs₀ p₀ heads″ nexts″ record { held = w .held; rewrites = w .rewrites; rounds = n; end = 3 } es vs p
     unfolding simplified
     round-full b a c =
         let z : 100 - n ≡ 0 = omega (arith, Q .high) in
-        let i : roundsFrom least 100 0 [] (workOf w₀ es₀ vs₀ p₀) ≡ simplified (workOf w es vs p) n full = sym (Q .is) ∙ ap (λ (x : ℕ). roundsFrom least x n (numsIn old sig) (workOf w es vs p)) z ∙ rounds-full least n (numsIn old sig) (workOf w es vs p) in
+        let i : roundsFrom least 100 0 [] (workOf w₀ es₀ vs₀ p₀) ≡ simplified (workOf w es vs p) n full = sym (Q .is)
+        ∙ ap (λ (x : ℕ). roundsFrom least x n (numsIn old sig) (workOf w es vs p)) z
+        ∙ rounds-full least n (numsIn old sig) (workOf w es vs p) in
         record {
           answers = record {
             graph = sym (ap (λ (x : S.Simplified). x .graph) i);

@@ -1,12 +1,11 @@
 -- What rounds leave. Assumes nothing.
 use mathlib.Core.Path.{_≡_}
 use mathlib.Core.List.{List, []}
-use Prim.Native.Nat.{ℕ, _+_, _*_, _≤_, _<_}
-use lib.ListN.{length}
+use Prim.Native.Nat.{ℕ, _+_, _*_, _≤_}
 use Rattle.defs.specs.SeqGraph.{Graph}
 use Rattle.defs.specs.Simplify as S
 use Rattle.defs.specs.Simplify.{simplifyGraphOnce, roundsFrom, simplifyGraphFull, endNumber}
-use Rattle.memory.specs.Memory.{graphOf, workOf, vertexRoom, Room, Holds, Ready}
+use Rattle.memory.specs.Memory.{graphOf, workOf, vertexRoom, Holds, Ready}
 use Rattle.memory.specs.declared.Held.{Held}
 use Rattle.memory.specs.declared.Work.{Work}
 use Rattle.rounds.specs.declared.Simplified.{Simplified}
@@ -14,15 +13,6 @@ use Rattle.rounds.specs.declared.Simplified.{Simplified}
 -- a run that ended: its work, the rounds, the number of its end
 abbrev pub ended : Work → ℕ → ℕ → Simplified
 ended w rounds end = record { held = w .held; rewrites = w .rewrites; rounds = rounds; end = end }
-
--- the lists of chain starts and of tried vertices have room for every vertex
-pub record Scratch (heads starts tried : List ℕ) : Type 0 where
-  pub starts-room : length heads ≤ 2 * length starts + 1
-  pub tried-room : vertexRoom heads ≤ length tried
-
--- so many stages of rewrites can be counted on
-pub record Countable (stages rewrites : ℕ) (heads : List ℕ) : Type 0 where
-  pub small : rewrites + stages * vertexRoom heads < 4294967296
 
 pub record Once (least : ℕ) (w : Work) (es vs p : List ℕ) (r : Work) (es′ vs′ p′ heads′ nexts′ nodes′ mp′ : List ℕ) : Type 0 where
   pub ready : Ready least (r .held) es′ vs′ p′ heads′ nexts′ nodes′ mp′
@@ -39,15 +29,6 @@ pub record Answers (s : S.Simplified) (r : Simplified) (es vs p : List ℕ) : Ty
 pub record Whole (least : ℕ) (w : Work) (es vs p heads nexts : List ℕ) (r : Simplified) (es′ vs′ p′ : List ℕ) : Type 0 where
   pub answers : Answers (roundsFrom least 100 0 [] (workOf w es vs p)) r es′ vs′ p′
   pub holds : Holds (r .held) es′ vs′ p′ heads nexts
-
--- a held graph, room for its rewrites and for the lists of a round, and a least suffix of tails of 4 or more
-pub record Simplifiable (least : ℕ) (h : Held) (es vs p heads nexts nodes mp starts tried sig : List ℕ) : Type 0 where
-  pub least-is : 3 < least
-  pub room : Room es vs p heads nexts nodes mp
-  pub holds : Holds h es vs p heads nexts
-  pub scratch : Scratch heads starts tried
-  pub sig-room : 2 + 2 * vertexRoom heads ≤ length sig
-  pub countable : Countable 501 0 heads
 
 -- the answer is that of the whole simplification
 pub record Full (least : ℕ) (h : Held) (es vs p heads nexts : List ℕ) (r : Simplified) (es′ vs′ p′ : List ℕ) : Type 0 where

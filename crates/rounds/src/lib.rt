@@ -2,8 +2,8 @@
 ghost use mathlib.Core.Path.{_≡_};
 ghost use Prim.Native.Nat.{ℕ, _+_, _*_, _<_, _≤_};
 ghost use lib.ListN.{length};
-ghost use Rattle.memory.specs.Memory.{graphOf, vertexRoom, Room, Holds, Ready};
-ghost use Rattle.rounds.specs.Rounds.{ended, Scratch, Countable, Once, Whole, Simplifiable, Full};
+ghost use Rattle.memory.specs.Memory.{graphOf, vertexRoom, Room, Holds, Ready, Scratch, Countable, Simplifiable};
+ghost use Rattle.rounds.specs.Rounds.{ended, Once, Whole, Full};
 use memory::Held;
 use memory::Work;
 
@@ -41,8 +41,10 @@ pub fn simplify_graph_once(
     starts: &mut [u32],
     tried: &mut [u64],
 ) -> Work
-    requires { ⌜ Ready least (work .held) (now es) (now vs) (now p) (now heads) (now nexts) (now nodes) (now map) × (Countable 5 (work .rewrites) (now heads) × Scratch (now heads) (now starts) (now tried)) ⌝ }
-    ensures { λ r. ⌜ Once least work (now (es .entry)) (now (vs .entry)) (now (p .entry)) r (now (es .exit)) (now (vs .exit)) (now (p .exit)) (now (heads .exit)) (now (nexts .exit)) (now (nodes .exit)) (now (map .exit)) ⌝ }
+    requires { ⌜ Ready least (work .held) (now es) (now vs) (now p) (now heads) (now nexts) (now nodes) (now map)
+        × (Countable 5 (work .rewrites) (now heads) × Scratch (now heads) (now starts) (now tried)) ⌝ }
+    ensures { λ r. ⌜ Once least work (now (es .entry)) (now (vs .entry)) (now (p .entry)) r (now (es .exit)) (now (vs .exit))
+        (now (p .exit)) (now (heads .exit)) (now (nexts .exit)) (now (nodes .exit)) (now (map .exit)) ⌝ }
 {
     let a = until::transform_until_complete(1, least, work, es, vs, p, heads, nexts, nodes, map);
     let b = until::transform_until_complete(2, least, a, es, vs, p, heads, nexts, nodes, map);
@@ -66,8 +68,11 @@ pub fn simplify_rounds(
     tried: &mut [u64],
     sig: &mut [u32],
 ) -> Simplified
-    requires { ⌜ Ready least (work .held) (now es) (now vs) (now p) (now heads) (now nexts) (now nodes) (now map) × (Countable 500 (work .rewrites) (now heads) × (Scratch (now heads) (now starts) (now tried) × (2 + 2 * vertexRoom (now heads) ≤ length (now sig)))) ⌝ }
-    ensures { λ r. ⌜ Whole least work (now (es .entry)) (now (vs .entry)) (now (p .entry)) (now (heads .entry)) (now (nexts .entry)) r (now (es .exit)) (now (vs .exit)) (now (p .exit)) ⌝ }
+    requires { ⌜ Ready least (work .held) (now es) (now vs) (now p) (now heads) (now nexts) (now nodes) (now map)
+        × (Countable 500 (work .rewrites) (now heads) × (Scratch (now heads) (now starts) (now tried)
+        × (2 + 2 * vertexRoom (now heads) ≤ length (now sig)))) ⌝ }
+    ensures { λ r. ⌜ Whole least work (now (es .entry)) (now (vs .entry)) (now (p .entry)) (now (heads .entry)) (now (nexts .entry)) r
+        (now (es .exit)) (now (vs .exit)) (now (p .exit)) ⌝ }
 {
     let mut w = work;
     let mut n = 0u32;
@@ -107,7 +112,8 @@ pub fn simplify_graph_full(
     sig: &mut [u32],
 ) -> Simplified
     requires { ⌜ Simplifiable least held (now es) (now vs) (now p) (now heads) (now nexts) (now nodes) (now map) (now starts) (now tried) (now sig) ⌝ }
-    ensures { λ r. ⌜ Full least held (now (es .entry)) (now (vs .entry)) (now (p .entry)) (now (heads .entry)) (now (nexts .entry)) r (now (es .exit)) (now (vs .exit)) (now (p .exit)) ⌝ }
+    ensures { λ r. ⌜ Full least held (now (es .entry)) (now (vs .entry)) (now (p .entry)) (now (heads .entry)) (now (nexts .entry)) r
+        (now (es .exit)) (now (vs .exit)) (now (p .exit)) ⌝ }
 {
     index::build_index(es, held.m, held.n, heads, nexts);
     let work = Work {

@@ -63,7 +63,8 @@ pub extern "C" fn sg_path_bases_bytes(
     out: &mut [u8],
     tally: Tally,
 ) -> Answer
-    ensures { λ r. ⌜ Responds (pathBasesBytesResponse (now (rec .entry)) start (now (edges .entry)) (length (now (out .entry)))) (now (out .entry)) tally r (now (out .exit)) ⌝ }
+    ensures { λ r. ⌜ Responds (pathBasesBytesResponse (now (rec .entry)) start (now (edges .entry)) (length (now (out .entry))))
+        (now (out .entry)) tally r (now (out .exit)) ⌝ }
 {
     string_calls::path_bases_bytes(rec, start, edges, out, tally)
 }

@@ -33,25 +33,33 @@ greatest z [] b h = absurd (omega arith)
 greatest z (x ∷ l) b h = greatest-by z x l (h x (List·Memᴰ·head refl)) (λ s m. h s (List·Memᴰ·tail m))
 
 -- what all begin with, and nothing longer
-common-is : (l : List (List ℕ)) (q : List ℕ) → 0 < length l → ((s : List ℕ) → List·Memᴰ s l → Begins q s) → ((b : ℕ) → ((s : List ℕ) → List·Memᴰ s l → Begins (q ++ (b ∷ [])) s) → ⊥) → commonPrefix l ≡ q
+common-is : (l : List (List ℕ)) (q : List ℕ) → 0 < length l → ((s : List ℕ) → List·Memᴰ s l → Begins q s)
+    → ((b : ℕ) → ((s : List ℕ) → List·Memᴰ s l → Begins (q ++ (b ∷ [])) s) → ⊥) → commonPrefix l ≡ q
 common-is l q h each stop = go (greatest q l h each)
   where
     go : Begins q (commonPrefix l) → commonPrefix l ≡ q
     go ([], e) = e ∙ append-nil q
-    go (b ∷ t, e) = absurd (stop b (λ s m. let k = sharedPrefix-each l m in (t ++ k .0, k .1 ∙ ap (λ (x : List ℕ). x ++ k .0) e ∙ rw (append-assoc q (b ∷ t) (k .0), append-assoc q (b ∷ []) (t ++ k .0)))))
+    go (b ∷ t, e) = absurd (stop b (λ s m. let k = sharedPrefix-each l m in
+        (t ++ k .0, k .1 ∙ ap (λ (x : List ℕ). x ++ k .0) e ∙ rw (append-assoc q (b ∷ t) (k .0), append-assoc q (b ∷ []) (t ++ k .0)))))
 
 begins-tab : (r n : ℕ) (f g : ℕ → ℕ) → r ≤ n → ((i : ℕ) → i < r → g i ≡ f i) → Begins (tab r f) (tab n g)
 begins-tab r n f g h same =
-    let e : n ≡ r + (n - r) = omega arith in
-    (tab (n - r) (λ (i : ℕ). g (r + i)), ap (λ (x : ℕ). tab x g) e ∙ tab-append r (n - r) g ∙ ap (λ (l : List ℕ). l ++ tab (n - r) (λ (i : ℕ). g (r + i))) (tab-ext r g f same))
+    let e : n ≡ r + (n - r) = omega arith in (
+      tab (n - r) (λ (i : ℕ). g (r + i)),
+      ap (λ (x : ℕ). tab x g) e ∙ tab-append r (n - r) g
+          ∙ ap (λ (l : List ℕ). l ++ tab (n - r) (λ (i : ℕ). g (r + i))) (tab-ext r g f same),
+    )
 
 of-begins : (r n : ℕ) (f g : ℕ → ℕ) (b : ℕ) → Begins (tab r f ++ (b ∷ [])) (tab n g) → (r < n) × (g r ≡ b)
 of-begins r n f g b (t, e) =
     let l = length-append (tab r f ++ (b ∷ [])) t in
     let k = length-append (tab r f) (b ∷ []) in
     let h : r < n = omega (arith, ap length e, l, k, length-tab r f, length-tab n g) in
-    let z : length (tab r f) + 0 ≡ r = omega (arith, length-tab r f) in
-    (h, sym (getD-tab n g r 0 h) ∙ ap (λ (x : List ℕ). getD x r 0) (e ∙ append-assoc (tab r f) (b ∷ []) t) ∙ ap (λ (i : ℕ). getD (tab r f ++ (b ∷ t)) i 0) (sym z) ∙ getD-append-add (tab r f) (b ∷ t) 0 0)
+    let z : length (tab r f) + 0 ≡ r = omega (arith, length-tab r f) in (
+      h,
+      sym (getD-tab n g r 0 h) ∙ ap (λ (x : List ℕ). getD x r 0) (e ∙ append-assoc (tab r f) (b ∷ []) t)
+          ∙ ap (λ (i : ℕ). getD (tab r f ++ (b ∷ t)) i 0) (sym z) ∙ getD-append-add (tab r f) (b ∷ t) 0 0,
+    )
 
 -- ---- c sequences by index: the k-th has L k bytes, f k i at place i
 

@@ -37,7 +37,8 @@ unfolding tabFrom
 reverse-tab zero f = refl
 reverse-tab (suc n) f =
     ap reverse (ap (λ (k : ℕ). tab k f) (sym (add-one n)) ∙ tab-snoc n f) ∙ reverse-append (tab n f) (f n ∷ [])
-    ∙ ap (λ (l : List ℕ). f n ∷ l) (reverse-tab n f ∙ tab-ext n (λ (j : ℕ). f (n - 1 - j)) (λ (j : ℕ). f (suc n - 1 - suc j)) (λ j h. ap f (omega arith)) ∙ sym (tab-shift 0 n (λ (j : ℕ). f (suc n - 1 - j))))
+    ∙ ap (λ (l : List ℕ). f n ∷ l) (reverse-tab n f ∙ tab-ext n (λ (j : ℕ). f (n - 1 - j)) (λ (j : ℕ). f (suc n - 1 - suc j)) (λ j h.
+    ap f (omega arith)) ∙ sym (tab-shift 0 n (λ (j : ℕ). f (suc n - 1 - j))))
     ∙ ap (λ (x : ℕ). f x ∷ tabFrom 1 n (λ (j : ℕ). f (suc n - 1 - j))) (omega arith)
 
 reverse-part : (p : List ℕ) (a n e : ℕ) → a + n ≡ e → e ≤ length p → reverse (part p a n) ≡ tab n (λ (j : ℕ). getD p (e - 1 - j) 0)
@@ -55,11 +56,14 @@ drop-part p a n s h b = ext-getD 0 _ _ (length-drop s (part p a n) ∙ omega (ar
     len′ = length-part p (a + s) (n - s) (omega arith)
 
     byte : (i : ℕ) → i < n - s → getD (drop s (part p a n)) i 0 ≡ getD (part p (a + s) (n - s)) i 0
-    byte i c = getD-drop s (part p a n) i 0 ∙ getD-take n (drop a p) (s + i) 0 (omega arith) ∙ getD-drop a p (s + i) 0 ∙ ap (λ (x : ℕ). getD p x 0) (omega arith)
+    byte i c = getD-drop s (part p a n) i 0 ∙ getD-take n (drop a p) (s + i) 0 (omega arith) ∙ getD-drop a p (s + i) 0
+        ∙ ap (λ (x : ℕ). getD p x 0) (omega arith)
         ∙ sym (getD-take (n - s) (drop (a + s) p) i 0 c ∙ getD-drop (a + s) p i 0)
 
 pub take-part : (p : List ℕ) (a n s : ℕ) → s ≤ n → a + n ≤ length p → take s (part p a n) ≡ part p a s
-take-part p a n s h b = ext-getD 0 _ _ (length-take-le s (part p a n) (omega (arith, length-part p a n b)) ∙ sym (length-part p a s (omega arith))) (λ i c. byte i (omega (arith, length-take-le s (part p a n) (omega (arith, length-part p a n b)))))
+take-part p a n s h b = ext-getD 0 _ _ (length-take-le s (part p a n) (omega (arith, length-part p a n b))
+    ∙ sym (length-part p a s (omega arith))) (λ i c. byte i
+    (omega (arith, length-take-le s (part p a n) (omega (arith, length-part p a n b)))))
   where
     byte : (i : ℕ) → i < s → getD (take s (part p a n)) i 0 ≡ getD (part p a s) i 0
     byte i c = getD-take s (part p a n) i 0 c ∙ getD-take n (drop a p) i 0 (omega arith) ∙ sym (getD-take s (drop a p) i 0 c)

@@ -57,7 +57,8 @@ unfolding printedAnswer respondTo
 number-text zero result z ne = absurd (ne refl)
 number-text (suc n) result z ne = refl
 
-zero-text : {n : ℕ} (result : List ℕ) (z : S.Simplified) {a : Response} → n ≡ 0 → fits 65536 result ≡ a → printedAnswer (respondTo n result) z ≡ printedAnswer a z
+zero-text : {n : ℕ} (result : List ℕ) (z : S.Simplified) {a : Response} → n ≡ 0 → fits 65536 result ≡ a
+    → printedAnswer (respondTo n result) z ≡ printedAnswer a z
 unfolding respondTo
 zero-text result z q e = ap (λ (n : ℕ). printedAnswer (respondTo n result) z) q ∙ ap (λ (a : Response). printedAnswer a z) e
 
@@ -70,7 +71,8 @@ unfolding printedAnswer
 accepted-text result z = refl
 
 module _ {number : ℕ} {s : Simplified} {es vs p text : List ℕ} (P : Printing number s es vs p text) where
-  pub answer-refused : {text′ : List ℕ} {r : ℕ} → (number ≡ 0 → ⊥) → Put 19 (printedRefusal number) text 0 r text′ → Put 340000 (answerText number s es vs p) text 0 r text′
+  pub answer-refused : {text′ : List ℕ} {r : ℕ} → (number ≡ 0 → ⊥) → Put 19 (printedRefusal number) text 0 r text′
+      → Put 340000 (answerText number s es vs p) text 0 r text′
   answer-refused ne W = put-as (sym (number-text number (encode sequenceGraph 0 (graphOf (s .held) es vs p)) _ ne)) (put-most (omega arith) W)
 
   module _ (ok : number ≡ 0) where
@@ -84,8 +86,10 @@ module _ {number : ℕ} {s : Simplified} {es vs p text : List ℕ} (P : Printing
     answer-measured = record { vs-room = B .vs-room; small = omega (arith, B .vertices, B .edges, B .bytes) }
 
     module _ {len : ℕ} (q : len ≡ 32 + 2 * s .held .n + 9 * s .held .m + bytesIn (s .held .n) vs) where
-      pub answer-over : {text′ : List ℕ} {r : ℕ} → 65536 < len → Put 19 (printedRefusal 11) text 0 r text′ → Put 340000 (answerText number s es vs p) text 0 r text′
-      answer-over h W = put-as (sym (zero-text (encode sequenceGraph 0 (graphOf (s .held) es vs p)) _ ok (fits-short 65536 _ (omega (arith, long-is, q))) ∙ refused-text 11 _)) (put-most (omega arith) W)
+      pub answer-over : {text′ : List ℕ} {r : ℕ} → 65536 < len → Put 19 (printedRefusal 11) text 0 r text′
+          → Put 340000 (answerText number s es vs p) text 0 r text′
+      answer-over h W = put-as (sym (zero-text (encode sequenceGraph 0 (graphOf (s .held) es vs p)) _ ok
+          (fits-short 65536 _ (omega (arith, long-is, q))) ∙ refused-text 11 _)) (put-most (omega arith) W)
 
       module _ (h : len ≤ 65536) where
         text-fits : graphMost (s .held) vs ≤ 340000
@@ -102,13 +106,17 @@ module _ {number : ℕ} {s : Simplified} {es vs p text : List ℕ} (P : Printing
           room = omega (arith, text-fits, P .room);
         }
 
-        pub answer-graph : {text′ : List ℕ} {r : ℕ} → Put (graphMost (s .held) vs) (printedGraph (simplifiedIn (s .held) (s .rewrites) (s .rounds) (s .end) es vs p)) text 0 r text′ → Put 340000 (answerText number s es vs p) text 0 r text′
-        answer-graph W = put-as (sym (zero-text (encode sequenceGraph 0 (graphOf (s .held) es vs p)) _ ok (fits-enough 65536 _ (omega (arith, long-is, q))) ∙ accepted-text _ _)) (put-most text-fits W)
+        pub answer-graph : {text′ : List ℕ} {r : ℕ} → Put (graphMost (s .held) vs)
+            (printedGraph (simplifiedIn (s .held) (s .rewrites) (s .rounds) (s .end) es vs p)) text 0 r text′
+            → Put 340000 (answerText number s es vs p) text 0 r text′
+        answer-graph W = put-as (sym (zero-text (encode sequenceGraph 0 (graphOf (s .held) es vs p)) _ ok
+            (fits-enough 65536 _ (omega (arith, long-is, q))) ∙ accepted-text _ _)) (put-most text-fits W)
 
 -- ---- the whole
 
 module _ {bs es vs p heads nexts nodes mp starts tried sig : List ℕ} (Z : Lent bs es vs p heads nexts nodes mp starts tried sig) where
-  bounded : {h : Held} {es′ vs′ p′ : List ℕ} → Holds h es′ vs′ p′ heads nexts → length es′ ≡ length es → length vs′ ≡ length vs → length p′ ≡ length p → Bounded h es′ vs′ p′
+  bounded : {h : Held} {es′ vs′ p′ : List ℕ} → Holds h es′ vs′ p′ heads nexts → length es′ ≡ length es → length vs′ ≡ length vs → length p′
+      ≡ length p → Bounded h es′ vs′ p′
   bounded {h} {es′} {vs′} {p′} H a b c = record {
     vertices = omega (arith, held-vertices H, Z .graph .vertices-most);
     edges = omega (arith, held-edges H, Z .graph .edges-most);
@@ -126,7 +134,8 @@ module _ {bs es vs p heads nexts nodes mp starts tried sig : List ℕ} (Z : Lent
   made-printing A q a b c h = record { bounded = λ z. bounded (A .holds (A .number ∙ causes-none bs (sym q ∙ z))) a b c; room = h }
 
 -- the simplification that is held is the definition's
-simplified-is : {z : S.Simplified} {s : Simplified} {es vs p : List ℕ} → Answers z s es vs p → simplifiedIn (s .held) (s .rewrites) (s .rounds) (s .end) es vs p ≡ z
+simplified-is : {z : S.Simplified} {s : Simplified} {es vs p : List ℕ} → Answers z s es vs p
+    → simplifiedIn (s .held) (s .rewrites) (s .rounds) (s .end) es vs p ≡ z
 simplified-is {z} A = λ i. record { graph = A .graph i; rewrites = A .rewrites i; rounds = A .rounds i; end = (ap endOf (A .end) ∙ end-back (z .end)) i }
 
 respond-is : (causes : List Cause) (result : List ℕ) (n : ℕ) → refusalOf causes ≡ n → respond causes 65536 result ≡ respondTo n result
@@ -142,18 +151,21 @@ put-front {s} {text} {text′} {r} h P =
     let e : 0 + length s ≡ r = omega (arith, P .end) in
     P .is ∙ sets-eq s text 0 (omega (arith, P .size)) ∙ ap (λ (x : ℕ). s ++ drop x text) e
 
-module _ {bs heads nexts : List ℕ} {made : Made} {es vs p : List ℕ} (A : MadeOf bs heads nexts made es vs p) {number : ℕ} (q : number ≡ refusalOf (inputCauses bs)) where
+module _ {bs heads nexts : List ℕ} {made : Made} {es vs p : List ℕ} (A : MadeOf bs heads nexts made es vs p) {number : ℕ} (q : number
+    ≡ refusalOf (inputCauses bs)) where
   by-number : shown bs ≡ printedAnswer (respondTo number (encode sequenceGraph 0 (answerFor bs .graph))) (answerFor bs)
   unfolding shown
   by-number = ap (λ (a : Response). printedAnswer a (answerFor bs)) (respond-is (inputCauses bs) (encode sequenceGraph 0 (answerFor bs .graph)) number (sym q))
 
   made-is : answerText number (made .simplified) es vs p ≡ shown bs
   made-is = elim (ℕ-discrete number 0) [
-    | yes z ↦ (let e = simplified-is (A .answers (A .number ∙ causes-none bs (sym q ∙ z))) in λ i. printedAnswer (respondTo number (encode sequenceGraph 0 (e i .graph))) (e i)) ∙ sym by-number
+    | yes z ↦ (let e = simplified-is (A .answers (A .number ∙ causes-none bs (sym q ∙ z))) in λ i.
+        printedAnswer (respondTo number (encode sequenceGraph 0 (e i .graph))) (e i)) ∙ sym by-number
     | no ne ↦ number-text number _ _ ne ∙ sym (number-text number _ _ ne) ∙ sym by-number
   ]
 
-  pub made-shown : {text text′ : List ℕ} {r : ℕ} → 340000 ≤ length text → Put 340000 (answerText number (made .simplified) es vs p) text 0 r text′ → Shown bs text r text′
+  pub made-shown : {text text′ : List ℕ} {r : ℕ} → 340000 ≤ length text
+      → Put 340000 (answerText number (made .simplified) es vs p) text 0 r text′ → Shown bs text r text′
   made-shown h P = let Q = put-as made-is P in record { long = omega (arith, Q .end); is = put-front h Q }
 
 -- the text ends within the slice

@@ -53,7 +53,8 @@ fn show_in(
     tried: &mut [u64],
     sig: &mut [u32],
 ) -> usize
-    requires { ⌜ (340000 ≤ length (now text)) × Lent (now rec) (now es) (now vs) (now p) (now heads) (now nexts) (now nodes) (now map) (now starts) (now tried) (now sig) ⌝ }
+    requires { ⌜ (340000 ≤ length (now text)) × Lent (now rec) (now es) (now vs) (now p) (now heads) (now nexts) (now nodes) (now map)
+        (now starts) (now tried) (now sig) ⌝ }
     ensures { λ r. ⌜ Shown (now (rec .entry)) (now (text .entry)) r (now (text .exit)) ⌝ }
 {
     let made = simplify_graph::read_and_simplify(

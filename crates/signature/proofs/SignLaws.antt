@@ -29,7 +29,8 @@ use Rattle.signature.specs.declared.Signed.{Signed}
 
 pub same-append : (l : List ℕ) (old at : ℕ) (xs ys : List ℕ) → sameFrom l old at (xs ++ ys) ≡ sameFrom l old at xs && sameFrom l old (at + length xs) ys
 same-append l old at [] ys = ap (λ (x : ℕ). sameFrom l old x ys) (sym (add-zero at))
-same-append l old at (x ∷ xs) ys = ap (λ (b : Bool). sameAt l old at x && b) (same-append l old (suc at) xs ys ∙ ap (λ (z : ℕ). sameFrom l old (suc at) xs && sameFrom l old z ys) place) ∙ and-assoc (sameAt l old at x) _ _
+same-append l old at (x ∷ xs) ys = ap (λ (b : Bool). sameAt l old at x && b) (same-append l old (suc at) xs ys
+    ∙ ap (λ (z : ℕ). sameFrom l old (suc at) xs && sameFrom l old z ys) place) ∙ and-assoc (sameAt l old at x) _ _
   where
     place : suc at + length xs ≡ at + suc (length xs)
     place = omega arith
@@ -54,15 +55,19 @@ over-none l old s = record { at = omega arith; same = and-true (s .same); is = �
     and-true true = refl
     and-true false = refl
 
-pub over-then : {l l₁ l₂ : List ℕ} {old : ℕ} {s r₁ r₂ : Signed} {xs ys : List ℕ} → Over l old s xs r₁ l₁ → Over l₁ old r₁ ys r₂ l₂ → Over l old s (xs ++ ys) r₂ l₂
+pub over-then : {l l₁ l₂ : List ℕ} {old : ℕ} {s r₁ r₂ : Signed} {xs ys : List ℕ} → Over l old s xs r₁ l₁ → Over l₁ old r₁ ys r₂ l₂
+    → Over l old s (xs ++ ys) r₂ l₂
 over-then {l} {l₁} {l₂} {old} {s} {r₁} {r₂} {xs} {ys} A B = record {
   at = omega (arith, A .at, B .at, length-append xs ys);
   same = and-more (s .same) (sameFrom l old (s .at) xs) (sameFrom l old (s .at + length xs) ys) (r₂ .same)
-      (B .same ∙ (λ i. A .same i && sameFrom l₁ old (A .at i) ys) ∙ ap (λ (b : Bool). (s .same && sameFrom l old (s .at) xs) && b) (same-kept l l₁ old (s .at + length xs) ys (λ k h. A .behind k h)))
+      (B .same ∙ (λ i. A .same i && sameFrom l₁ old (A .at i) ys)
+      ∙ ap (λ (b : Bool). (s .same && sameFrom l old (s .at) xs)
+      && b) (same-kept l l₁ old (s .at + length xs) ys (λ k h. A .behind k h)))
       ∙ ap (λ (b : Bool). s .same && b) (sym (same-append l old (s .at) xs ys));
   is = λ i h. byOrder (length xs) i
       (λ b. let q : s .at + i ≡ r₁ .at + (i - length xs) = omega (arith, A .at) in
-      ap (λ (x : ℕ). getD l₂ x 0) q ∙ B .is (i - length xs) (omega (arith, h, length-append xs ys)) ∙ sym (getD-append-add xs ys (i - length xs) 0) ∙ ap (getD-at (xs ++ ys)) (omega arith))
+      ap (λ (x : ℕ). getD l₂ x 0) q ∙ B .is (i - length xs) (omega (arith, h, length-append xs ys))
+      ∙ sym (getD-append-add xs ys (i - length xs) 0) ∙ ap (getD-at (xs ++ ys)) (omega arith))
       (λ b. B .before (s .at + i) (omega (arith, A .at)) ∙ A .is i b ∙ sym (List·getD-append xs ys 0 i b));
   before = λ k h. B .before k (omega (arith, A .at)) ∙ A .before k h;
   behind = λ k h. B .behind k (omega (arith, A .at, h, length-append xs ys)) ∙ A .behind k (omega (arith, h, length-append xs ys));
@@ -77,7 +82,8 @@ here-is : (b : Bool) → b ≡ b && true
 here-is true = refl
 here-is false = refl
 
-pub put-over : {l : List ℕ} {old : ℕ} {s : Signed} {x : ℕ} {here : Bool} → s .at < length l → here ≡ sameAt l old (s .at) x → (r : Signed) → r .at ≡ s .at + 1 → r .same ≡ s .same && here → Put l old s x r (set l (s .at) x)
+pub put-over : {l : List ℕ} {old : ℕ} {s : Signed} {x : ℕ} {here : Bool} → s .at < length l → here ≡ sameAt l old (s .at) x → (r : Signed)
+    → r .at ≡ s .at + 1 → r .same ≡ s .same && here → Put l old s x r (set l (s .at) x)
 put-over {l} {old} {s} {x} {here} h e r a b = record {
   over = record {
     at = a;
@@ -109,7 +115,8 @@ module _ {l₀ : List ℕ} {old : ℕ} {s : Signed} {seq : List ℕ} where
   pub bytes-start : Bytes l₀ old s seq l₀ s 0
   bytes-start = record { high = omega arith; len = refl; over = over-none l₀ old s }
 
-  pub bytes-more : {l l′ : List ℕ} {t r : Signed} {i : ℕ} → Bytes l₀ old s seq l t i → i < length seq → Put l old t (getD seq i 0) r l′ → length l′ ≡ length l → Bytes l₀ old s seq l′ r (i + 1)
+  pub bytes-more : {l l′ : List ℕ} {t r : Signed} {i : ℕ} → Bytes l₀ old s seq l t i → i < length seq → Put l old t (getD seq i 0) r l′
+      → length l′ ≡ length l → Bytes l₀ old s seq l′ r (i + 1)
   bytes-more {l} {l′} {t} {r} {i} B h P q = record {
     high = omega arith;
     len = q ∙ B .len;
@@ -136,7 +143,8 @@ unfolding concat
 entries-none vs p = ap (λ (l : List (List ℕ)). concat (map entry l)) (tab-zero (seqIn vs p))
 
 entries-more : (v : ℕ) (vs p : List ℕ) → entries (v + 1) vs p ≡ entries v vs p ++ entry (seqIn vs p v)
-entries-more v vs p = ap (λ (l : List (List ℕ)). concat (map entry l)) (tab-snoc v (seqIn vs p)) ∙ ap concat (mathlib-map-append (seqsIn v vs p) (seqIn vs p v)) ∙ concat-snoc (map entry (seqsIn v vs p)) (entry (seqIn vs p v))
+entries-more v vs p = ap (λ (l : List (List ℕ)). concat (map entry l)) (tab-snoc v (seqIn vs p))
+    ∙ ap concat (mathlib-map-append (seqsIn v vs p) (seqIn vs p v)) ∙ concat-snoc (map entry (seqsIn v vs p)) (entry (seqIn vs p v))
   where
     mathlib-map-append : (xs : List (List ℕ)) (y : List ℕ) → map entry (xs ++ (y ∷ [])) ≡ map entry xs ++ (entry y ∷ [])
     mathlib-map-append [] y = refl
@@ -157,7 +165,8 @@ module _ {l₀ : List ℕ} {old : ℕ} {s₀ : Signed} {n : ℕ} {vs p : List �
     over = subst (λ (x : List ℕ). Over l₀ old s₀ x s₀ l₀) (sym (entries-none vs p)) (over-none l₀ old s₀);
   }
 
-  pub entries-step : {l l′ : List ℕ} {s r : Signed} {v : ℕ} → Entries l₀ old s₀ n vs p l s v → v < n → Entered l old s vs p v r l′ → length l′ ≡ length l → Entries l₀ old s₀ n vs p l′ r (v + 1)
+  pub entries-step : {l l′ : List ℕ} {s r : Signed} {v : ℕ} → Entries l₀ old s₀ n vs p l s v → v < n → Entered l old s vs p v r l′
+      → length l′ ≡ length l → Entries l₀ old s₀ n vs p l′ r (v + 1)
   entries-step {l} {l′} {s} {r} {v} E b D q = record {
     high = omega arith;
     len = q ∙ E .len;
@@ -166,7 +175,8 @@ module _ {l₀ : List ℕ} {old : ℕ} {s₀ : Signed} {n : ℕ} {vs p : List �
   }
 
 -- one vertex
-pub entered : {l l₁ l₂ : List ℕ} {old : ℕ} {s t r : Signed} {vs p : List ℕ} {v start len : ℕ} → Entering l old s vs p v → start ≡ getD vs (2 * v) 0 → len ≡ getD vs (2 * v + 1) 0
+pub entered : {l l₁ l₂ : List ℕ} {old : ℕ} {s t r : Signed} {vs p : List ℕ} {v start len : ℕ} → Entering l old s vs p v → start
+    ≡ getD vs (2 * v) 0 → len ≡ getD vs (2 * v + 1) 0
     → Put l old s len t l₁ → Sequence l₁ old t (part p start len) r l₂ → Entered l old s vs p v r l₂
 entered {l} {l₁} {l₂} {old} {s} {t} {r} {vs} {p} {v} {start} {len} F qs ql P S = record {
   over = subst (λ (x : List ℕ). Over l old s x r l₂) whole (over-then (P .over) (S .over));
@@ -188,13 +198,16 @@ same-refl (x ∷ l) = rw (eq-eqb x x refl, sameList) (same-refl l)
 
 from-true : (l : List ℕ) (old at : ℕ) (xs : List ℕ) → sameFrom l old at xs ≡ true → (i : ℕ) → i < length xs → getD l (at + i) 0 ≡ getD xs i 0
 from-true l old at [] e i h = absurd (omega arith)
-from-true l old at (x ∷ xs) e zero h = ap (λ (k : ℕ). getD l k 0) (add-zero at) ∙ eqb-true _ x ((and-split (ltb at old) _ ((and-split (sameAt l old at x) _ e) .0)) .1)
-from-true l old at (x ∷ xs) e (suc i) h = ap (λ (k : ℕ). getD l k 0) place ∙ from-true l old (suc at) xs ((and-split (sameAt l old at x) _ e) .1) i (omega arith)
+from-true l old at (x ∷ xs) e zero h = ap (λ (k : ℕ). getD l k 0) (add-zero at)
+    ∙ eqb-true _ x ((and-split (ltb at old) _ ((and-split (sameAt l old at x) _ e) .0)) .1)
+from-true l old at (x ∷ xs) e (suc i) h = ap (λ (k : ℕ). getD l k 0) place
+    ∙ from-true l old (suc at) xs ((and-split (sameAt l old at x) _ e) .1) i (omega arith)
   where
     place : at + suc i ≡ suc at + i
     place = omega arith
 
-from-of : (l : List ℕ) (old at : ℕ) (xs : List ℕ) → at + length xs ≤ old → ((i : ℕ) → i < length xs → getD l (at + i) 0 ≡ getD xs i 0) → sameFrom l old at xs ≡ true
+from-of : (l : List ℕ) (old at : ℕ) (xs : List ℕ) → at + length xs ≤ old → ((i : ℕ) → i < length xs → getD l (at + i) 0 ≡ getD xs i 0)
+    → sameFrom l old at xs ≡ true
 from-of l old at [] b h = refl
 from-of l old at (x ∷ xs) b h = rw (lt-ltb at old (omega arith), eq-eqb (getD l at 0) x (ap (λ (k : ℕ). getD l k 0) (sym (add-zero at)) ∙ h 0 (omega arith)))
     (from-of l old (suc at) xs (omega arith) (λ i c. ap (λ (k : ℕ). getD l k 0) (place i) ∙ h (suc i) (omega arith)))
@@ -204,14 +217,17 @@ from-of l old at (x ∷ xs) b h = rw (lt-ltb at old (omega arith), eq-eqb (getD 
 
 nums-is : (l xs : List ℕ) (n : ℕ) → n ≡ length xs → ((i : ℕ) → i < length xs → getD l (0 + i) 0 ≡ getD xs i 0) → numsIn n l ≡ xs
 nums-is l xs n q h = ext-getD 0 _ _ (length-tab n (λ (i : ℕ). getD l i 0) ∙ q)
-    (λ i b. let c : i < n = omega (arith, b, length-tab n (λ (i : ℕ). getD l i 0)) in getD-tab n (λ (i : ℕ). getD l i 0) i 0 c ∙ ap (λ (k : ℕ). getD l k 0) (sym (zero-add i)) ∙ h i (omega arith))
+    (λ i b. let c : i < n = omega (arith, b, length-tab n (λ (i : ℕ). getD l i 0)) in getD-tab n (λ (i : ℕ). getD l i 0) i 0 c
+    ∙ ap (λ (k : ℕ). getD l k 0) (sym (zero-add i)) ∙ h i (omega arith))
 
 -- the two are the same where each number is and there are as many
 same-whole : (l : List ℕ) (old : ℕ) (xs : List ℕ) → length xs ≡ old → sameFrom l old 0 xs ≡ sameList (numsIn old l) xs
 same-whole l old xs q = byTest (sameFrom l old 0 xs)
     (λ t. t ∙ sym (ap (λ (x : List ℕ). sameList x xs) (nums-is l xs old (sym q) (from-true l old 0 xs t)) ∙ same-refl xs))
     (λ t. t ∙ sym (byTest (sameList (numsIn old l) xs)
-    (λ s. clash (from-of l old 0 xs (omega arith) (λ i b. ap (λ (k : ℕ). getD l k 0) (zero-add i) ∙ sym (getD-tab old (λ (k : ℕ). getD l k 0) i 0 (omega arith)) ∙ ap (λ (x : List ℕ). getD x i 0) (sameList-eq (numsIn old l) xs s))) t)
+    (λ s. clash (from-of l old 0 xs (omega arith) (λ i b. ap (λ (k : ℕ). getD l k 0) (zero-add i)
+    ∙ sym (getD-tab old (λ (k : ℕ). getD l k 0) i 0 (omega arith)) ∙ ap (λ (x : List ℕ). getD x i 0) (sameList-eq (numsIn old l) xs s)))
+    t)
     (λ s. s)))
 
 other-length : (l : List ℕ) (old : ℕ) (xs : List ℕ) → (length xs ≡ old → ⊥) → false ≡ sameList (numsIn old l) xs
@@ -220,7 +236,8 @@ other-length l old xs o = sym (byTest (sameList (numsIn old l) xs)
     (λ s. s))
 
 module _ {sig : List ℕ} {old : ℕ} {h : Held} {vs p : List ℕ} {r₁ r₂ r₃ : Signed} {l₁ l₂ l₃ : List ℕ} {v : ℕ}
-    (A : Put sig old record { at = 0; same = true } (h .n) r₁ l₁) (B : Put l₁ old r₁ (h .m) r₂ l₂) (E : Entries l₂ old r₂ (h .n) vs p l₃ r₃ v) (done : h .n ≤ v) (F : Writable sig old h vs p) where
+    (A : Put sig old record { at = 0; same = true } (h .n) r₁ l₁) (B : Put l₁ old r₁ (h .m) r₂ l₂) (E :
+    Entries l₂ old r₂ (h .n) vs p l₃ r₃ v) (done : h .n ≤ v) (F : Writable sig old h vs p) where
   abbrev written : List ℕ
   written = ((h .n ∷ []) ++ (h .m ∷ [])) ++ entries (h .n) vs p
 
@@ -254,11 +271,13 @@ module _ {sig : List ℕ} {old : ℕ} {h : Held} {vs p : List ℕ} {r₁ r₂ r�
   signed-same q = record {
     room = fits;
     is = λ g a b. nums ∙ sig-is g a b;
-    same = λ g a b. all .same ∙ same-whole sig old written (sym (zero-add (length written)) ∙ sym (all .at) ∙ q) ∙ ap (sameList (numsIn old sig)) (sig-is g a b);
+    same = λ g a b. all .same ∙ same-whole sig old written (sym (zero-add (length written)) ∙ sym (all .at) ∙ q)
+        ∙ ap (sameList (numsIn old sig)) (sig-is g a b);
   }
 
 -- a part by its start and its end
-pub part-sub : {l : List ℕ} {old : ℕ} {s : Signed} {r : Signed} {l′ : List ℕ} (p : List ℕ) (start len : ℕ) → Sequence l old s (take (start + len - start) (drop start p)) r l′ → Sequence l old s (part p start len) r l′
+pub part-sub : {l : List ℕ} {old : ℕ} {s : Signed} {r : Signed} {l′ : List ℕ} (p : List ℕ) (start len : ℕ)
+    → Sequence l old s (take (start + len - start) (drop start p)) r l′ → Sequence l old s (part p start len) r l′
 part-sub {l} {old} {s} {r} {l′} p start len S = subst (λ (n : ℕ). Sequence l old s (take n (drop start p)) r l′) size S
   where
     size : start + len - start ≡ len

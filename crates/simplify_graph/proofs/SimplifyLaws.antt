@@ -45,7 +45,8 @@ module _ {bs heads nexts : List ℕ} {r : Read} {es vs p : List ℕ} (A : ReadAs
   pub made-refused : (r .number ≡ 0 → ⊥) → {m : Made} {es′ vs′ p′ : List ℕ} → m .number ≡ r .number → MadeOf bs heads nexts m es′ vs′ p′
   made-refused o q = record { number = q ∙ A .number; answers = λ z. absurd (o (sym q ∙ z)); holds = λ z. absurd (o (sym q ∙ z)) }
 
-  pub made-whole : r .number ≡ 0 → {heads′ nexts′ : List ℕ} {s : Simplified} {es′ vs′ p′ : List ℕ} → length heads′ ≡ length heads → length nexts′ ≡ length nexts → Full 10 (r .held) es vs p heads′ nexts′ s es′ vs′ p′
+  pub made-whole : r .number ≡ 0 → {heads′ nexts′ : List ℕ} {s : Simplified} {es′ vs′ p′ : List ℕ} → length heads′ ≡ length heads
+      → length nexts′ ≡ length nexts → Full 10 (r .held) es vs p heads′ nexts′ s es′ vs′ p′
       → MadeOf bs heads nexts record { number = 0; simplified = s } es′ vs′ p′
   made-whole ok {s = s} {es′} {vs′} {p′} d e F = record {
     number = sym ok ∙ A .number;
@@ -54,7 +55,8 @@ module _ {bs heads nexts : List ℕ} {r : Read} {es vs p : List ℕ} (A : ReadAs
   }
 
 -- the answer goes by the response
-answer-by : (bs : List ℕ) (room : ℕ) (t : D.Tally) {x : Response} → simplifyGraphResponse bs room ≡ x → D.simplifyAnswer x (simplifyGraphFull 10 (decode bs)) t ≡ simplifyGraphAnswer bs room t
+answer-by : (bs : List ℕ) (room : ℕ) (t : D.Tally) {x : Response} → simplifyGraphResponse bs room ≡ x
+    → D.simplifyAnswer x (simplifyGraphFull 10 (decode bs)) t ≡ simplifyGraphAnswer bs room t
 unfolding simplifyGraphAnswer
 answer-by bs room t e = ap (λ (x : Response). D.simplifyAnswer x (simplifyGraphFull 10 (decode bs)) t) (sym e)
 
@@ -65,7 +67,8 @@ module _ (bs out : List ℕ) (t : Tally) where
   abbrev result : List ℕ
   result = encode sequenceGraph 0 (z .graph)
 
-  refused-with : (n : ℕ) → (n ≡ 0 → ⊥) → simplifyGraphResponse bs (length out) ≡ refused n → {a : SimplifyAnswer} {out′ : List ℕ} → RefusesSimplify n t a → out′ ≡ out → Simplifies bs out t a out′
+  refused-with : (n : ℕ) → (n ≡ 0 → ⊥) → simplifyGraphResponse bs (length out) ≡ refused n → {a : SimplifyAnswer} {out′ : List ℕ}
+      → RefusesSimplify n t a → out′ ≡ out → Simplifies bs out t a out′
   unfolding writtenOf numberOf fieldOf
   refused-with n o e {a} R q = record {
     answer = R .is z ∙ answer-by bs (length out) (tallyOf t) e;
@@ -89,7 +92,8 @@ module _ (bs out : List ℕ) (t : Tally) where
   stopped n e o = respond-refused (recordCauses sequenceOnly bs) (length out) result n e o
 
   module _ (small : Bytes bs) (ok : recordRefusal sequenceOnly bs ≡ 0) where
-    accepted-with : {a : SimplifyAnswer} {out′ : List ℕ} → simplifyGraphResponse bs (length out) ≡ accepted result → simplifyAnswerOf a ≡ D.simplifyAnswer (accepted result) z (tallyOf t) → out′ ≡ result ++ drop (length result) out
+    accepted-with : {a : SimplifyAnswer} {out′ : List ℕ} → simplifyGraphResponse bs (length out) ≡ accepted result → simplifyAnswerOf a
+        ≡ D.simplifyAnswer (accepted result) z (tallyOf t) → out′ ≡ result ++ drop (length result) out
         → Simplifies bs out t a out′
     unfolding writtenOf lengthOf fieldOf weight
     accepted-with {a} {out′} e q w = record {
@@ -109,7 +113,8 @@ module _ (bs out : List ℕ) (t : Tally) where
 
         written-is : decode (take (a .length) out′) ≡ z .graph
         written-is =
-            ap decode (ap (λ (n : ℕ). take n out′) (ap (λ (x : D.SimplifyAnswer). x .length) q) ∙ ap (take (length result)) w ∙ take-append-seam result (drop (length result) out))
+            ap decode (ap (λ (n : ℕ). take n out′) (ap (λ (x : D.SimplifyAnswer). x .length) q) ∙ ap (take (length result)) w
+            ∙ take-append-seam result (drop (length result) out))
             ∙ simplify-read-back bs small ok 0
 
 -- the whole call
@@ -130,8 +135,12 @@ module _ {bs heads nexts : List ℕ} {m : Made} {es vs p : List ℕ} (M : MadeOf
           let c = sent-short sends o in
           refused-with bs out t (s .number) o (fitting bs out t none ∙ c .0 ∙ ap refused (sym (c .1 .0))) R (c .1 .1)
 
-      pub simplifies-accepted : {a : SimplifyAnswer} → s .number ≡ 0 → AcceptsSimplify (s .length) (m .simplified .rewrites) (m .simplified .rounds) (m .simplified .end) t a → Simplifies bs out t a out′
+      pub simplifies-accepted : {a : SimplifyAnswer} → s .number ≡ 0
+          → AcceptsSimplify (s .length) (m .simplified .rewrites) (m .simplified .rounds) (m .simplified .end) t a
+          → Simplifies bs out t a out′
       simplifies-accepted i A =
           let c = sent-whole sends i in
           let Z = M .answers ok in
-          accepted-with bs out t small none (fitting bs out t none ∙ c .0) (A .is (encode sequenceGraph 0 ((simplifyGraphFull 10 (decode bs)) .graph)) (simplifyGraphFull 10 (decode bs)) (sym (c .1 .0)) (sym (Z .rewrites)) (sym (Z .rounds)) (sym (Z .end))) (c .1 .1)
+          accepted-with bs out t small none (fitting bs out t none
+          ∙ c .0) (A .is (encode sequenceGraph 0 ((simplifyGraphFull 10 (decode bs)) .graph)) (simplifyGraphFull 10 (decode bs))
+          (sym (c .1 .0)) (sym (Z .rewrites)) (sym (Z .rounds)) (sym (Z .end))) (c .1 .1)

@@ -56,7 +56,8 @@ module _ (t : Takes) (bs : List ℕ) where
       here n p l u q = let e = ap (λ (c : Cause). c .number) q in (omega arith, omega arith)
 
       five : (a b c d e : Bool)
-          → List·Memᴰ x (record { number = 1; present = a } ∷ record { number = 2; present = b } ∷ record { number = 3; present = c } ∷ record { number = 4; present = d } ∷ record { number = 5; present = e } ∷ [])
+          → List·Memᴰ x (record { number = 1; present = a } ∷ record { number = 2; present = b } ∷ record { number = 3; present = c }
+          ∷ record { number = 4; present = d } ∷ record { number = 5; present = e } ∷ [])
           → (0 < x .number) × (x .number ≤ 5)
       five a b c d e m0 =
           ⊎-elim (here 1 refl (omega arith) (omega arith)) (λ m1.
@@ -102,12 +103,14 @@ module _ (t : Takes) (bs : List ℕ) where
     accepted d c = later ∙ rw (d, c)
 
   -- the three causes apart
-  pub by-refusal : {X : Type 0} → (0 < refusalOf layout → refusalOf layout ≤ 5 → recordRefusal t bs ≡ refusalOf layout → X) → (refusalOf layout ≡ 0 → doubled bs ≡ true → recordRefusal t bs ≡ 6 → X)
+  pub by-refusal : {X : Type 0} → (0 < refusalOf layout → refusalOf layout ≤ 5 → recordRefusal t bs ≡ refusalOf layout → X)
+      → (refusalOf layout ≡ 0 → doubled bs ≡ true → recordRefusal t bs ≡ 6 → X)
       → (refusalOf layout ≡ 0 → doubled bs ≡ false → hasCycle (decode bs) ≡ true → recordRefusal t bs ≡ 7 → X)
       → (refusalOf layout ≡ 0 → doubled bs ≡ false → hasCycle (decode bs) ≡ false → recordRefusal t bs ≡ 0 → X) → X
   by-refusal early six seven none = elim (ℕ-discrete (refusalOf layout) 0) [
     | no ne ↦ (let l : 0 < refusalOf layout = omega-pos (refusalOf layout) ne in early l layout-most (refused-early refl l))
-    | yes z ↦ byTest (doubled bs) (λ d. six z d (refused-6 z d)) (λ d. byTest (hasCycle (decode bs)) (λ c. seven z d c (refused-7 z d c)) (λ c. none z d c (accepted z d c)))
+    | yes z ↦ byTest (doubled bs) (λ d. six z d (refused-6 z d)) (λ d.
+        byTest (hasCycle (decode bs)) (λ c. seven z d c (refused-7 z d c)) (λ c. none z d c (accepted z d c)))
   ]
     where
       omega-pos : (i : ℕ) → (i ≡ 0 → ⊥) → 0 < i
@@ -153,7 +156,8 @@ module _ (g : Graph) where
       record { first = i; second = j; order = o; below = b; from = sym (q .0); to = sym (q .1) })
 
   pub same-doubled : SameEnds g → doubledEdge (g .edges) ≡ true
-  same-doubled s = of-pair (λ (e : Edge). hasEnds (e .from) (e .to)) noEdge doubledEdge doubled-none doubled-cons (g .edges) (s .first) (s .second) (s .order) (s .below)
+  same-doubled s = of-pair (λ (e : Edge). hasEnds (e .from) (e .to)) noEdge doubledEdge doubled-none doubled-cons (g .edges) (s .first)
+      (s .second) (s .order) (s .below)
       (ends-join _ _ (getD (g .edges) (s .second) noEdge) (s .from) (s .to))
 
   pub equal-same : equalKmers (g .verts) ≡ true → SameKmers g
@@ -223,7 +227,8 @@ module _ (bs : List ℕ) where
     unfolding decode
     read-bytes =
         bytes-sum (tab (verticesOf bs) (sequenceAt bs))
-        ∙ ap sum (map-tab length (verticesOf bs) (sequenceAt bs) ∙ tab-ext (verticesOf bs) (λ (i : ℕ). length (sequenceAt bs i)) (lengthAt bs) (λ i b. length-sequence bs i b ok))
+        ∙ ap sum (map-tab length (verticesOf bs) (sequenceAt bs)
+        ∙ tab-ext (verticesOf bs) (λ (i : ℕ). length (sequenceAt bs i)) (lengthAt bs) (λ i b. length-sequence bs i b ok))
         ∙ ok .lengths
 
     pub read-limits : kindOf bs ≡ 1 → Limits (decode bs)
@@ -281,7 +286,8 @@ module _ (t : Takes) (bs : List ℕ) where
       (λ a d c r. cycle-closed (decode bs) c)
       (λ a d c r. number-clash z r (λ q. omega arith))
 
-  pub means-seven : refusalOf (take 5 (recordCauses t bs)) ≡ 0 → (SameEnds (decode bs) ⊎ ((kindOf bs ≡ 0) × SameKmers (decode bs)) → ⊥) → Closed (decode bs) → recordRefusal t bs ≡ 7
+  pub means-seven : refusalOf (take 5 (recordCauses t bs)) ≡ 0 → (SameEnds (decode bs) ⊎ ((kindOf bs ≡ 0) × SameKmers (decode bs)) → ⊥)
+      → Closed (decode bs) → recordRefusal t bs ≡ 7
   means-seven z none c =
       refused-7 t bs z
       (byTest (doubled bs) (λ d. absurd (none (doubled-means bs d))) (λ d. d))

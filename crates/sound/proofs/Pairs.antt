@@ -41,7 +41,8 @@ or-right true b t = refl
 or-right false b t = t
 
 -- F tests whether some member is alike to a later one
-module _ {A : Type 0} (R : A → A → Bool) (d : A) (F : List A → Bool) (none : F [] ≡ false) (some : (x : A) (xs : List A) → F (x ∷ xs) ≡ (anyOf (R x) xs || F xs)) where
+module _ {A : Type 0} (R : A → A → Bool) (d : A) (F : List A → Bool) (none : F [] ≡ false) (some : (x : A) (xs : List A) → F (x ∷ xs)
+    ≡ (anyOf (R x) xs || F xs)) where
   pub pair-of : {X : Type 0} (l : List A) → F l ≡ true → ((i j : ℕ) → i < j → j < length l → R (getD l i d) (getD l j d) ≡ true → X) → X
   pair-of [] t k = clash t none
   pair-of (x ∷ xs) t k = ⊎-elim

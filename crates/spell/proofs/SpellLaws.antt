@@ -28,7 +28,8 @@ module _ {p : List ℕ} {from n : ℕ} {out₀ : List ℕ} {to : ℕ} where
 
   module _ (F : Fits p from n out₀ to) {out : List ℕ} {i : ℕ} (P : Pasting p from n out₀ to out i) where
     pub pasting-long : length out ≡ length out₀
-    pasting-long = ap length (P .is) ∙ length-paste out₀ to (drop from p) i (omega (arith, F .to-room, P .high)) (omega (arith, F .from-room, P .high, length-drop from p))
+    pasting-long = ap length (P .is) ∙ length-paste out₀ to (drop from p) i (omega (arith, F .to-room, P .high))
+        (omega (arith, F .from-room, P .high, length-drop from p))
 
     pub pasting-more : i < n → Pasting p from n out₀ to (set out (to + i) (getD p (from + i) 0)) (i + 1)
     pasting-more h = record {
@@ -43,7 +44,8 @@ module _ {p : List ℕ} {from n : ℕ} {out₀ : List ℕ} {to : ℕ} where
 
 -- ---- one sequence
 
-pub put-is : {vs p : List ℕ} {v : ℕ} {out out′ : List ℕ} {at start len : ℕ} → start ≡ getD vs (2 * v) 0 → len ≡ getD vs (2 * v + 1) 0 → out′ ≡ paste out at (drop start p) len → Put vs p v out at (at + len) out′
+pub put-is : {vs p : List ℕ} {v : ℕ} {out out′ : List ℕ} {at start len : ℕ} → start ≡ getD vs (2 * v) 0 → len ≡ getD vs (2 * v + 1) 0 → out′
+    ≡ paste out at (drop start p) len → Put vs p v out at (at + len) out′
 put-is {vs} {p} {v} {out} {out′} {at} s l e = record { end = omega arith; is = e ∙ (λ j. paste out at (drop (s j) p) (l j)) }
 
 -- ---- the lengths
@@ -55,7 +57,8 @@ pub record Adding (vs nodes : List ℕ) (c len i : ℕ) : Type 0 where
 pub adding-start : (vs nodes : List ℕ) (c : ℕ) → Adding vs nodes c 0 0
 adding-start vs nodes c = record { high = omega arith; is = sym (sum-none (λ (i : ℕ). getD vs (2 * getD nodes i 0 + 1) 0)) }
 
-module _ {vs p nodes : List ℕ} {c : ℕ} (L : Listed vs p nodes c) {len i l : ℕ} (A : Adding vs nodes c len i) (h : i < c) (q : l ≡ getD vs (2 * getD nodes i 0 + 1) 0) where
+module _ {vs p nodes : List ℕ} {c : ℕ} (L : Listed vs p nodes c) {len i l : ℕ} (A : Adding vs nodes c len i) (h : i < c) (q : l
+    ≡ getD vs (2 * getD nodes i 0 + 1) 0) where
   pub adding-small : len + l ≤ length p
   adding-small = omega (arith, A .is, L .total, sum-below c i (λ (i : ℕ). getD vs (2 * getD nodes i 0 + 1) 0) h)
 
@@ -100,7 +103,8 @@ paste-behind d out₀ s at n q = λ j. (take-at d (drop at out₀) at q j ++ tak
     rest : drop (at + n) (d ++ drop at out₀) ≡ drop (at + n) out₀
     rest = ap (λ (x : ℕ). drop (x + n) (d ++ drop at out₀)) (sym q) ∙ drop-append-add d (drop at out₀) n ∙ drop-drop n at out₀
 
-module _ {vs p nodes : List ℕ} {c : ℕ} {out₀ : List ℕ} (L : Listed vs p nodes c) (room : bytesAt vs nodes c ≤ length out₀) {out : List ℕ} {at i : ℕ} (S : Spelling vs p nodes c out₀ out at i) where
+module _ {vs p nodes : List ℕ} {c : ℕ} {out₀ : List ℕ} (L : Listed vs p nodes c) (room : bytesAt vs nodes c ≤ length out₀) {out :
+    List ℕ} {at i : ℕ} (S : Spelling vs p nodes c out₀ out at i) where
   pub spelling-puttable : i < c → Puttable vs p (getD nodes i 0) out at
   spelling-puttable h = record {
     vs-room = L .vs-room i h;
@@ -108,7 +112,8 @@ module _ {vs p nodes : List ℕ} {c : ℕ} {out₀ : List ℕ} (L : Listed vs p 
     room = omega (arith, S .end, S .len, sum-below c i (λ (i : ℕ). getD vs (2 * getD nodes i 0 + 1) 0) h);
   }
 
-  pub spelling-more : {out′ : List ℕ} {at′ : ℕ} → i < c → Put vs p (getD nodes i 0) out at at′ out′ → length out′ ≡ length out → Spelling vs p nodes c out₀ out′ at′ (i + 1)
+  pub spelling-more : {out′ : List ℕ} {at′ : ℕ} → i < c → Put vs p (getD nodes i 0) out at at′ out′ → length out′ ≡ length out
+      → Spelling vs p nodes c out₀ out′ at′ (i + 1)
   spelling-more {out′} {at′} h P q = record {
     high = omega arith;
     end = omega (arith, P .end, S .end, sum-more i (λ (i : ℕ). getD vs (2 * getD nodes i 0 + 1) 0));
@@ -135,11 +140,13 @@ spelled-long : {vs p nodes : List ℕ} {c : ℕ} → Listed vs p nodes c → (i 
 spelled-long {vs} {p} {nodes} L zero h = sum-none (λ (i : ℕ). getD vs (2 * getD nodes i 0 + 1) 0) ∙ sym (ap length (spelled-none vs p nodes))
 spelled-long {vs} {p} {nodes} L (suc i) h =
     ap (bytesAt vs nodes) (sym (add-one i)) ∙ sum-more i (λ (i : ℕ). getD vs (2 * getD nodes i 0 + 1) 0)
-    ∙ (λ j. spelled-long L i (omega arith) j + sym (part-long p (getD vs (2 * getD nodes i 0) 0) (getD vs (2 * getD nodes i 0 + 1) 0) (L .within i (omega arith))) j)
+    ∙ (λ j. spelled-long L i (omega arith) j + sym (part-long p (getD vs (2 * getD nodes i 0) 0) (getD vs (2 * getD nodes i 0 + 1) 0)
+    (L .within i (omega arith))) j)
     ∙ sym (length-append (spelledIn vs p nodes i) (seqIn vs p (getD nodes i 0)))
     ∙ sym (ap length (ap (spelledIn vs p nodes) (sym (add-one i)) ∙ spelled-more vs p nodes i))
 
-pub too-long : {vs p nodes : List ℕ} {c len : ℕ} (out : List ℕ) → Listed vs p nodes c → len ≡ bytesAt vs nodes c → length out < len → Answered (spelledIn vs p nodes c) out len out
+pub too-long : {vs p nodes : List ℕ} {c len : ℕ} (out : List ℕ) → Listed vs p nodes c → len ≡ bytesAt vs nodes c → length out < len
+    → Answered (spelledIn vs p nodes c) out len out
 too-long {c = c} out L q h = record { size = q ∙ spelled-long L c (omega arith); is = λ b. absurd (omega arith); kept = λ b. refl }
 
 pub written-whole : {s out out′ : List ℕ} {len r : ℕ} → len ≤ length out → len ≡ length s → Written s out r out′ → Answered s out r out′
@@ -153,7 +160,8 @@ listed-long {c = c} L q = q ∙ spelled-long L c (omega arith)
 pub told-none : {o : Option (List ℕ)} (out : List ℕ) → o ≡ none → Told o out (record { found = false; len = 0 }) out
 told-none out q = record { no = λ f. q; same = λ f. refl; yes = λ t. clash t refl }
 
-pub told-some : {o : Option (List ℕ)} {s out : List ℕ} {len : ℕ} {out′ : List ℕ} → o ≡ some s → Answered s out len out′ → Told o out (record { found = true; len = len }) out′
+pub told-some : {o : Option (List ℕ)} {s out : List ℕ} {len : ℕ} {out′ : List ℕ} → o ≡ some s → Answered s out len out′
+    → Told o out (record { found = true; len = len }) out′
 told-some {s = s} q A = record { no = λ f. clash refl f; same = λ f. clash refl f; yes = λ t. (s, q, A) }
 
 pub answered-as : {s t out : List ℕ} {len : ℕ} {out′ : List ℕ} → s ≡ t → Answered s out len out′ → Answered t out len out′

@@ -24,19 +24,22 @@ use Rattle.redirect.specs.Redirect.{redirectedAll, Redirectable, Redirected}
 use Rattle.redirect.proofs.RaiseLaws.{first-missing, raise-longer, raiseAll-longer, raiseAll-ends}
 use Rattle.redirect.proofs.RedirectLaws.{marks-start}
 use Rattle.redirect.proofs.SameLaws.{all-same, indexed-same, into-ends}
-use Rattle.split_suffix.specs.Split.{hasPrefix, entry, linkEdges, blockEdges, numberOf, edgesOf, newEdges, Linkable, LinksDone, MarksLow, BlockReady, BlockDone, EdgesReady, EdgesDone}
+use Rattle.split_suffix.specs.Split.{hasPrefix, entry, linkEdges, blockEdges, numberOf, edgesOf, newEdges, Linkable, LinksDone}
+use Rattle.split_suffix.specs.Split.{MarksLow, BlockReady, BlockDone, EdgesReady, EdgesDone}
 
 -- ---- new edges behind the old ones
 
 -- an edge with a new end is added
 push-new : {y k : ℕ} {es : List ℕ} (a b s f : ℕ) → EndsBelow y k es → 4 * k + 4 ≤ length es → ((x z : ℕ) → x < y → z < y → x ≡ a → z ≡ b → ⊥)
     → edgesIn (k + 1) (putEdge es k a b s f) ≡ addOrUpdateEdge a b s (isSet f) (edgesIn k es)
-push-new {y} {k} {es} a b s f E r new = packed-miss k es (putEdge es k a b s f) a b s f k r (sym (first-missing (hasEnds a b) no-edge (edgesIn k es) none ∙ length-tab k (edgeIn es))) (omega arith) refl
+push-new {y} {k} {es} a b s f E r new = packed-miss k es (putEdge es k a b s f) a b s f k r
+    (sym (first-missing (hasEnds a b) no-edge (edgesIn k es) none ∙ length-tab k (edgeIn es))) (omega arith) refl
   where
     none : (j : ℕ) → j < length (edgesIn k es) → hasEnds a b (getD (edgesIn k es) j no-edge) ≡ false
     none j h =
         let c : j < k = omega (arith, h, length-tab k (edgeIn es)) in
-        rw (getD-tab k (edgeIn es) j no-edge c) (byTest (hasEnds a b (edgeIn es j)) (λ t. let z = joins-ends a b 0 true (edgeIn es j) t in absurd (new _ _ (E .at j c .0) (E .at j c .1) (z .0) (z .1))) (λ t. t))
+        rw (getD-tab k (edgeIn es) j no-edge c) (byTest (hasEnds a b (edgeIn es j)) (λ t. let z = joins-ends a b 0 true (edgeIn es j) t in
+        absurd (new _ _ (E .at j c .0) (E .at j c .1) (z .0) (z .1))) (λ t. t))
 
 module _ {y bottom k : ℕ} {es : List ℕ} (L : Linkable y bottom k es) where
   pub link-one : (s f : ℕ) → LinksDone false y bottom s f k es (k + 1) (putEdge es k y bottom s f)
@@ -58,7 +61,8 @@ module _ {y bottom k : ℕ} {es : List ℕ} (L : Linkable y bottom k es) where
     unfolding addOrUpdateEdges
     old-ends e m = raiseAll-ends (λ a b. a ≡ y → ⊥) (record { from = y + 1; to = y; support = 1; isRef = isSet f } ∷ []) (edgesIn k es)
         (λ d o q. omega (arith, q, (ends-mem (L .ends) d o) .0))
-        (λ d o q. ⊎-elim (λ (i : d ≡ record { from = y + 1; to = y; support = 1; isRef = isSet f }). omega (arith, q, ap (λ (x : Edge). x .from) i)) (λ n. List·Memᴰ·not-nil n) (List·Memᴰ·cases-cons o))
+        (λ d o q. ⊎-elim (λ (i : d ≡ record { from = y + 1; to = y; support = 1; isRef = isSet f }).
+        omega (arith, q, ap (λ (x : Edge). x .from) i)) (λ n. List·Memᴰ·not-nil n) (List·Memᴰ·cases-cons o))
         e (rw first-is at m)
 
     second-is : edgesIn (k + 1 + 1) (putEdge es₁ (k + 1) y bottom s f) ≡ addOrUpdateEdge y bottom s (isSet f) (edgesIn (k + 1) es₁)
@@ -68,7 +72,9 @@ module _ {y bottom k : ℕ} {es : List ℕ} (L : Linkable y bottom k es) where
         none : (j : ℕ) → j < length (edgesIn (k + 1) es₁) → hasEnds y bottom (getD (edgesIn (k + 1) es₁) j no-edge) ≡ false
         none j h =
             let c : j < k + 1 = omega (arith, h, length-tab (k + 1) (edgeIn es₁)) in
-            rw (getD-tab (k + 1) (edgeIn es₁) j no-edge c) (byTest (hasEnds y bottom (edgeIn es₁ j)) (λ t. absurd (old-ends (edgeIn es₁ j) (mem-tab (k + 1) (edgeIn es₁) j c) ((joins-ends y bottom 0 true (edgeIn es₁ j) t) .0))) (λ t. t))
+            rw (getD-tab (k + 1) (edgeIn es₁) j no-edge c) (byTest (hasEnds y bottom (edgeIn es₁ j)) (λ t.
+            absurd (old-ends (edgeIn es₁ j) (mem-tab (k + 1) (edgeIn es₁) j c) ((joins-ends y bottom 0 true (edgeIn es₁ j) t) .0)))
+            (λ t. t))
 
     pub link-two : LinksDone true y bottom s f k es (k + 2) (putEdge es₁ (k + 1) y bottom s f)
     unfolding addOrUpdateEdges
@@ -81,10 +87,12 @@ module _ {y bottom k : ℕ} {es : List ℕ} (L : Linkable y bottom k es) where
         two = omega arith
 
 -- what the code leaves with a prefix, and without
-pub links-two : {prefix : Bool} {y bottom k s f : ℕ} {es es₁ es₂ : List ℕ} → Linkable y bottom k es → prefix ≡ true → es₁ ≡ putEdge es k (y + 1) y 1 f → es₂ ≡ putEdge es₁ (k + 1) y bottom s f → LinksDone prefix y bottom s f k es (k + 2) es₂
+pub links-two : {prefix : Bool} {y bottom k s f : ℕ} {es es₁ es₂ : List ℕ} → Linkable y bottom k es → prefix ≡ true → es₁
+    ≡ putEdge es k (y + 1) y 1 f → es₂ ≡ putEdge es₁ (k + 1) y bottom s f → LinksDone prefix y bottom s f k es (k + 2) es₂
 links-two {s = s} {f = f} L t a b = rw (t, b, a) (link-two L s f)
 
-pub links-one : {prefix : Bool} {y bottom k s f : ℕ} {es es₁ : List ℕ} → Linkable y bottom k es → prefix ≡ false → es₁ ≡ putEdge es k y bottom s f → LinksDone prefix y bottom s f k es (k + 1) es₁
+pub links-one : {prefix : Bool} {y bottom k s f : ℕ} {es es₁ : List ℕ} → Linkable y bottom k es → prefix ≡ false → es₁
+    ≡ putEdge es k y bottom s f → LinksDone prefix y bottom s f k es (k + 1) es₁
 links-one {s = s} {f = f} L t a = rw (t, a) (link-one L s f)
 
 -- ---- one predecessor
@@ -94,19 +102,36 @@ entry-low true y = (omega arith, omega arith)
 entry-low false y = (omega arith, omega arith)
 
 -- the links end at the bottom or at the suffix vertex, so none enters the entry, and all ends are new or the bottom
-links-to : (prefix : Bool) (y bottom : ℕ) (d e : Edge) → bottom < y → List·Memᴰ e (linkEdges prefix y bottom d) → (e .from < entry prefix y + 1) × (e .to < entry prefix y + 1) × (e .to ≡ entry prefix y → ⊥)
+links-to : (prefix : Bool) (y bottom : ℕ) (d e : Edge) → bottom < y → List·Memᴰ e (linkEdges prefix y bottom d)
+    → (e .from < entry prefix y + 1) × (e .to < entry prefix y + 1) × (e .to ≡ entry prefix y → ⊥)
 links-to true y bottom d e h m = ⊎-elim
-    (λ (i : e ≡ record { from = y + 1; to = y; support = 1; isRef = d .isRef }). (omega (arith, ap (λ (x : Edge). x .from) i), omega (arith, ap (λ (x : Edge). x .to) i), λ q. omega (arith, q, ap (λ (x : Edge). x .to) i)))
+    (λ (i : e ≡ record { from = y + 1; to = y; support = 1; isRef = d .isRef }). (
+      omega (arith, ap (λ (x : Edge). x .from) i),
+      omega (arith, ap (λ (x : Edge). x .to) i),
+      λ q.
+          omega (arith, q, ap (λ (x : Edge). x .to) i),
+    ))
     (λ n. ⊎-elim
-    (λ (i : e ≡ record { from = y; to = bottom; support = d .support; isRef = d .isRef }). (omega (arith, ap (λ (x : Edge). x .from) i), omega (arith, ap (λ (x : Edge). x .to) i), λ q. omega (arith, q, ap (λ (x : Edge). x .to) i)))
+    (λ (i : e ≡ record { from = y; to = bottom; support = d .support; isRef = d .isRef }). (
+      omega (arith, ap (λ (x : Edge). x .from) i),
+      omega (arith, ap (λ (x : Edge). x .to) i),
+      λ q.
+          omega (arith, q, ap (λ (x : Edge). x .to) i),
+    ))
     (λ o. absurd (List·Memᴰ·not-nil o)) (List·Memᴰ·cases-cons n))
     (List·Memᴰ·cases-cons m)
 links-to false y bottom d e h m = ⊎-elim
-    (λ (i : e ≡ record { from = y; to = bottom; support = d .support; isRef = d .isRef }). (omega (arith, ap (λ (x : Edge). x .from) i), omega (arith, ap (λ (x : Edge). x .to) i), λ q. omega (arith, q, ap (λ (x : Edge). x .to) i)))
+    (λ (i : e ≡ record { from = y; to = bottom; support = d .support; isRef = d .isRef }). (
+      omega (arith, ap (λ (x : Edge). x .from) i),
+      omega (arith, ap (λ (x : Edge). x .to) i),
+      λ q.
+          omega (arith, q, ap (λ (x : Edge). x .to) i),
+    ))
     (λ o. absurd (List·Memᴰ·not-nil o)) (List·Memᴰ·cases-cons m)
 
 -- they add an edge at least
-links-longer : (prefix : Bool) (y bottom k : ℕ) (es : List ℕ) (s f : ℕ) → EndsBelow y k es → 4 * k + 4 ≤ length es → k + 1 ≤ length (addOrUpdateEdges (linkEdges prefix y bottom (edge y bottom s f)) (edgesIn k es))
+links-longer : (prefix : Bool) (y bottom k : ℕ) (es : List ℕ) (s f : ℕ) → EndsBelow y k es → 4 * k + 4 ≤ length es → k
+    + 1 ≤ length (addOrUpdateEdges (linkEdges prefix y bottom (edge y bottom s f)) (edgesIn k es))
 unfolding addOrUpdateEdges
 links-longer true y bottom k es s f E r = omega (
   arith,
@@ -114,7 +139,11 @@ links-longer true y bottom k es s f E r = omega (
   length-tab (k + 1) (edgeIn (putEdge es k (y + 1) y 1 f)),
   raise-longer y bottom s (isSet f) (addOrUpdateEdge (y + 1) y 1 (isSet f) (edgesIn k es)),
 )
-links-longer false y bottom k es s f E r = omega (arith, ap length (push-new y bottom s f E r (λ x z a b q w. omega arith)), length-tab (k + 1) (edgeIn (putEdge es k y bottom s f)))
+links-longer false y bottom k es s f E r = omega (
+  arith,
+  ap length (push-new y bottom s f E r (λ x z a b q w. omega arith)),
+  length-tab (k + 1) (edgeIn (putEdge es k y bottom s f)),
+)
 
 module _ {prefix : Bool} {y bottom m n : ℕ} {es heads nexts : List ℕ} {v k : ℕ} {mp : List ℕ} (B : BlockReady prefix y bottom m n es heads nexts v k mp) where
   abbrev out : Edge
@@ -123,7 +152,8 @@ module _ {prefix : Bool} {y bottom m n : ℕ} {es heads nexts : List ℕ} {v k :
   abbrev links : List Edge
   links = linkEdges prefix y bottom out
 
-  both-is : addOrUpdateEdges (blockEdges y bottom prefix heads m es v) (edgesIn k es) ≡ addOrUpdateEdges (redirectedAll 1 (entry prefix y) m es v) (addOrUpdateEdges links (edgesIn k es))
+  both-is : addOrUpdateEdges (blockEdges y bottom prefix heads m es v) (edgesIn k es)
+      ≡ addOrUpdateEdges (redirectedAll 1 (entry prefix y) m es v) (addOrUpdateEdges links (edgesIn k es))
   both-is = raiseAll-append links (redirectedAll 1 (entry prefix y) m es v) (edgesIn k es)
 
   pub block-link : Linkable y bottom k es
@@ -136,9 +166,15 @@ module _ {prefix : Bool} {y bottom m n : ℕ} {es heads nexts : List ℕ} {v k :
       one = omega (arith, all, B .roomy .room, raiseAll-longer links (edgesIn k es), length-tab k (edgeIn es))
 
       more : k + 1 ≤ length (addOrUpdateEdges (blockEdges y bottom prefix heads m es v) (edgesIn k es))
-      more = omega (arith, all, links-longer prefix y bottom k es (getD es (4 * getD heads (2 * v) 0 + 2) 0) (getD es (4 * getD heads (2 * v) 0 + 3) 0) (B .ends) one)
+      more = omega (
+        arith,
+        all,
+        links-longer prefix y bottom k es (getD es (4 * getD heads (2 * v) 0 + 2) 0)
+            (getD es (4 * getD heads (2 * v) 0 + 3) 0) (B .ends) one,
+      )
 
-  module _ {s f j : ℕ} {es₁ : List ℕ} (qs : s ≡ getD es (4 * getD heads (2 * v) 0 + 2) 0) (qf : f ≡ getD es (4 * getD heads (2 * v) 0 + 3) 0) (D : LinksDone prefix y bottom s f k es j es₁) where
+  module _ {s f j : ℕ} {es₁ : List ℕ} (qs : s ≡ getD es (4 * getD heads (2 * v) 0 + 2) 0) (qf : f
+      ≡ getD es (4 * getD heads (2 * v) 0 + 3) 0) (D : LinksDone prefix y bottom s f k es j es₁) where
     links-are : edgesIn j es₁ ≡ addOrUpdateEdges links (edgesIn k es)
     links-are = D .is ∙ (λ i. addOrUpdateEdges (linkEdges prefix y bottom (edge y bottom (qs i) (qf i))) (edgesIn k es))
 
@@ -148,7 +184,8 @@ module _ {prefix : Bool} {y bottom m n : ℕ} {es heads nexts : List ℕ} {v k :
     old₁ : (i : ℕ) → i < m → edgeIn es₁ i ≡ edgeIn es i
     old₁ i b = D .old i (omega (arith, B .behind))
 
-    last-is : addOrUpdateEdges (redirectedAll 1 (entry prefix y) m es₁ v) (edgesIn j es₁) ≡ addOrUpdateEdges (blockEdges y bottom prefix heads m es v) (edgesIn k es)
+    last-is : addOrUpdateEdges (redirectedAll 1 (entry prefix y) m es₁ v) (edgesIn j es₁)
+        ≡ addOrUpdateEdges (blockEdges y bottom prefix heads m es v) (edgesIn k es)
     last-is = (λ i. addOrUpdateEdges (all-same m es es₁ old₁ 1 (entry prefix y) v (omega arith) i) (links-are i)) ∙ sym both-is
 
     not-entry : (i : ℕ) → i < j → endOf 1 es₁ i ≡ entry prefix y → ⊥
@@ -169,7 +206,8 @@ module _ {prefix : Bool} {y bottom m n : ℕ} {es heads nexts : List ℕ} {v k :
       small = omega (arith, ap length last-is, B .roomy .small);
     })
 
-    pub block-done : {into r : ℕ} {es₂ mp₂ : List ℕ} → into ≡ entry prefix y → Redirected 1 into n j m j es₁ v r es₂ mp₂ → BlockDone prefix y bottom m n es heads v k r es₂ mp₂
+    pub block-done : {into r : ℕ} {es₂ mp₂ : List ℕ} → into ≡ entry prefix y → Redirected 1 into n j m j es₁ v r es₂ mp₂
+        → BlockDone prefix y bottom m n es heads v k r es₂ mp₂
     block-done e D₁ = let R = rw e at D₁ in record {
       is = R .is ∙ last-is;
       old = λ i b. R .old i b ∙ old₁ i b;
@@ -198,11 +236,17 @@ pub number-most : (vs nodes : List ℕ) (s n i c : ℕ) → i ≤ c → numberOf
 number-most vs nodes s n i c h = let q : i + (c - i) ≡ c = omega arith in omega (arith, number-up vs nodes s n i (c - i), ap (numberOf vs nodes s n) q)
 
 -- fewer lists of new edges make no more edges
-lists-most : (f : ℕ → List Edge) (i d : ℕ) (l : List Edge) → length (addOrUpdateEdges (concat (tab i f)) l) ≤ length (addOrUpdateEdges (concat (tab (i + d) f)) l)
+lists-most : (f : ℕ → List Edge) (i d : ℕ) (l : List Edge)
+    → length (addOrUpdateEdges (concat (tab i f)) l) ≤ length (addOrUpdateEdges (concat (tab (i + d) f)) l)
 lists-most f i d l =
     let q = ap concat (tab-append i d f) ∙ concat-append (tab i f) (tab d (λ (j : ℕ). f (i + j))) in
     let r = concat (tab d (λ (j : ℕ). f (i + j))) in
-    omega (arith, ap (λ (x : List Edge). length (addOrUpdateEdges x l)) q, ap length (raiseAll-append (concat (tab i f)) r l), raiseAll-longer r (addOrUpdateEdges (concat (tab i f)) l))
+    omega (
+      arith,
+      ap (λ (x : List Edge). length (addOrUpdateEdges x l)) q,
+      ap length (raiseAll-append (concat (tab i f)) r l),
+      raiseAll-longer r (addOrUpdateEdges (concat (tab i f)) l),
+    )
 
 pub record Adding (m n s : ℕ) (es₀ mp₀ heads vs nodes : List ℕ) (c bottom y k : ℕ) (es mp : List ℕ) (i : ℕ) : Type 0 where
   pub high : i ≤ c
@@ -236,7 +280,13 @@ module _ {m n s : ℕ} {es₀ heads nexts vs nodes : List ℕ} {c bottom : ℕ} 
 
   module _ {mp₁ : List ℕ} {y k : ℕ} {es mp : List ℕ} {i : ℕ} (A : Adding m n s es₀ mp₁ heads vs nodes c bottom y k es mp i) where
     grown : m ≤ k
-    grown = omega (arith, ap length (A .is), length-tab k (edgeIn es), length-tab m (edgeIn es₀), raiseAll-longer (newEdges heads m n s es₀ vs nodes bottom i) (edgesIn m es₀))
+    grown = omega (
+      arith,
+      ap length (A .is),
+      length-tab k (edgeIn es),
+      length-tab m (edgeIn es₀),
+      raiseAll-longer (newEdges heads m n s es₀ vs nodes bottom i) (edgesIn m es₀),
+    )
 
     module _ (h : i < c) {prefix : Bool} (q : prefix ≡ hasPrefix vs s (getD nodes i 0)) where
       abbrev v : ℕ
@@ -247,16 +297,23 @@ module _ {m n s : ℕ} {es₀ heads nexts vs nodes : List ℕ} {c bottom : ℕ} 
           (λ j. linkEdges prefix y bottom (A .old (getD heads (2 * v) 0) (F .outs i h) j) ++ all-same m es₀ es (A .old) 1 (entry prefix y) v (omega arith) j)
           ∙ (λ j. blockEdges (A .number j) bottom (q j) heads m es₀ v)
 
-      next-is : addOrUpdateEdges (blockEdges y bottom prefix heads m es v) (edgesIn k es) ≡ addOrUpdateEdges (newEdges heads m n s es₀ vs nodes bottom (i + 1)) (edgesIn m es₀)
+      next-is : addOrUpdateEdges (blockEdges y bottom prefix heads m es v) (edgesIn k es)
+          ≡ addOrUpdateEdges (newEdges heads m n s es₀ vs nodes bottom (i + 1)) (edgesIn m es₀)
       next-is =
           (λ j. addOrUpdateEdges (block-is j) (A .is j))
           ∙ sym (raiseAll-append (concat (tab i listOf)) (listOf i) (edgesIn m es₀))
           ∙ ap (λ (x : List Edge). addOrUpdateEdges x (edgesIn m es₀)) (sym (ap concat (tab-snoc i listOf) ∙ concat-snoc (tab i listOf) (listOf i)))
 
-      next-most : length (addOrUpdateEdges (blockEdges y bottom prefix heads m es v) (edgesIn k es)) ≤ length (addOrUpdateEdges (newEdges heads m n s es₀ vs nodes bottom c) (edgesIn m es₀))
+      next-most : length (addOrUpdateEdges (blockEdges y bottom prefix heads m es v) (edgesIn k es)) ≤ length
+          (addOrUpdateEdges (newEdges heads m n s es₀ vs nodes bottom c) (edgesIn m es₀))
       next-most =
           let z : i + 1 + (c - (i + 1)) ≡ c = omega arith in
-          omega (arith, ap length next-is, lists-most listOf (i + 1) (c - (i + 1)) (edgesIn m es₀), ap (λ (x : ℕ). length (addOrUpdateEdges (concat (tab x listOf)) (edgesIn m es₀))) z)
+          omega (
+            arith,
+            ap length next-is,
+            lists-most listOf (i + 1) (c - (i + 1)) (edgesIn m es₀),
+            ap (λ (x : ℕ). length (addOrUpdateEdges (concat (tab x listOf)) (edgesIn m es₀))) z,
+          )
 
       number-is : entry prefix y + 1 ≡ numberOf vs nodes s n (i + 1)
       number-is = (λ j. entry (q j) (A .number j) + 1) ∙ sym (number-more vs nodes s n i)
@@ -287,7 +344,8 @@ module _ {m n s : ℕ} {es₀ heads nexts vs nodes : List ℕ} {c bottom : ℕ} 
         number = number-is;
         is = D .is ∙ next-is;
         old = λ j d. D .old j d ∙ A .old j d;
-        ends = mem-ends (entry prefix y + 1) k′ es′ (λ e o. raiseAll-ends (λ x z. (x < entry prefix y + 1) × (z < entry prefix y + 1)) (blockEdges y bottom prefix heads m es v) (edgesIn k es) old-ends new-ends e (rw (D .is) at o));
+        ends = mem-ends (entry prefix y + 1) k′ es′ (λ e o. raiseAll-ends (λ x z. (x < entry prefix y + 1) × (z < entry prefix y + 1))
+            (blockEdges y bottom prefix heads m es v) (edgesIn k es) old-ends new-ends e (rw (D .is) at o));
         marks = D .marks;
       }
         where
@@ -296,14 +354,17 @@ module _ {m n s : ℕ} {es₀ heads nexts vs nodes : List ℕ} {c bottom : ℕ} 
 
           new-ends : (e : Edge) → List·Memᴰ e (blockEdges y bottom prefix heads m es v) → (e .from < entry prefix y + 1) × (e .to < entry prefix y + 1)
           new-ends e o = ⊎-elim
-              (λ l. let z = links-to prefix y bottom (edgeIn es (getD heads (2 * v) 0)) e (omega (arith, F .bottom-below, A .number, number-low vs nodes s n i)) l in (z .0, z .1))
+              (λ l. let z = links-to prefix y bottom (edgeIn es (getD heads (2 * v) 0)) e
+              (omega (arith, F .bottom-below, A .number, number-low vs nodes s n i)) l in (z .0, z .1))
               (λ l. let z = into-ends (indexed-same m es₀ es (A .old) (A .len) (F .indexed) .ends) (entry prefix y) v e l in
               (omega (arith, z .0, (entry-low prefix y) .0, A .number, number-low vs nodes s n i), omega (arith, z .1)))
               (List·Memᴰ·append-cases (linkEdges prefix y bottom (edgeIn es (getD heads (2 * v) 0))) o)
 
     pub adding-end : c ≤ i → EdgesDone m n s es₀ heads vs nodes c bottom k es
-    adding-end h = let z : i ≡ c = omega (arith, A .high) in record { is = A .is ∙ ap (λ (x : ℕ). addOrUpdateEdges (newEdges heads m n s es₀ vs nodes bottom x) (edgesIn m es₀)) z }
+    adding-end h = let z : i ≡ c = omega (arith, A .high) in
+        record { is = A .is ∙ ap (λ (x : ℕ). addOrUpdateEdges (newEdges heads m n s es₀ vs nodes bottom x) (edgesIn m es₀)) z }
 
 -- the number that the code counts on
-pub entries : {m n s : ℕ} {es₀ mp₀ heads vs nodes : List ℕ} {c bottom y x k : ℕ} {es mp : List ℕ} {i : ℕ} → x ≡ y → Adding m n s es₀ mp₀ heads vs nodes c bottom (y + 1) k es mp i → Adding m n s es₀ mp₀ heads vs nodes c bottom (x + 1) k es mp i
+pub entries : {m n s : ℕ} {es₀ mp₀ heads vs nodes : List ℕ} {c bottom y x k : ℕ} {es mp : List ℕ} {i : ℕ} → x ≡ y
+    → Adding m n s es₀ mp₀ heads vs nodes c bottom (y + 1) k es mp i → Adding m n s es₀ mp₀ heads vs nodes c bottom (x + 1) k es mp i
 entries q A = rw q A

@@ -37,20 +37,25 @@ module _ (g : Graph) (bottom : ℕ) (suffix : List ℕ) where
   verts-snoc : (ps : List ℕ) (v : ℕ) → splitVertices g suffix (ps ++ (v ∷ [])) ≡ splitVertices g suffix ps ++ suffixAndPrefix suffix (rest v)
   unfolding splitVertices
   verts-snoc [] v = append-nil _
-  verts-snoc (x ∷ ps) v = ap (λ (l : List (List ℕ)). suffixAndPrefix suffix (rest x) ++ l) (verts-snoc ps v) ∙ sym (append-assoc (suffixAndPrefix suffix (rest x)) (splitVertices g suffix ps) (suffixAndPrefix suffix (rest v)))
+  verts-snoc (x ∷ ps) v = ap (λ (l : List (List ℕ)). suffixAndPrefix suffix (rest x) ++ l) (verts-snoc ps v)
+      ∙ sym (append-assoc (suffixAndPrefix suffix (rest x)) (splitVertices g suffix ps) (suffixAndPrefix suffix (rest v)))
 
-  edges-snoc : (ps : List ℕ) (n v : ℕ) → splitEdges g bottom suffix n (ps ++ (v ∷ [])) ≡ splitEdges g bottom suffix n ps ++ block (length (splitVertices g suffix ps) + n) v
+  edges-snoc : (ps : List ℕ) (n v : ℕ) → splitEdges g bottom suffix n (ps ++ (v ∷ [])) ≡ splitEdges g bottom suffix n ps
+      ++ block (length (splitVertices g suffix ps) + n) v
   unfolding splitVertices splitEdges
   edges-snoc [] n v = append-nil _ ∙ ap (λ (x : ℕ). block x v) (omega arith)
   edges-snoc (x ∷ ps) n v =
       ap (λ (l : List Edge). block n x ++ l) (edges-snoc ps (length (suffixAndPrefix suffix (rest x)) + n) v)
       ∙ sym (append-assoc (block n x) (splitEdges g bottom suffix (length (suffixAndPrefix suffix (rest x)) + n) ps) _)
-      ∙ ap (λ (y : ℕ). (block n x ++ splitEdges g bottom suffix (length (suffixAndPrefix suffix (rest x)) + n) ps) ++ block y v) (omega (arith, length-append (suffixAndPrefix suffix (rest x)) (splitVertices g suffix ps)))
+      ∙ ap (λ (y : ℕ). (block n x ++ splitEdges g bottom suffix (length (suffixAndPrefix suffix (rest x)) + n) ps) ++ block y v)
+      (omega (arith, length-append (suffixAndPrefix suffix (rest x)) (splitVertices g suffix ps)))
 
 -- ---- by index
 
-module _ (k n m s from : ℕ) (es vs p heads nexts nodes : List ℕ) (c bottom : ℕ) (suffix : List ℕ) (I : Indexed m n es heads nexts) (W : Within (length p) n vs) (B : Below nodes c n)
-    (suffix-is : suffix ≡ part p from s) (suffix-long : length suffix ≡ s) (all : (i : ℕ) → i < c → s ≤ getD vs (2 * getD nodes i 0 + 1) 0) (outs : (i : ℕ) → i < c → getD heads (2 * getD nodes i 0) 0 < m) where
+module _ (k n m s from : ℕ) (es vs p heads nexts nodes : List ℕ) (c bottom : ℕ) (suffix : List ℕ) (I : Indexed m n es heads nexts) (W :
+    Within (length p) n vs) (B : Below nodes c n)
+    (suffix-is : suffix ≡ part p from s) (suffix-long : length suffix ≡ s) (all : (i : ℕ) → i < c → s ≤ getD vs (2 * getD nodes i 0 + 1) 0)
+    (outs : (i : ℕ) → i < c → getD heads (2 * getD nodes i 0) 0 < m) where
   abbrev g : Graph
   g = graphIn k n m es vs p
 
@@ -86,20 +91,26 @@ module _ (k n m s from : ℕ) (es vs p heads nexts nodes : List ℕ) (c bottom :
 
   out-is : (v : ℕ) → v < n → getD heads (2 * v) 0 < m → processEdge g v (edgesFrom g v) ≡ edgeData (edgeIn es (getD heads (2 * v) 0))
   unfolding processEdge edgeData
-  out-is v b h = ap (processEdge g v) (from-is k n m es vs p v ∙ ap (map (edgeIn es)) (at-first (I .index 0 (omega arith)) b (getD heads (2 * v) 0) (ap (λ (x : ℕ). getD heads x 0) (sym (add-zero (2 * v)))) h))
+  out-is v b h = ap (processEdge g v) (from-is k n m es vs p v
+      ∙ ap (map (edgeIn es)) (at-first (I .index 0 (omega arith)) b (getD heads (2 * v) 0)
+      (ap (λ (x : ℕ). getD heads x 0) (sym (add-zero (2 * v)))) h))
 
-  block-are : (v : ℕ) → v < n → s ≤ size v → getD heads (2 * v) 0 < m → (y : ℕ) → blockEdges y bottom (hasPrefix vs s v) heads m es v ≡ block g bottom suffix y v
+  block-are : (v : ℕ) → v < n → s ≤ size v → getD heads (2 * v) 0 < m → (y : ℕ) → blockEdges y bottom (hasPrefix vs s v) heads m es v
+      ≡ block g bottom suffix y v
   unfolding suffixAndPrefixEdges newEdge edgeData
   block-are v b h o y = cases v b h
       (λ e t. rw (t, e) (λ i. newEdge y bottom (sym (out-is v b o) i) ∷ into-all y k n m es vs p v i))
-      (λ x xs e t. rw (t, e) (λ i. newEdge (add-one y i) y record { support = 1; isRef = (sym (out-is v b o) i) .isRef } ∷ newEdge y bottom (sym (out-is v b o) i) ∷ (into-all (y + 1) k n m es vs p v ∙ ap (λ (z : ℕ). map (redirectedTo z) (edgesInto g v)) (add-one y)) i))
+      (λ x xs e t. rw (t, e) (λ i. newEdge (add-one y i) y record { support = 1; isRef = (sym (out-is v b o) i) .isRef }
+      ∷ newEdge y bottom (sym (out-is v b o) i) ∷ (into-all (y + 1) k n m es vs p v
+      ∙ ap (λ (z : ℕ). map (redirectedTo z) (edgesInto g v)) (add-one y)) i))
 
   pub number-are : (i : ℕ) → i ≤ c → numberOf vs nodes s n i ≡ length (splitVertices g suffix (numsIn i nodes)) + n
   unfolding numberOf splitVertices
   number-are zero h = sym (zero-add n) ∙ ap (λ (l : List ℕ). length (splitVertices g suffix l) + n) (sym (tab-zero (λ (j : ℕ). getD nodes j 0)))
   number-are (suc i) h = step (number-are i (omega arith))
     where
-      step : numberOf vs nodes s n i ≡ length (splitVertices g suffix (numsIn i nodes)) + n → numberOf vs nodes s n (suc i) ≡ length (splitVertices g suffix (numsIn (suc i) nodes)) + n
+      step : numberOf vs nodes s n i ≡ length (splitVertices g suffix (numsIn i nodes)) + n → numberOf vs nodes s n (suc i)
+          ≡ length (splitVertices g suffix (numsIn (suc i) nodes)) + n
       step ih =
           let v = getD nodes i 0 in
           count-is v (B .at i (omega arith)) (all i (omega arith)) (numberOf vs nodes s n i)
@@ -113,13 +124,15 @@ module _ (k n m s from : ℕ) (es vs p heads nexts nodes : List ℕ) (c bottom :
 
   pub verts-are : (i : ℕ) → i ≤ c → newVerts vs p nodes from s i ≡ splitVertices g suffix (numsIn i nodes)
   unfolding splitVertices concat
-  verts-are zero h = ap concat (tab-zero (λ (j : ℕ). newSeqs vs p from s (getD nodes j 0))) ∙ ap (splitVertices g suffix) (sym (tab-zero (λ (j : ℕ). getD nodes j 0)))
+  verts-are zero h = ap concat (tab-zero (λ (j : ℕ). newSeqs vs p from s (getD nodes j 0)))
+      ∙ ap (splitVertices g suffix) (sym (tab-zero (λ (j : ℕ). getD nodes j 0)))
   verts-are (suc i) h = step (verts-are i (omega arith))
     where
       f : ℕ → List (List ℕ)
       f j = newSeqs vs p from s (getD nodes j 0)
 
-      step : newVerts vs p nodes from s i ≡ splitVertices g suffix (numsIn i nodes) → newVerts vs p nodes from s (suc i) ≡ splitVertices g suffix (numsIn (suc i) nodes)
+      step : newVerts vs p nodes from s i ≡ splitVertices g suffix (numsIn i nodes) → newVerts vs p nodes from s (suc i)
+          ≡ splitVertices g suffix (numsIn (suc i) nodes)
       step ih =
           ap (λ (x : ℕ). newVerts vs p nodes from s x) (sym (add-one i)) ∙ ap concat (tab-snoc i f) ∙ concat-snoc (tab i f) (f i)
           ∙ (λ j. ih j ++ seqs-are (getD nodes i 0) (B .at i (omega arith)) (all i (omega arith)) j)
@@ -128,15 +141,18 @@ module _ (k n m s from : ℕ) (es vs p heads nexts nodes : List ℕ) (c bottom :
 
   pub edges-are : (i : ℕ) → i ≤ c → newEdges heads m n s es vs nodes bottom i ≡ splitEdges g bottom suffix n (numsIn i nodes)
   unfolding splitEdges concat
-  edges-are zero h = ap concat (tab-zero (edgesOf heads m n s es vs nodes bottom)) ∙ ap (splitEdges g bottom suffix n) (sym (tab-zero (λ (j : ℕ). getD nodes j 0)))
+  edges-are zero h = ap concat (tab-zero (edgesOf heads m n s es vs nodes bottom))
+      ∙ ap (splitEdges g bottom suffix n) (sym (tab-zero (λ (j : ℕ). getD nodes j 0)))
   edges-are (suc i) h = step (edges-are i (omega arith))
     where
       f : ℕ → List Edge
       f = edgesOf heads m n s es vs nodes bottom
 
-      step : newEdges heads m n s es vs nodes bottom i ≡ splitEdges g bottom suffix n (numsIn i nodes) → newEdges heads m n s es vs nodes bottom (suc i) ≡ splitEdges g bottom suffix n (numsIn (suc i) nodes)
+      step : newEdges heads m n s es vs nodes bottom i ≡ splitEdges g bottom suffix n (numsIn i nodes)
+          → newEdges heads m n s es vs nodes bottom (suc i) ≡ splitEdges g bottom suffix n (numsIn (suc i) nodes)
       step ih =
           ap (λ (x : ℕ). newEdges heads m n s es vs nodes bottom x) (sym (add-one i)) ∙ ap concat (tab-snoc i f) ∙ concat-snoc (tab i f) (f i)
-          ∙ (λ j. ih j ++ (block-are (getD nodes i 0) (B .at i (omega arith)) (all i (omega arith)) (outs i (omega arith)) (numberOf vs nodes s n i) ∙ ap (λ (y : ℕ). block g bottom suffix y (getD nodes i 0)) (number-are i (omega arith))) j)
+          ∙ (λ j. ih j ++ (block-are (getD nodes i 0) (B .at i (omega arith)) (all i (omega arith)) (outs i (omega arith))
+          (numberOf vs nodes s n i) ∙ ap (λ (y : ℕ). block g bottom suffix y (getD nodes i 0)) (number-are i (omega arith))) j)
           ∙ sym (edges-snoc g bottom suffix (numsIn i nodes) n (getD nodes i 0))
           ∙ ap (splitEdges g bottom suffix n) (sym (ap (λ (x : ℕ). numsIn x nodes) (sym (add-one i)) ∙ tab-snoc i (λ (j : ℕ). getD nodes j 0)))

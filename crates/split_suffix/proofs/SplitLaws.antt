@@ -9,7 +9,8 @@ use native.Mathlib.Omega.{arith}
 use lib.ListN.{length, getD}
 use borrow.Author.Tests.{eqb-true}
 use Rattle.defs.specs.Lists.{elemOf, commonSuffix, given}
-use Rattle.defs.specs.SeqGraph.{Edge, Graph, Change, nodeCount, vertexSequence, incomingNodes, outgoingNodes, keeps, removeVerticesById, withAdditions, applyChange, addOrUpdateEdges}
+use Rattle.defs.specs.SeqGraph.{Edge, Graph, Change, nodeCount, vertexSequence, incomingNodes, outgoingNodes, keeps, removeVerticesById}
+use Rattle.defs.specs.SeqGraph.{withAdditions, applyChange, addOrUpdateEdges}
 use Rattle.defs.specs.Rewrites.{isSplit, splitSuffix, splitsSuffix, splitChange, splitVertices, splitEdges, trySplitCommonSuffix}
 use Rattle.laws.proofs.Walks.{byTest}
 use Rattle.laws.proofs.ListLaws.{byOrder, clash}
@@ -37,7 +38,8 @@ use Rattle.split_suffix.specs.Split.{numberOf, newEdges, newVerts, Edges
 use Rattle.split_suffix.proofs.EdgeLoops.{number-low}
 use Rattle.split_suffix.proofs.ListForms as F
 
-module _ {h : Held} {es vs p heads nexts nodes mp : List ℕ} (R : Room es vs p heads nexts nodes mp) (H : Holds h es vs p heads nexts) (I : Indexed (h .m) (h .n) es heads nexts)
+module _ {h : Held} {es vs p heads nexts nodes mp : List ℕ} (R : Room es vs p heads nexts nodes mp) (H : Holds h es vs p heads nexts) (I :
+    Indexed (h .m) (h .n) es heads nexts)
     {bottom c : ℕ} {prevs : List ℕ} (C : Collected 1 (h .m) es bottom c prevs) (q : length prevs ≡ length nodes) where
   abbrev g : Graph
   g = graphOf h es vs p
@@ -67,7 +69,8 @@ module _ {h : Held} {es vs p heads nexts nodes mp : List ℕ} (R : Room es vs p 
   before : Before g bottom (numsIn c prevs)
   before = record {
     other = λ v m e. omega (arith, up v m, ap (good .0 .rank) e);
-    not-behind = λ v m. byTest (elemOf v (outgoingNodes g bottom)) (λ t. absurd (omega (arith, up v m, good .0 .ranks bottom v (of-mem-outs g bottom v (elemOf-true v _ t))))) (λ t. t);
+    not-behind = λ v m. byTest (elemOf v (outgoingNodes g bottom)) (λ t.
+        absurd (omega (arith, up v m, good .0 .ranks bottom v (of-mem-outs g bottom v (elemOf-true v _ t))))) (λ t. t);
   }
     where
       up : (v : ℕ) → List·Memᴰ v (numsIn c prevs) → good .0 .rank v < good .0 .rank bottom
@@ -122,7 +125,13 @@ module _ {h : Held} {es vs p heads nexts nodes mp : List ℕ} (R : Room es vs p 
       few-edges = omega (arith, edges-local g (good .0 .bounded) change local, fit-edges fit-new, H .fit .surplus, tame .1, fit-vertices fit-new)
 
       few-vertices : nodeCount (withAdditions change g) ≤ 2 * vertexRoom heads
-      few-vertices = omega (arith, verts-local g (good .0 .bounded) change local (Q.once-prevs g (applyChange g change) bottom (good .0) (good .1) did), fit-vertices fit-new, fit-vertices (H .fit))
+      few-vertices = omega (
+        arith,
+        verts-local g (good .0 .bounded) change local
+            (Q.once-prevs g (applyChange g change) bottom (good .0) (good .1) did),
+        fit-vertices fit-new,
+        fit-vertices (H .fit),
+      )
 
       -- ---- by index
 
@@ -146,18 +155,26 @@ module _ {h : Held} {es vs p heads nexts nodes mp : List ℕ} (R : Room es vs p 
 
       outs : (i : ℕ) → i < c → getD heads (2 * getD prevs i 0) 0 < h .m
       outs i b = byOrder (h .m) (getD heads (2 * getD prevs i 0) 0)
-          (λ a. absurd (omega (arith, eqb-true (length (edgesAt (endOf 0 es) (h .m) (getD prevs i 0))) 1 (S .single pos i b), ap length (at-none (I .index 0 (omega arith)) (below .at i b) (getD heads (2 * getD prevs i 0) 0) (ap (λ (x : ℕ). getD heads x 0) (sym (add-zero (2 * getD prevs i 0)))) a))))
+          (λ a. absurd (omega (
+            arith,
+            eqb-true (length (edgesAt (endOf 0 es) (h .m) (getD prevs i 0))) 1 (S .single pos i b),
+            ap length (at-none (I .index 0 (omega arith)) (below .at i b) (getD heads (2 * getD prevs i 0) 0)
+                (ap (λ (x : ℕ). getD heads x 0) (sym (add-zero (2 * getD prevs i 0)))) a),
+          )))
           (λ a. a)
 
       verts-are : newVerts vs p prevs start s c ≡ change .verts
-      verts-are = F.verts-are (h .k .0) (h .n) (h .m) s start es vs p heads nexts prevs c bottom suffix I in-pool below suffix-is suffix-long all outs c (omega arith) ∙ ap (splitVertices g suffix) are
+      verts-are = F.verts-are (h .k .0) (h .n) (h .m) s start es vs p heads nexts prevs c bottom suffix I in-pool below suffix-is
+          suffix-long all outs c (omega arith) ∙ ap (splitVertices g suffix) are
 
       edges-are : newEdges heads (h .m) (h .n) s es vs prevs bottom c ≡ change .edges
-      edges-are = F.edges-are (h .k .0) (h .n) (h .m) s start es vs p heads nexts prevs c bottom suffix I in-pool below suffix-is suffix-long all outs c (omega arith)
+      edges-are = F.edges-are (h .k .0) (h .n) (h .m) s start es vs p heads nexts prevs c bottom suffix I in-pool below suffix-is
+          suffix-long all outs c (omega arith)
           ∙ (λ i. splitEdges g bottom suffix (sym order i) (are i))
 
       number-is : numberOf vs prevs s (h .n) c ≡ nodeCount (withAdditions change g)
-      number-is = F.number-are (h .k .0) (h .n) (h .m) s start es vs p heads nexts prevs c bottom suffix I in-pool below suffix-is suffix-long all outs c (omega arith)
+      number-is = F.number-are (h .k .0) (h .n) (h .m) s start es vs p heads nexts prevs c bottom suffix I in-pool below suffix-is
+          suffix-long all outs c (omega arith)
           ∙ omega (arith, order-grown g change, order, ap (λ (l : List ℕ). length (splitVertices g suffix l)) are)
 
       edges-with : addOrUpdateEdges (newEdges heads (h .m) (h .n) s es vs prevs bottom c) (edgesIn (h .m) es) ≡ (withAdditions change g) .edges
@@ -193,7 +210,8 @@ module _ {h : Held} {es vs p heads nexts nodes mp : List ℕ} (R : Room es vs p 
         s-small = omega (arith, split-ending .long, split-ending .small);
       }
 
-      module _ {k j from : ℕ} {es₁ vs₁ : List ℕ} (E : EdgesDone (h .m) (h .n) s es heads vs prevs c bottom k es₁) (V₁ : VertsDone (h .n) vs prevs c from s j vs₁) (qf : from ≡ start) where
+      module _ {k j from : ℕ} {es₁ vs₁ : List ℕ} (E : EdgesDone (h .m) (h .n) s es heads vs prevs c bottom k es₁) (V₁ :
+          VertsDone (h .n) vs prevs c from s j vs₁) (qf : from ≡ start) where
         j-is : j ≡ nodeCount (withAdditions change g)
         j-is = V₁ .count ∙ number-is
 
@@ -209,7 +227,8 @@ module _ {h : Held} {es vs p heads nexts nodes mp : List ℕ} (R : Room es vs p 
           vs-room = omega (arith, b, j-is, few-vertices, R .vs-room);
           mp-room = omega (arith, d, j-is, few-vertices, R .map-room);
           small = omega (arith, j-is, few-vertices, R .vertices-edges, R .small);
-          ends = mem-ends j k es₁ (λ e m. let z = bounded-grown g (good .0 .bounded) change local e (subst (λ (l : List Edge). List·Memᴰ e l) (E .is ∙ edges-with) m) in (omega (arith, z .0, j-is), omega (arith, z .1, j-is)));
+          ends = mem-ends j k es₁ (λ e m. let z = bounded-grown g (good .0 .bounded) change local e
+              (subst (λ (l : List Edge). List·Memᴰ e l) (E .is ∙ edges-with) m) in (omega (arith, z .0, j-is), omega (arith, z .1, j-is)));
         }
 
         pub split-below : Below prevs c j
@@ -223,7 +242,11 @@ module _ {h : Held} {es vs p heads nexts nodes mp : List ℕ} (R : Room es vs p 
               verts-with : seqsIn j vs₁ p ≡ g .verts ++ change .verts
               verts-with = V₁ .is p ∙ ap (λ (x : ℕ). seqsIn (h .n) vs p ++ newVerts vs p prevs x s c) qf ∙ ap (λ (x : List (List ℕ)). g .verts ++ x) verts-are
 
-          pub left-done : SplitTried h es vs p heads nexts bottom record { done = true; held = record { k = h .k; n = r .n; m = r .m; used = h .used } } es₂ vs₂ mp₂
+          pub left-done : SplitTried h es vs p heads nexts bottom record {
+            done = true;
+            held =
+                record { k = h .k; n = r .n; m = r .m; used = h .used };
+          } es₂ vs₂ mp₂
           left-done = record {
             left = record {
               no = λ x. clash refl x;
@@ -234,7 +257,8 @@ module _ {h : Held} {es vs p heads nexts nodes mp : List ℕ} (R : Room es vs p 
               yes = λ _. did ∙ ap some (sym removed-is);
               holds = λ _. record {
                 fit = rw removed-is fit-new;
-                within = D .within (h .used) (V₁ .within (h .used) (H .within) (omega (arith, qf, split-ending .long, H .within .at (getD prevs 0 0) (below .at 0 (omega (arith, two))))));
+                within = D .within (h .used) (V₁ .within (h .used) (H .within)
+                    (omega (arith, qf, split-ending .long, H .within .at (getD prevs 0 0) (below .at 0 (omega (arith, two))))));
                 used-room = H .used-room;
               };
             };

@@ -67,7 +67,8 @@ module _ {k : ℕ} {vs : List ℕ} {s v : ℕ} (C : Cuttable k vs s v) where
   pub cut-one : (from : ℕ) → size ≤ s → CutDone k vs from s v (k + 1) (putVertex vs k from s)
   cut-one from h = let t : hasPrefix vs s v ≡ false = le-ltb s size h in record {
     count = ap (λ (x : Bool). entry x k + 1) (sym t);
-    is = λ p. push-vertex vs k from s cut-room p ∙ ap (λ (x : Bool). seqsIn k vs p ++ cond x (part p from s ∷ part p start (size - s) ∷ []) (part p from s ∷ [])) (sym t);
+    is = λ p. push-vertex vs k from s cut-room p ∙ ap (λ (x : Bool). seqsIn k vs p
+        ++ cond x (part p from s ∷ part p start (size - s) ∷ []) (part p from s ∷ [])) (sym t);
     same = put-below vs k from s cut-room;
     within = push-within vs k from s cut-room;
   }
@@ -90,7 +91,8 @@ module _ {k : ℕ} {vs : List ℕ} {s v : ℕ} (C : Cuttable k vs s v) where
           ∙ append-assoc (seqsIn k vs p) (part p from s ∷ []) (part p start (size - s) ∷ [])
           ∙ ap (λ (x : Bool). seqsIn k vs p ++ cond x (part p from s ∷ part p start (size - s) ∷ []) (part p from s ∷ [])) (sym long);
       same = λ j b. put-below vs₁ (k + 1) start (size - s) (cut-room-two from) j (omega arith) ∙ put-below vs k from s cut-room j b;
-      within = λ used W b. rw two (push-within vs₁ (k + 1) start (size - s) (cut-room-two from) used (push-within vs k from s cut-room used W b) (omega (arith, W .at v (C .below))));
+      within = λ used W b. rw two (push-within vs₁ (k + 1) start (size - s) (cut-room-two from) used (push-within
+          vs k from s cut-room used W b) (omega (arith, W .at v (C .below))));
     }
       where
         vs₁ : List ℕ
@@ -106,11 +108,13 @@ pub cuts-room : {k : ℕ} {vs : List ℕ} {s v len : ℕ} → Cuttable k vs s v 
 cuts-room C ql h = omega (arith, room-two C (omega arith))
 
 -- what the code leaves without a prefix, and with one
-module _ {k : ℕ} {vs : List ℕ} {s v : ℕ} (C : Cuttable k vs s v) {from len : ℕ} {vs₁ : List ℕ} (ql : len ≡ getD vs (2 * v + 1) 0) (put : vs₁ ≡ putVertex vs k from s) where
+module _ {k : ℕ} {vs : List ℕ} {s v : ℕ} (C : Cuttable k vs s v) {from len : ℕ} {vs₁ : List ℕ} (ql : len ≡ getD vs (2 * v + 1) 0) (put : vs₁
+    ≡ putVertex vs k from s) where
   pub cuts-one : len ≤ s → CutDone k vs from s v (k + 1) vs₁
   cuts-one h = rw put (cut-one C from (omega arith))
 
-  pub cuts-two : {start : ℕ} {vs₂ : List ℕ} → start ≡ getD vs (2 * v) 0 → s < len → vs₂ ≡ putVertex vs₁ (k + 1) start (len - s) → CutDone k vs from s v (k + 2) vs₂
+  pub cuts-two : {start : ℕ} {vs₂ : List ℕ} → start ≡ getD vs (2 * v) 0 → s < len → vs₂ ≡ putVertex vs₁ (k + 1) start (len - s)
+      → CutDone k vs from s v (k + 2) vs₂
   cuts-two qs h put₂ = rw (put₂, put, qs, ql) (cut-two C (omega arith) from)
 
 -- ---- all predecessors
@@ -130,7 +134,8 @@ module _ {n : ℕ} {vs₀ nodes : List ℕ} {c s : ℕ} (F : VertsReady n vs₀ 
     high = omega arith;
     len = refl;
     number = refl;
-    is = λ p. sym (ap (λ (x : List (List (List ℕ))). seqsIn n vs₀ p ++ concat x) (tab-zero (λ (i : ℕ). newSeqs vs₀ p from s (getD nodes i 0))) ∙ append-nil (seqsIn n vs₀ p));
+    is = λ p. sym (ap (λ (x : List (List (List ℕ))). seqsIn n vs₀ p
+        ++ concat x) (tab-zero (λ (i : ℕ). newSeqs vs₀ p from s (getD nodes i 0))) ∙ append-nil (seqsIn n vs₀ p));
     same = λ j b. refl;
     within = λ used W b. W;
   }
@@ -167,7 +172,9 @@ module _ {n : ℕ} {vs₀ nodes : List ℕ} {c s : ℕ} (F : VertsReady n vs₀ 
         number = D .count ∙ number-is;
         is = λ p. D .is p ∙ (λ j. S .is p j ++ cond (ltb s (size-same j)) (part p from s ∷ part p (start-same j) (size-same j - s) ∷ []) (part p from s ∷ []))
             ∙ append-assoc (seqsIn n vs₀ p) (newVerts vs₀ p nodes from s i) (newSeqs vs₀ p from s v)
-            ∙ ap (λ (x : List (List ℕ)). seqsIn n vs₀ p ++ x) (sym (ap concat (tab-snoc i (λ (j : ℕ). newSeqs vs₀ p from s (getD nodes j 0))) ∙ concat-snoc (tab i (λ (j : ℕ). newSeqs vs₀ p from s (getD nodes j 0))) (newSeqs vs₀ p from s v)));
+            ∙ ap (λ (x : List (List ℕ)). seqsIn n vs₀ p ++ x) (sym
+            (ap concat (tab-snoc i (λ (j : ℕ). newSeqs vs₀ p from s (getD nodes j 0)))
+            ∙ concat-snoc (tab i (λ (j : ℕ). newSeqs vs₀ p from s (getD nodes j 0))) (newSeqs vs₀ p from s v)));
         same = λ j b. D .same j (omega (arith, S .number, number-low vs₀ nodes s n i)) ∙ S .same j b;
         within = λ used W b. D .within used (S .within used W b) b;
       }

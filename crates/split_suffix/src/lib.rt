@@ -136,8 +136,11 @@ pub fn try_split_common_suffix(
     map: &mut [u32],
     bottom: usize,
 ) -> Tried
-    requires { ⌜ Room (now es) (now vs) (now p) (now heads) (now nexts) (now nodes) (now map) × (Holds held (now es) (now vs) (now p) (now heads) (now nexts) × (Indexed (held .m) (held .n) (now es) (now heads) (now nexts) × (bottom < held .n))) ⌝ }
-    ensures { λ r. ⌜ SplitTried held (now (es .entry)) (now (vs .entry)) (now (p .entry)) (now (heads .entry)) (now (nexts .entry)) bottom r (now (es .exit)) (now (vs .exit)) (now (map .exit)) ⌝ }
+    requires { ⌜ Room (now es) (now vs) (now p) (now heads) (now nexts) (now nodes) (now map)
+        × (Holds held (now es) (now vs) (now p) (now heads) (now nexts)
+        × (Indexed (held .m) (held .n) (now es) (now heads) (now nexts) × (bottom < held .n))) ⌝ }
+    ensures { λ r. ⌜ SplitTried held (now (es .entry)) (now (vs .entry)) (now (p .entry)) (now (heads .entry)) (now (nexts .entry)) bottom r
+        (now (es .exit)) (now (vs .exit)) (now (map .exit)) ⌝ }
 {
     let n = held.n;
     let m = held.m;

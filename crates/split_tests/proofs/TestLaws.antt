@@ -41,7 +41,8 @@ module _ (g : Graph) (s : ℕ) where
       → wouldEliminateRefSource g s (tabFrom a n f) ≡ eqb (length (vertexSequence g (f (a + i)))) s
   unfolding tabFrom
   found-from a zero f i h o t = absurd (not-suc-le-zero h)
-  found-from a (suc n) f zero h o t = would-yes (f a) (tabFrom (suc a) n f) (rw add-zero at t) ∙ ap (λ (x : ℕ). eqb (length (vertexSequence g (f x))) s) (sym (add-zero a))
+  found-from a (suc n) f zero h o t = would-yes (f a) (tabFrom (suc a) n f) (rw add-zero at t)
+      ∙ ap (λ (x : ℕ). eqb (length (vertexSequence g (f x))) s) (sym (add-zero a))
   found-from a (suc n) f (suc i) h o t =
       would-no (f a) (tabFrom (suc a) n f) (rw add-zero at (o zero (omega arith)))
       ∙ found-from (suc a) n f i (omega arith) (λ j b. rw (suc-add, ← add-suc) (o (suc j) (omega arith))) (rw (suc-add, ← add-suc) t)
@@ -60,16 +61,21 @@ pub record Seeking (n m : ℕ) (es nodes : List ℕ) (c i : ℕ) : Type 0 where
   pub none : (j : ℕ) → j < i → RefSource m n es (getD nodes j 0) false
 
 module _ {n m : ℕ} {es nodes : List ℕ} {c i : ℕ} (S : Seeking n m es nodes c i) where
-  pub seeking-found : {vs : List ℕ} {s x : ℕ} {t : Bool} → Below nodes c n → i < c → RefSource m n es (getD nodes i 0) t → t ≡ true → x ≡ getD vs (2 * getD nodes i 0 + 1) 0 → Eliminates n m es vs nodes c s (eqb x s)
+  pub seeking-found : {vs : List ℕ} {s x : ℕ} {t : Bool} → Below nodes c n → i < c → RefSource m n es (getD nodes i 0) t → t ≡ true → x
+      ≡ getD vs (2 * getD nodes i 0 + 1) 0 → Eliminates n m es vs nodes c s (eqb x s)
   seeking-found {vs} {s} {x} B h r t q = record {
     is = λ k p W. let v = getD nodes i 0 in
         ap (λ (y : ℕ). eqb y s) (q ∙ sym (ap length (seq-at k n m es vs p v (B .at i h)) ∙ part-long p _ _ (W .at v (B .at i h))))
-        ∙ sym (found-from (graphIn k n m es vs p) s 0 c (λ (j : ℕ). getD nodes j 0) i h (λ j b. rw zero-add (sym (S .none j b .is k vs p))) (rw zero-add (sym (r .is k vs p) ∙ t))
+        ∙ sym (found-from (graphIn k n m es vs p) s 0 c (λ (j : ℕ). getD nodes j 0) i h (λ j b. rw zero-add (sym (S .none j b .is k vs p)))
+        (rw zero-add (sym (r .is k vs p) ∙ t))
         ∙ ap (λ (y : ℕ). eqb (length (vertexSequence (graphIn k n m es vs p) (getD nodes y 0))) s) (zero-add i));
   }
 
   pub seeking-end : {vs : List ℕ} {s : ℕ} → c ≤ i → Eliminates n m es vs nodes c s false
-  seeking-end {vs} {s} h = record { is = λ k p W. sym (none-from (graphIn k n m es vs p) s 0 c (λ (j : ℕ). getD nodes j 0) (λ j b. rw zero-add (sym (S .none j (omega (arith, S .high)) .is k vs p)))) }
+  seeking-end {vs} {s} h = record {
+    is = λ k p W. sym (none-from (graphIn k n m es vs p) s 0 c (λ (j : ℕ). getD nodes j 0) (λ j b.
+        rw zero-add (sym (S .none j (omega (arith, S .high)) .is k vs p))));
+  }
 
 pub source-no : {m n : ℕ} {es : List ℕ} {v : ℕ} {t : Bool} → RefSource m n es v t → t ≡ false → RefSource m n es v false
 source-no r q = record { is = λ k vs p. sym q ∙ r .is k vs p }
@@ -146,12 +152,14 @@ module _ {n m : ℕ} {es vs p heads nexts nodes : List ℕ} {c : ℕ} (T : Testa
       pub suffix-is : suffixOf g prevs ≡ part p (startAt vs nodes 0 + lenAt vs nodes 0 - s) s
       suffix-is =
           ap commonSuffix (map-tab (vertexSequence g) c (λ (i : ℕ). getD nodes i 0)
-          ∙ tab-ext c (λ (i : ℕ). vertexSequence g (getD nodes i 0)) (λ (i : ℕ). seqIn vs p (getD nodes i 0)) (λ i b. seq-at k n m es vs p (getD nodes i 0) (T .below .at i b))
+          ∙ tab-ext c (λ (i : ℕ). vertexSequence g (getD nodes i 0)) (λ (i : ℕ). seqIn vs p (getD nodes i 0)) (λ i b.
+          seq-at k n m es vs p (getD nodes i 0) (T .below .at i b))
           ∙ sym (drop-none (seqsAt vs p nodes c)))
           ∙ S .is
 
       pub suffix-long : length (suffixOf g prevs) ≡ s
-      suffix-long = ap length suffix-is ∙ part-long p (startAt vs nodes 0 + lenAt vs nodes 0 - s) s (omega (arith, S .all 0 (omega arith), T .pool .at (getD nodes 0 0) first-below))
+      suffix-long = ap length suffix-is ∙ part-long p (startAt vs nodes 0 + lenAt vs nodes 0 - s) s
+          (omega (arith, S .all 0 (omega arith), T .pool .at (getD nodes 0 0) first-below))
 
       empty : s ≡ 0 → isSplit g bottom prevs (suffixOf g prevs) ≡ false
       unfolding isSplit
@@ -178,7 +186,8 @@ module _ {n m : ℕ} {es vs p heads nexts nodes : List ℕ} {c : ℕ} (T : Testa
         unfolding isSplit
         just t = and-no-right several (and-no-right alone (and-no-right shares (and-no-right stays (ap not (all-long-is ∙ t)))))
 
-        passes : Before g bottom prevs → allOf (oneOut m es) prevs ≡ true → 0 < s → e ≡ false → allOf (isLong vs s) prevs ≡ false → isSplit g bottom prevs (suffixOf g prevs) ≡ true
+        passes : Before g bottom prevs → allOf (oneOut m es) prevs ≡ true → 0 < s → e ≡ false → allOf (isLong vs s) prevs ≡ false
+            → isSplit g bottom prevs (suffixOf g prevs) ≡ true
         unfolding isSplit
         passes B o z t l =
             and-true several _ (rw (length-tab c (λ (i : ℕ). getD nodes i 0)) (lt-ltb 1 c (omega arith)))
@@ -189,8 +198,16 @@ module _ {n m : ℕ} {es vs p heads nexts nodes : List ℕ} {c : ℕ} (T : Testa
             each : (v : ℕ) → List·Memᴰ v prevs → apart v ≡ oneOut m es v
             each v d = rw (ne-eqb v bottom (B .other v d), B .not-behind v d, out-degree-is k n m es vs p v) (and-one (oneOut m es v))
 
-  none-split : ((k bottom : ℕ) → isSplit (graphIn k n m es vs p) bottom (numsIn c nodes) (suffixOf (graphIn k n m es vs p) (numsIn c nodes)) ≡ false) → Splits n m es vs p nodes c 0
-  none-split h = record { no = λ z. h; yes = λ z. absurd (omega arith); suffix = λ z. absurd (omega arith); several = λ z. absurd (omega arith); single = λ z. absurd (omega arith) }
+  none-split : ((k bottom : ℕ) → isSplit (graphIn k n m es vs p) bottom (numsIn c nodes) (suffixOf (graphIn k n m es vs p) (numsIn c nodes))
+      ≡ false) → Splits n m es vs p nodes c 0
+  none-split h = record {
+    no = λ z. h;
+    yes = λ z. absurd (omega arith);
+    suffix = λ z. absurd (omega arith);
+    several = λ z.
+        absurd (omega arith);
+    single = λ z. absurd (omega arith);
+  }
 
   pub split-few : c < 2 → Splits n m es vs p nodes c 0
   split-few h = none-split (λ k b. few k b h)

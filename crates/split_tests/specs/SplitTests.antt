@@ -44,7 +44,8 @@ pub record Before (g : Graph) (bottom : ℕ) (l : List ℕ) : Type 0 where
 -- s is the length of the suffix that they are split by, or 0 where they are not split
 pub record Splits (n m : ℕ) (es vs p nodes : List ℕ) (c s : ℕ) : Type 0 where
   pub no : s ≡ 0 → (k bottom : ℕ) → isSplit (graphIn k n m es vs p) bottom (numsIn c nodes) (suffixOf (graphIn k n m es vs p) (numsIn c nodes)) ≡ false
-  pub yes : 0 < s → (k bottom : ℕ) → Before (graphIn k n m es vs p) bottom (numsIn c nodes) → isSplit (graphIn k n m es vs p) bottom (numsIn c nodes) (suffixOf (graphIn k n m es vs p) (numsIn c nodes)) ≡ true
+  pub yes : 0 < s → (k bottom : ℕ) → Before (graphIn k n m es vs p) bottom (numsIn c nodes)
+      → isSplit (graphIn k n m es vs p) bottom (numsIn c nodes) (suffixOf (graphIn k n m es vs p) (numsIn c nodes)) ≡ true
   pub suffix : 0 < s → Suffix vs p nodes 0 c s
   pub several : 0 < s → 1 < c
   pub single : 0 < s → (i : ℕ) → i < c → oneOut m es (getD nodes i 0) ≡ true

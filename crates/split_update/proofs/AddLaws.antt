@@ -10,7 +10,8 @@ use Rattle.defs.specs.SeqGraph.{Edge, saturatingAdd}
 use Rattle.defs.specs.Rewrites.{EdgeData, MidPlan, newEdge, onlyIf, edgesToMiddles, edgesFromMiddles, prefixToSuffixFrom}
 use Rattle.store.specs.Store.{isSet, edge}
 use Rattle.split_update.specs.Pushed.{EdgesPushed, edgeIf, leaves, leftNodes}
-use Rattle.split_update.specs.Ends.{plansOf, planOf, goneNodes, Mids, anyRef, midEdges, nothing, DirectIs, upper, lower, directOnce, newEdges, newEdgesOf, EdgeIfPushed, MidsPushed, Edgeable, EdgesAdded}
+use Rattle.split_update.specs.Ends.{plansOf, planOf, goneNodes, Mids, anyRef, midEdges, nothing, DirectIs, upper, lower, directOnce}
+use Rattle.split_update.specs.Ends.{newEdges, newEdgesOf, EdgeIfPushed, MidsPushed, Edgeable, EdgesAdded}
 use Rattle.split_update.specs.declared.Direct.{Direct}
 use Rattle.split_update.specs.declared.Places.{Places}
 use Rattle.split_update.proofs.PushLaws.{pushed-then}
@@ -21,7 +22,8 @@ unfolding onlyIf bit
 length-only true e = refl
 length-only false e = refl
 
-pub new-length : (w : Places) (l : List MidPlan) (d : EdgeData) → length (newEdges w l d) ≡ bit (w .prefixed) + (bit (w .linked) + (length l + (bit (w .consumed) + length l)))
+pub new-length : (w : Places) (l : List MidPlan) (d : EdgeData) → length (newEdges w l d) ≡ bit (w .prefixed)
+    + (bit (w .linked) + (length l + (bit (w .consumed) + length l)))
 unfolding newEdges
 new-length w l d = omega (
   arith,
@@ -63,9 +65,11 @@ new-length w l d = omega (
 if-count : {k : ℕ} {es : List ℕ} {t : Bool} {a b s f k′ : ℕ} {es′ : List ℕ} → EdgeIfPushed k es t a b s f k′ es′ → k′ ≡ k + bit t
 if-count {k} {t = t} {a = a} {b = b} {s = s} {f = f} A = A .is .count ∙ ap (λ (x : ℕ). k + x) (length-only t (edge a b s f))
 
-mids-count : {m k : ℕ} {es vs heads nodes : List ℕ} {c cut off u first k′ : ℕ} {es′ : List ℕ} → MidsPushed m k es vs heads nodes c cut off u first k′ es′ → k′ ≡ k + length (leftNodes vs cut nodes c)
+mids-count : {m k : ℕ} {es vs heads nodes : List ℕ} {c cut off u first k′ : ℕ} {es′ : List ℕ}
+    → MidsPushed m k es vs heads nodes c cut off u first k′ es′ → k′ ≡ k + length (leftNodes vs cut nodes c)
 mids-count {m} {k} {es} {vs} {heads} {nodes} {c} {cut} {off} {u} {first} A =
-    A .is .count ∙ ap (λ (x : ℕ). k + x) (length-mid off u first (plansOf m es heads (leftNodes vs cut nodes c)) ∙ length-map (leftNodes vs cut nodes c) (planOf m es heads []))
+    A .is .count ∙ ap (λ (x : ℕ). k + x) (length-mid off u first (plansOf m es heads (leftNodes vs cut nodes c))
+    ∙ length-map (leftNodes vs cut nodes c) (planOf m es heads []))
 
 module _ {m : ℕ} {es vs heads nodes : List ℕ} {c cut : ℕ} {w : Places} (E : Edgeable m es vs heads nodes c cut w) where
   abbrev left : List ℕ
@@ -92,7 +96,10 @@ module _ {m : ℕ} {es vs heads nodes : List ℕ} {c cut : ℕ} {w : Places} (E 
       len₂ = A₂ .is .len ∙ A₁ .is .len
 
       pub asks₃ : ((1 ≤ 1) × ((m ≤ k₂) × ((w .middles + c < 4294967296) × Mids m es₂ vs heads nodes c))) × (4 * (k₂ + length left) ≤ length es₂)
-      asks₃ = ((omega arith, (omega (arith, if-count A₁, if-count A₂), (E .small, mids-kept (E .mids) len₂))), omega (arith, room, if-count A₁, if-count A₂, len₂))
+      asks₃ = (
+        (omega arith, (omega (arith, if-count A₁, if-count A₂), (E .small, mids-kept (E .mids) len₂))),
+        omega (arith, room, if-count A₁, if-count A₂, len₂),
+      )
 
       module _ {u₃ k₃ : ℕ} {es₃ : List ℕ} (A₃ : MidsPushed m k₂ es₂ vs heads nodes c cut 1 u₃ (w .middles) k₃ es₃) where
         len₃ : length es₃ ≡ length es
@@ -106,13 +113,23 @@ module _ {m : ℕ} {es vs heads nodes : List ℕ} {c cut : ℕ} {w : Places} (E 
           len₄ = A₄ .is .len ∙ len₃
 
           pub asks₅ : ((0 ≤ 1) × ((m ≤ k₄) × ((w .middles + c < 4294967296) × Mids m es₄ vs heads nodes c))) × (4 * (k₄ + length left) ≤ length es₄)
-          asks₅ = ((omega arith, (omega (arith, if-count A₁, if-count A₂, mids-count A₃, if-count A₄), (E .small, mids-kept (E .mids) len₄))), omega (arith, room, if-count A₁, if-count A₂, mids-count A₃, if-count A₄, len₄))
+          asks₅ = (
+            (
+              omega arith,
+              (
+                omega (arith, if-count A₁, if-count A₂, mids-count A₃, if-count A₄),
+                (E .small, mids-kept (E .mids) len₄),
+              ),
+            ),
+            omega (arith, room, if-count A₁, if-count A₂, mids-count A₃, if-count A₄, len₄),
+          )
 
           kept₂ : (i : ℕ) → i < 4 * m → getD es₂ i 0 ≡ getD es i 0
           kept₂ i h = A₂ .is .same i (omega (arith, if-count A₁)) ∙ A₁ .is .same i h
 
           kept₄ : (i : ℕ) → i < 4 * m → getD es₄ i 0 ≡ getD es i 0
-          kept₄ i h = A₄ .is .same i (omega (arith, if-count A₁, if-count A₂, mids-count A₃)) ∙ A₃ .is .same i (omega (arith, if-count A₁, if-count A₂)) ∙ kept₂ i h
+          kept₄ i h = A₄ .is .same i (omega (arith, if-count A₁, if-count A₂, mids-count A₃))
+              ∙ A₃ .is .same i (omega (arith, if-count A₁, if-count A₂)) ∙ kept₂ i h
 
           plans₂ : plansOf m es₂ heads left ≡ plans
           plans₂ = plans-same (E .mids) es₂ kept₂ (leaves vs cut)
@@ -121,13 +138,16 @@ module _ {m : ℕ} {es vs heads nodes : List ℕ} {c cut : ℕ} {w : Places} (E 
           plans₄ = plans-same (E .mids) es₄ kept₄ (leaves vs cut)
 
           module _ {u₅ k₅ : ℕ} {es₅ : List ℕ} (A₅ : MidsPushed m k₄ es₄ vs heads nodes c cut 0 u₅ (w .middles) k₅ es₅) where
-            pub pushed-all : {d : Direct} (g₁ g₀ : ℕ) {t : ℕ} → DirectIs m es vs heads nodes c cut d → isSet g₁ ≡ anyRef 1 plans → f₁ ≡ max g₁ (d .flag) → isSet g₀ ≡ anyRef 0 plans → f₂ ≡ max g₀ (d .flag)
+            pub pushed-all : {d : Direct} (g₁ g₀ : ℕ) {t : ℕ} → DirectIs m es vs heads nodes c cut d → isSet g₁ ≡ anyRef 1 plans → f₁
+                ≡ max g₁ (d .flag) → isSet g₀ ≡ anyRef 0 plans → f₂ ≡ max g₀ (d .flag)
                 → a₁ ≡ w .top → b₁ ≡ w .prefix → s₁ ≡ 1 → a₂ ≡ w .suffix → b₂ ≡ w .bottom → s₂ ≡ 1
-                → u₃ ≡ upper w → a₄ ≡ upper w → b₄ ≡ lower w → u₅ ≡ lower w → t ≡ saturatingAdd (d .support) (d .support) → s₄ ≡ cond (w .prefixed) t (d .support) → f₄ ≡ d .flag
+                → u₃ ≡ upper w → a₄ ≡ upper w → b₄ ≡ lower w → u₅ ≡ lower w → t ≡ saturatingAdd (d .support) (d .support) → s₄
+                ≡ cond (w .prefixed) t (d .support) → f₄ ≡ d .flag
                 → EdgesAdded m es vs heads nodes c cut w k₅ es₅
             unfolding newEdges newEdge
             pushed-all {d} g₁ g₀ {t} D q₁ h₁ q₀ h₀ i₁ j₁ o₁ i₂ j₂ o₂ i₃ i₄ j₄ i₅ ht hs hf = record {
-              is = subst (λ (new : List Edge). EdgesPushed m es new k₅ es₅) news (pushed-then (A₁ .is) (pushed-then (A₂ .is) (pushed-then (A₃ .is) (pushed-then (A₄ .is) (A₅ .is)))));
+              is = subst (λ (new : List Edge). EdgesPushed m es new k₅ es₅) news
+                  (pushed-then (A₁ .is) (pushed-then (A₂ .is) (pushed-then (A₃ .is) (pushed-then (A₄ .is) (A₅ .is)))));
             }
               where
                 flag : (off g f : ℕ) → isSet g ≡ anyRef off plans → f ≡ max g (d .flag) → isSet f ≡ (anyRef off plans || together .isRef)
@@ -136,9 +156,18 @@ module _ {m : ℕ} {es vs heads nodes : List ℕ} {c cut : ℕ} {w : Places} (E 
                 doubled : s₄ ≡ cond (w .prefixed) (saturatingAdd (together .support) (together .support)) (together .support)
                 doubled = hs ∙ (λ i. cond (w .prefixed) ((ht ∙ (λ j. saturatingAdd (D .is j .support) (D .is j .support))) i) (D .is i .support))
 
-                news : edgeIf (w .prefixed) a₁ b₁ s₁ f₁ ++ (edgeIf (w .linked) a₂ b₂ s₂ f₂ ++ (midEdges 1 u₃ (w .middles) (plansOf m es₂ heads left) ++ (edgeIf (w .consumed) a₄ b₄ s₄ f₄ ++ midEdges 0 u₅ (w .middles) (plansOf m es₄ heads left))))
+                news : edgeIf (w .prefixed) a₁ b₁ s₁ f₁ ++ (edgeIf (w .linked) a₂ b₂ s₂ f₂
+                    ++ (midEdges 1 u₃ (w .middles) (plansOf m es₂ heads left)
+                    ++ (edgeIf (w .consumed) a₄ b₄ s₄ f₄ ++ midEdges 0 u₅ (w .middles) (plansOf m es₄ heads left))))
                     ≡ newEdgesOf m es vs heads nodes c cut w
                 news = λ i.
                     onlyIf (w .prefixed) (record { from = i₁ i; to = j₁ i; support = o₁ i; isRef = flag 1 g₁ f₁ q₁ h₁ i } ∷ [])
                     ++ (onlyIf (w .linked) (record { from = i₂ i; to = j₂ i; support = o₂ i; isRef = flag 0 g₀ f₂ q₀ h₀ i } ∷ [])
-                    ++ (edgesToMiddles (i₃ i) (w .middles) (plans₂ i) ++ (onlyIf (w .consumed) (record { from = i₄ i; to = j₄ i; support = doubled i; isRef = (ap isSet hf ∙ (λ j. D .is j .isRef)) i } ∷ []) ++ edgesFromMiddles (w .middles) (i₅ i) (plans₄ i))))
+                    ++ (edgesToMiddles (i₃ i) (w .middles) (plans₂ i)
+                    ++ (onlyIf (w .consumed) (record {
+                      from = i₄ i;
+                      to = j₄ i;
+                      support = doubled i;
+                      isRef =
+                          (ap isSet hf ∙ (λ j. D .is j .isRef)) i;
+                    } ∷ []) ++ edgesFromMiddles (w .middles) (i₅ i) (plans₄ i))))

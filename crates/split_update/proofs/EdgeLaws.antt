@@ -9,7 +9,8 @@ use native.Mathlib.Omega.{arith}
 use lib.ListN.{length}
 use Rattle.defs.specs.Lists.{bit}
 use Rattle.defs.specs.SeqGraph.{Edge, hasEnds, addOrUpdateEdge, addOrUpdateEdges, saturatingAdd}
-use Rattle.defs.specs.Rewrites.{EdgeData, MidPlan, newEdge, newEdgeIf, joinedData, onlyIf, orElse, isNone, isRefIf, edgesToMiddles, edgesFromMiddles, prefixToSuffix, prefixToSuffixFrom, splitAndUpdateWith}
+use Rattle.defs.specs.Rewrites.{EdgeData, MidPlan, newEdge, newEdgeIf, joinedData, onlyIf, orElse, isNone, isRefIf, edgesToMiddles}
+use Rattle.defs.specs.Rewrites.{edgesFromMiddles, prefixToSuffix, prefixToSuffixFrom, splitAndUpdateWith}
 use Rattle.laws.proofs.Walks.{byTest}
 use Rattle.laws.proofs.ListLaws.{and-split}
 use Rattle.laws.proofs.Edges.{Linked, linked-tail, raise-yes, raise-no, joins-ends}
@@ -22,7 +23,8 @@ use Rattle.split_update.specs.declared.Places.{Places}
 
 -- ---- edges with new ends
 
-raise-new : (u v s : ℕ) (r : Bool) (es : List Edge) → (Linked es u v → ⊥) → addOrUpdateEdge u v s r es ≡ es ++ (record { from = u; to = v; support = s; isRef = r } ∷ [])
+raise-new : (u v s : ℕ) (r : Bool) (es : List Edge) → (Linked es u v → ⊥) → addOrUpdateEdge u v s r es ≡ es
+    ++ (record { from = u; to = v; support = s; isRef = r } ∷ [])
 unfolding addOrUpdateEdge
 raise-new u v s r [] h = refl
 raise-new u v s r (e ∷ es) h = byTest (hasEnds u v e)
@@ -42,7 +44,8 @@ unfolding addOrUpdateEdges
 raise-fresh [] es s h = sym (append-nil es)
 raise-fresh (n ∷ ns) es s h =
     ap (addOrUpdateEdges ns) (raise-new (n .from) (n .to) (n .support) (n .isRef) es (λ l. h (n .from) (n .to) (n, List·Memᴰ·head refl, refl, refl) l))
-    ∙ raise-fresh ns (es ++ (n ∷ [])) (s .1) (λ u v a b. linked-append es (n ∷ []) u v b (λ l. h u v (linked-tail u v a) l) (λ l. let q = of-one n u v l in s .0 (rw (q .0, q .1) at a)))
+    ∙ raise-fresh ns (es ++ (n ∷ [])) (s .1) (λ u v a b. linked-append es (n ∷ []) u v b (λ l. h u v (linked-tail u v a) l) (λ l. let q =
+    of-one n u v l in s .0 (rw (q .0, q .1) at a)))
     ∙ append-assoc es (n ∷ []) ns
 
 single-append : (xs ys : List Edge) → Single xs → Single ys → ((u v : ℕ) → Linked xs u v → Linked ys u v → ⊥) → Single (xs ++ ys)
@@ -82,7 +85,8 @@ or-same : (r : Bool) → (r || r) ≡ r
 or-same true = refl
 or-same false = refl
 
-join-last : (P : Bool) (o : Option EdgeData) (u v : ℕ) (x y : List Edge) → (Linked x u v → ⊥) → addOrUpdateEdges (onlyIf P (newEdgeIf u v o)) (x ++ (newEdgeIf u v o ++ y)) ≡ x ++ (newEdgeIf u v (twiceIf P o) ++ y)
+join-last : (P : Bool) (o : Option EdgeData) (u v : ℕ) (x y : List Edge) → (Linked x u v → ⊥)
+    → addOrUpdateEdges (onlyIf P (newEdgeIf u v o)) (x ++ (newEdgeIf u v o ++ y)) ≡ x ++ (newEdgeIf u v (twiceIf P o) ++ y)
 unfolding onlyIf newEdgeIf addOrUpdateEdges twiceIf newEdge
 join-last false none u v x y h = refl
 join-last false (some d) u v x y h = refl
@@ -106,11 +110,21 @@ gathered-ref [] = refl
 gathered-ref (m ∷ l) = ap (λ (d : EdgeData). (prefixToSuffixFrom d l) .isRef) (sym (joined-nothing (m .toMid) (m .fromMid)))
 
 gathered-edge : (P : Bool) (u v : ℕ) (l : List MidPlan) → newEdgeIf u v (twiceIf P (prefixToSuffix l))
-    ≡ onlyIf (isCons l) (newEdge u v (record { support = cond P (saturatingAdd ((prefixToSuffixFrom nothing l) .support) ((prefixToSuffixFrom nothing l) .support)) ((prefixToSuffixFrom nothing l) .support); isRef = (prefixToSuffixFrom nothing l) .isRef }) ∷ [])
+    ≡ onlyIf (isCons l) (newEdge u v (record {
+      support = cond P
+          (saturatingAdd ((prefixToSuffixFrom nothing l) .support) ((prefixToSuffixFrom nothing l) .support))
+          ((prefixToSuffixFrom nothing l) .support);
+      isRef = (prefixToSuffixFrom nothing l) .isRef;
+    }) ∷ [])
 unfolding newEdgeIf twiceIf prefixToSuffix prefixToSuffixFrom onlyIf isCons
 gathered-edge P u v [] = refl
 gathered-edge P u v (m ∷ l) =
-    ap (λ (a : EdgeData). newEdge u v (record { support = cond P (saturatingAdd ((prefixToSuffixFrom a l) .support) ((prefixToSuffixFrom a l) .support)) ((prefixToSuffixFrom a l) .support); isRef = (prefixToSuffixFrom a l) .isRef }) ∷ [])
+    ap (λ (a : EdgeData). newEdge u v (record {
+      support = cond P
+          (saturatingAdd ((prefixToSuffixFrom a l) .support) ((prefixToSuffixFrom a l) .support)) ((prefixToSuffixFrom a l) .support);
+      isRef =
+          (prefixToSuffixFrom a l) .isRef;
+    }) ∷ [])
     (sym (joined-nothing (m .toMid) (m .fromMid)))
 
 -- ---- all of them
@@ -245,11 +259,13 @@ module _ (P S : Bool) (n top : ℕ) (bottom : Option ℕ) (lefts others : List M
       linked-append e₁ (e₂ ++ (e₃ ++ (e₄ ++ e₅))) u v l (λ h. omega (arith, in₁ u v h .1 .1, a .1))
       (λ l₂. linked-append e₂ (e₃ ++ (e₄ ++ e₅)) u v l₂ (λ h. omega (arith, in₂ u v h .1, a .0))
       (λ l₃. linked-append e₃ (e₄ ++ e₅) u v l₃ (λ h. omega (arith, in₃ u v h .1, a .1))
-      (λ l₄. linked-append e₄ e₅ u v l₄ (λ h. let q = in₄ u v h in between-new (omega (arith, q .0, a .0)) (omega (arith, q .1, a .1))) (λ h. omega (arith, in₅ u v h, a .0)))))
+      (λ l₄. linked-append e₄ e₅ u v l₄ (λ h. let q = in₄ u v h in between-new (omega (arith, q .0, a .0)) (omega (arith, q .1, a .1)))
+      (λ h. omega (arith, in₅ u v h, a .0)))))
 
   single : Single new
   unfolding new
-  single = single-append e₁ (e₂ ++ (e₃ ++ (e₄ ++ e₅))) (single-only P f₁) (single-append e₂ (e₃ ++ (e₄ ++ e₅)) (single-only linked f₂) (single-append e₃ (e₄ ++ e₅) (single-to t mv lefts)
+  single = single-append e₁ (e₂ ++ (e₃ ++ (e₄ ++ e₅))) (single-only P f₁)
+      (single-append e₂ (e₃ ++ (e₄ ++ e₅)) (single-only linked f₂) (single-append e₃ (e₄ ++ e₅) (single-to t mv lefts)
       (single-append e₄ e₅ (single-if t b gone) (single-from b mv lefts) apart₄) apart₃) apart₂) apart₁
 
   abbrev before : List Edge
@@ -263,7 +279,8 @@ module _ (P S : Bool) (n top : ℕ) (bottom : Option ℕ) (lefts others : List M
   abbrev places : Places
   places = record { top = top; bottom = b₀; prefix = n; suffix = sv; middles = mv; prefixed = P; suffixed = S; linked = linked; consumed = isCons others }
 
-  pub split-edges : addOrUpdateEdges ((splitAndUpdateWith P S n top bottom lefts gone prefix suffix mids) .edges) es ≡ es ++ newEdges places lefts (prefixToSuffixFrom nothing others)
+  pub split-edges : addOrUpdateEdges ((splitAndUpdateWith P S n top bottom lefts gone prefix suffix mids) .edges) es ≡ es
+      ++ newEdges places lefts (prefixToSuffixFrom nothing others)
   unfolding splitAndUpdateWith newEdges new
   split-edges =
       ap (λ (l : List Edge). addOrUpdateEdges l es) shape
@@ -271,7 +288,9 @@ module _ (P S : Bool) (n top : ℕ) (bottom : Option ℕ) (lefts others : List M
       ∙ ap (addOrUpdateEdges (onlyIf P e₄)) (raise-fresh new es single apart₀ ∙ regroup es e₁ e₂ e₃ (e₄ ++ e₅))
       ∙ join-last P gone t b before e₅ before-apart
       ∙ sym (regroup es e₁ e₂ e₃ (newEdgeIf t b (twiceIf P gone) ++ e₅))
-      ∙ (λ i. es ++ (onlyIf P (newEdge top n (record { support = 1; isRef = anyRef 1 lefts || gathered-ref others i }) ∷ []) ++ (onlyIf linked (newEdge sv b₀ (record { support = 1; isRef = anyRef 0 lefts || gathered-ref others i }) ∷ []) ++ (e₃ ++ (gathered-edge P t b others i ++ e₅)))))
+      ∙ (λ i. es ++ (onlyIf P (newEdge top n (record { support = 1; isRef = anyRef 1 lefts || gathered-ref others i }) ∷ [])
+      ++ (onlyIf linked (newEdge sv b₀ (record { support = 1; isRef = anyRef 0 lefts || gathered-ref others i }) ∷ [])
+      ++ (e₃ ++ (gathered-edge P t b others i ++ e₅)))))
     where
       shape : e₁ ++ (e₂ ++ (e₃ ++ (e₄ ++ (e₅ ++ onlyIf P e₄)))) ≡ (e₁ ++ (e₂ ++ (e₃ ++ (e₄ ++ e₅)))) ++ onlyIf P e₄
       shape = sym (simp append-assoc)
@@ -280,7 +299,8 @@ module _ (P S : Bool) (n top : ℕ) (bottom : Option ℕ) (lefts others : List M
       regroup x a c d r = sym (simp append-assoc)
 
   -- the ends of the new edges are old or new vertices
-  pub split-below : (u v : ℕ) → Linked ((splitAndUpdateWith P S n top bottom lefts gone prefix suffix mids) .edges) u v → (u < mv + length lefts) × (v < mv + length lefts)
+  pub split-below : (u v : ℕ) → Linked ((splitAndUpdateWith P S n top bottom lefts gone prefix suffix mids) .edges) u v
+      → (u < mv + length lefts) × (v < mv + length lefts)
   split-below u v l = W.of-links P S n top bottom lefts gone prefix suffix mids u v l
       (λ p q r. (omega (arith, top-old), omega (arith, bit-yes P p)))
       (λ s d e q r. (omega (arith, bit-yes S s), omega (arith, bottom-old, some-is bottom d e)))

@@ -54,13 +54,21 @@ unfolding keepIf tabFrom
 gone-none vs nodes cut = refl
 
 -- where node i is left, there are more among the first c than among the first i
-pub left-room : (vs nodes : List ℕ) (cut i c : ℕ) → i < c → cut < lenOf vs (getD nodes i 0) → length (leftNodes vs cut nodes i) + 1 ≤ length (leftNodes vs cut nodes c)
+pub left-room : (vs nodes : List ℕ) (cut i c : ℕ) → i < c → cut < lenOf vs (getD nodes i 0) → length (leftNodes vs cut nodes i)
+    + 1 ≤ length (leftNodes vs cut nodes c)
 left-room vs nodes cut i c h b =
     let e : c ≡ (i + 1) + (c - (i + 1)) = omega arith in
     let rest = tab (c - (i + 1)) (λ (j : ℕ). nodeAt nodes ((i + 1) + j)) in
     let q : leftNodes vs cut nodes c ≡ leftNodes vs cut nodes (i + 1) ++ keepIf (leaves vs cut) rest
-    = ap (keepIf (leaves vs cut)) (ap (λ (x : ℕ). tab x (nodeAt nodes)) e ∙ tab-append (i + 1) (c - (i + 1)) (nodeAt nodes)) ∙ keepIf-append (leaves vs cut) (numsIn (i + 1) nodes) rest in
-    omega (arith, ap length q, length-append (leftNodes vs cut nodes (i + 1)) (keepIf (leaves vs cut) rest), ap length (left-more vs nodes cut i b), length-append (leftNodes vs cut nodes i) (nodeAt nodes i ∷ []))
+    = ap (keepIf (leaves vs cut)) (ap (λ (x : ℕ). tab x (nodeAt nodes)) e ∙ tab-append (i + 1) (c - (i + 1)) (nodeAt nodes))
+    ∙ keepIf-append (leaves vs cut) (numsIn (i + 1) nodes) rest in
+    omega (
+      arith,
+      ap length q,
+      length-append (leftNodes vs cut nodes (i + 1)) (keepIf (leaves vs cut) rest),
+      ap length (left-more vs nodes cut i b),
+      length-append (leftNodes vs cut nodes i) (nodeAt nodes i ∷ []),
+    )
 
 pub set-max : (w r : ℕ) → isSet (max w r) ≡ (isSet w || isSet r)
 set-max w r = byTest (eqb w 0)
@@ -74,7 +82,8 @@ unfolding anyOf
 any-snoc p [] x = byTest (p x) (λ t. rw t) (λ t. rw t)
 any-snoc p (y ∷ l) x = byTest (p y) (λ t. rw (t, anyOf)) (λ t. rw (t, anyOf) (any-snoc p l x))
 
-pub join-snoc : (a : EdgeData) (l : List MidPlan) (q : MidPlan) → prefixToSuffixFrom a (l ++ (q ∷ [])) ≡ joinedData (prefixToSuffixFrom a l) (joinedData (q .toMid) (q .fromMid))
+pub join-snoc : (a : EdgeData) (l : List MidPlan) (q : MidPlan) → prefixToSuffixFrom a (l ++ (q ∷ []))
+    ≡ joinedData (prefixToSuffixFrom a l) (joinedData (q .toMid) (q .fromMid))
 unfolding prefixToSuffixFrom
 join-snoc a [] q = refl
 join-snoc a (m ∷ l) q = join-snoc (joinedData a (joinedData (m .toMid) (m .fromMid))) l q
@@ -82,12 +91,15 @@ join-snoc a (m ∷ l) q = join-snoc (joinedData a (joinedData (m .toMid) (m .fro
 to-snoc : (u j : ℕ) (l : List MidPlan) (q : MidPlan) → edgesToMiddles u j (l ++ (q ∷ [])) ≡ edgesToMiddles u j l ++ (newEdge u (j + length l) (q .toMid) ∷ [])
 unfolding edgesToMiddles
 to-snoc u j [] q = ap (λ (x : ℕ). newEdge u x (q .toMid) ∷ []) (sym (add-zero j))
-to-snoc u j (m ∷ l) q = ap (λ (r : List Edge). newEdge u j (m .toMid) ∷ r) (to-snoc u (suc j) l q ∙ ap (λ (x : ℕ). edgesToMiddles u (suc j) l ++ (newEdge u x (q .toMid) ∷ [])) (omega arith))
+to-snoc u j (m ∷ l) q = ap (λ (r : List Edge). newEdge u j (m .toMid) ∷ r) (to-snoc u (suc j) l q
+    ∙ ap (λ (x : ℕ). edgesToMiddles u (suc j) l ++ (newEdge u x (q .toMid) ∷ [])) (omega arith))
 
-from-snoc : (u j : ℕ) (l : List MidPlan) (q : MidPlan) → edgesFromMiddles j u (l ++ (q ∷ [])) ≡ edgesFromMiddles j u l ++ (newEdge (j + length l) u (q .fromMid) ∷ [])
+from-snoc : (u j : ℕ) (l : List MidPlan) (q : MidPlan) → edgesFromMiddles j u (l ++ (q ∷ [])) ≡ edgesFromMiddles j u l
+    ++ (newEdge (j + length l) u (q .fromMid) ∷ [])
 unfolding edgesFromMiddles
 from-snoc u j [] q = ap (λ (x : ℕ). newEdge x u (q .fromMid) ∷ []) (sym (add-zero j))
-from-snoc u j (m ∷ l) q = ap (λ (r : List Edge). newEdge j u (m .fromMid) ∷ r) (from-snoc u (suc j) l q ∙ ap (λ (x : ℕ). edgesFromMiddles (suc j) u l ++ (newEdge x u (q .fromMid) ∷ [])) (omega arith))
+from-snoc u j (m ∷ l) q = ap (λ (r : List Edge). newEdge j u (m .fromMid) ∷ r) (from-snoc u (suc j) l q
+    ∙ ap (λ (x : ℕ). edgesFromMiddles (suc j) u l ++ (newEdge x u (q .fromMid) ∷ [])) (omega arith))
 
 pub length-to : (u j : ℕ) (l : List MidPlan) → length (edgesToMiddles u j l) ≡ length l
 unfolding edgesToMiddles
@@ -106,7 +118,8 @@ length-mid off u j l = byTest (eqb off 1) (λ t. rw t (length-to u j l)) (λ t. 
 abbrev pub midEdge : ℕ → ℕ → ℕ → EdgeData → Edge
 midEdge off u j d = cond (eqb off 1) (newEdge u j d) (newEdge j u d)
 
-pub mid-snoc : (off u j : ℕ) (l : List MidPlan) (q : MidPlan) → midEdges off u j (l ++ (q ∷ [])) ≡ midEdges off u j l ++ (midEdge off u (j + length l) (midData off q) ∷ [])
+pub mid-snoc : (off u j : ℕ) (l : List MidPlan) (q : MidPlan) → midEdges off u j (l ++ (q ∷ [])) ≡ midEdges off u j l
+    ++ (midEdge off u (j + length l) (midData off q) ∷ [])
 mid-snoc off u j l q = byTest (eqb off 1) (λ t. rw t (to-snoc u j l q)) (λ t. rw t (from-snoc u j l q))
 
 pub mid-none : (off u j : ℕ) → midEdges off u j [] ≡ []
@@ -139,7 +152,8 @@ map-same f g [] h = refl
 map-same f g (x ∷ l) h = λ i. h x (List·Memᴰ·head refl) i ∷ map-same f g l (λ y k. h y (List·Memᴰ·tail k)) i
 
 -- the plans are the same where the first m edges are
-pub plans-same : {m : ℕ} {es vs heads nodes : List ℕ} {c : ℕ} → Mids m es vs heads nodes c → (es′ : List ℕ) → ((i : ℕ) → i < 4 * m → getD es′ i 0 ≡ getD es i 0) → (t : ℕ → Bool)
+pub plans-same : {m : ℕ} {es vs heads nodes : List ℕ} {c : ℕ} → Mids m es vs heads nodes c → (es′ : List ℕ)
+    → ((i : ℕ) → i < 4 * m → getD es′ i 0 ≡ getD es i 0) → (t : ℕ → Bool)
     → plansOf m es′ heads (keepIf t (numsIn c nodes)) ≡ plansOf m es heads (keepIf t (numsIn c nodes))
 plans-same {m} {es} {vs} {heads} {nodes} {c} M es′ same t = map-same (planOf m es′ heads []) (planOf m es heads []) (keepIf t (numsIn c nodes)) (λ v k.
     let r = of-mem-tab c (nodeAt nodes) (of-keepIf t (numsIn c nodes) k .0) in
@@ -149,7 +163,8 @@ plans-same {m} {es} {vs} {heads} {nodes} {c} M es′ same t = map-same (planOf m
 pub mids-kept : {m : ℕ} {es es′ vs heads nodes : List ℕ} {c : ℕ} → Mids m es vs heads nodes c → length es′ ≡ length es → Mids m es′ vs heads nodes c
 mids-kept M q = record { es-room = omega (arith, M .es-room); nodes-room = M .nodes-room; in-vs = M .in-vs; in-heads = M .in-heads; entered = M .entered }
 
-pub mids-enter : {m : ℕ} {es vs heads nodes : List ℕ} {c : ℕ} → Mids m es vs heads nodes c → (off i : ℕ) → off ≤ 1 → i < c → Entered m es heads off (getD nodes i 0)
+pub mids-enter : {m : ℕ} {es vs heads nodes : List ℕ} {c : ℕ} → Mids m es vs heads nodes c → (off i : ℕ) → off ≤ 1 → i < c
+    → Entered m es heads off (getD nodes i 0)
 mids-enter M off i o h = record { off-small = o; es-room = M .es-room; heads-room = M .in-heads i h; first = M .entered i h }
 
 pub node-counts : (vs nodes : List ℕ) (cut c : ℕ) → length (leftNodes vs cut nodes c) + length (goneNodes vs cut nodes c) ≡ c
@@ -160,7 +175,8 @@ node-counts vs nodes cut c = length-parts (leaves vs cut) (numsIn c nodes) ∙ l
 pub keepIf-same : {A : Type 0} (p q : A → Bool) (l : List A) → ((x : A) → List·Memᴰ x l → p x ≡ q x) → keepIf p l ≡ keepIf q l
 unfolding keepIf
 keepIf-same p q [] h = refl
-keepIf-same {A} p q (x ∷ l) h = λ i. cond (h x (List·Memᴰ·head refl) i) (x ∷ keepIf-same p q l (λ y k. h y (List·Memᴰ·tail k)) i) (keepIf-same p q l (λ y k. h y (List·Memᴰ·tail k)) i)
+keepIf-same {A} p q (x ∷ l) h = λ i. cond (h x (List·Memᴰ·head refl) i) (x ∷ keepIf-same p q l (λ y k. h y (List·Memᴰ·tail k)) i)
+    (keepIf-same p q l (λ y k. h y (List·Memᴰ·tail k)) i)
 
 module _ (vs vs′ nodes : List ℕ) (cut c : ℕ) (same : (i : ℕ) → i < c → lenOf vs′ (getD nodes i 0) ≡ lenOf vs (getD nodes i 0)) where
   leaves-same : (v : ℕ) → List·Memᴰ v (numsIn c nodes) → leaves vs′ cut v ≡ leaves vs cut v

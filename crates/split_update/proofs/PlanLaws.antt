@@ -9,7 +9,8 @@ use lib.Dec.{eqb, ltb}
 use borrow.Author.Tests.{lt-ltb, le-ltb, ltb-true, ltb-false}
 use Rattle.defs.specs.Lists.{keepIf, anyOf}
 use Rattle.defs.specs.SeqGraph.{Edge, Graph, vertexSequence, edgesFrom, edgesInto, isReferenceNode}
-use Rattle.defs.specs.Rewrites.{EdgeData, MidPlan, midPlan, processEdge, hasRemaining, edgesToMiddles, edgesFromMiddles, prefixToSuffixFrom, newEdge, joinedData}
+use Rattle.defs.specs.Rewrites.{EdgeData, MidPlan, midPlan, processEdge, hasRemaining, edgesToMiddles, edgesFromMiddles, prefixToSuffixFrom}
+use Rattle.defs.specs.Rewrites.{newEdge, joinedData}
 use Rattle.laws.proofs.Walks.{byTest}
 use Rattle.laws.proofs.ListLaws.{keepIf-yes, keepIf-no}
 use Rattle.tabs.proofs.Tabs.{getD-tab}
@@ -33,7 +34,9 @@ any-no : {A : Type 0} (p : A → Bool) (x : A) (l : List A) → p x ≡ false �
 unfolding anyOf
 any-no p x l t = rw (t, anyOf)
 
-ref-into : (v : ℕ) (es : List Edge) → keepIf (λ (e : Edge). eqb (e .from) v) es ≡ [] → anyOf (λ (e : Edge). e .isRef && (eqb (e .from) v || eqb (e .to) v)) es ≡ anyOf (λ (e : Edge). e .isRef) (keepIf (λ (e : Edge). eqb (e .to) v) es)
+ref-into : (v : ℕ) (es : List Edge) → keepIf (λ (e : Edge). eqb (e .from) v) es ≡ []
+    → anyOf (λ (e : Edge). e .isRef && (eqb (e .from) v || eqb (e .to) v)) es
+    ≡ anyOf (λ (e : Edge). e .isRef) (keepIf (λ (e : Edge). eqb (e .to) v) es)
 unfolding anyOf keepIf
 ref-into v [] h = refl
 ref-into v (e ∷ es) h = byTest (eqb (e .from) v)
@@ -41,9 +44,15 @@ ref-into v (e ∷ es) h = byTest (eqb (e .from) v)
     (λ t. let ih = ref-into v es (sym (keepIf-no (λ (d : Edge). eqb (d .from) v) e es t) ∙ h) in
     byTest (eqb (e .to) v)
     (λ u. byTest (e .isRef)
-    (λ r. any-yes (λ (d : Edge). d .isRef && (eqb (d .from) v || eqb (d .to) v)) e es (rw (t, u, r)) ∙ sym (ap (anyOf (λ (d : Edge). d .isRef)) (keepIf-yes (λ (d : Edge). eqb (d .to) v) e es u) ∙ any-yes (λ (d : Edge). d .isRef) e (keepIf (λ (d : Edge). eqb (d .to) v) es) r))
-    (λ r. any-no (λ (d : Edge). d .isRef && (eqb (d .from) v || eqb (d .to) v)) e es (rw (t, u, r)) ∙ ih ∙ sym (ap (anyOf (λ (d : Edge). d .isRef)) (keepIf-yes (λ (d : Edge). eqb (d .to) v) e es u) ∙ any-no (λ (d : Edge). d .isRef) e (keepIf (λ (d : Edge). eqb (d .to) v) es) r)))
-    (λ u. any-no (λ (d : Edge). d .isRef && (eqb (d .from) v || eqb (d .to) v)) e es (byTest (e .isRef) (λ r. rw (t, u, r)) (λ r. rw (t, u, r))) ∙ ih ∙ sym (ap (anyOf (λ (d : Edge). d .isRef)) (keepIf-no (λ (d : Edge). eqb (d .to) v) e es u))))
+    (λ r. any-yes (λ (d : Edge). d .isRef && (eqb (d .from) v || eqb (d .to) v)) e es (rw (t, u, r))
+    ∙ sym (ap (anyOf (λ (d : Edge). d .isRef)) (keepIf-yes (λ (d : Edge). eqb (d .to) v) e es u)
+    ∙ any-yes (λ (d : Edge). d .isRef) e (keepIf (λ (d : Edge). eqb (d .to) v) es) r))
+    (λ r. any-no (λ (d : Edge). d .isRef && (eqb (d .from) v || eqb (d .to) v)) e es (rw (t, u, r)) ∙ ih
+    ∙ sym (ap (anyOf (λ (d : Edge). d .isRef)) (keepIf-yes (λ (d : Edge). eqb (d .to) v) e es u)
+    ∙ any-no (λ (d : Edge). d .isRef) e (keepIf (λ (d : Edge). eqb (d .to) v) es) r)))
+    (λ u. any-no (λ (d : Edge). d .isRef && (eqb (d .from) v || eqb (d .to) v)) e es
+    (byTest (e .isRef) (λ r. rw (t, u, r)) (λ r. rw (t, u, r))) ∙ ih
+    ∙ sym (ap (anyOf (λ (d : Edge). d .isRef)) (keepIf-no (λ (d : Edge). eqb (d .to) v) e es u))))
 
 any-one : (e : Edge) → anyOf (λ (d : Edge). d .isRef) (e ∷ []) ≡ e .isRef
 unfolding anyOf
@@ -114,7 +123,8 @@ module _ (m : ℕ) (es heads : List ℕ) (rest : ℕ → List ℕ) where
   from-bare u j [] = refl
   from-bare u j (v ∷ l) = ap (λ (r : List Edge). newEdge j u (endData m es heads 0 v) ∷ r) (from-bare u (suc j) l)
 
-  ref-bare : (p : EdgeData → EdgeData → Bool) (l : List ℕ) → anyOf (λ (q : MidPlan). p (q .toMid) (q .fromMid)) (map full l) ≡ anyOf (λ (q : MidPlan). p (q .toMid) (q .fromMid)) (map bare l)
+  ref-bare : (p : EdgeData → EdgeData → Bool) (l : List ℕ) → anyOf (λ (q : MidPlan). p (q .toMid) (q .fromMid)) (map full l)
+      ≡ anyOf (λ (q : MidPlan). p (q .toMid) (q .fromMid)) (map bare l)
   unfolding anyOf
   ref-bare p [] = refl
   ref-bare p (v ∷ l) = byTest (p (endData m es heads 1 v) (endData m es heads 0 v)) (λ t. rw (t, anyOf)) (λ t. rw (t, anyOf) (ref-bare p l))

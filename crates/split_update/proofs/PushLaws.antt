@@ -30,7 +30,8 @@ pushed-one {k} {es} {es′} a b s f h q = record {
   is = ap (edgesIn (k + 1)) q ∙ put-push k es a b s f h;
 }
 
-pub pushed-then : {k k′ k″ : ℕ} {es es′ es″ : List ℕ} {x y : List Edge} → EdgesPushed k es x k′ es′ → EdgesPushed k′ es′ y k″ es″ → EdgesPushed k es (x ++ y) k″ es″
+pub pushed-then : {k k′ k″ : ℕ} {es es′ es″ : List ℕ} {x y : List Edge} → EdgesPushed k es x k′ es′ → EdgesPushed k′ es′ y k″ es″
+    → EdgesPushed k es (x ++ y) k″ es″
 pushed-then {k} {es = es} {x = x} {y = y} A B = record {
   count = omega (arith, A .count, B .count, length-append x y);
   len = B .len ∙ A .len;
@@ -42,7 +43,8 @@ pub pushed-not : {k : ℕ} {es : List ℕ} (t : Bool) (a b s f : ℕ) → not t 
 unfolding onlyIf
 pushed-not {k} {es} t a b s f h = rw (not-true t h) (pushed-none k es)
 
-pub pushed-yes : {k : ℕ} {es es′ : List ℕ} (t : Bool) (a b s f : ℕ) → not t ≡ false → 4 * (k + bit t) ≤ length es → es′ ≡ putEdge es k a b s f → EdgesPushed k es (edgeIf t a b s f) (k + 1) es′
+pub pushed-yes : {k : ℕ} {es es′ : List ℕ} (t : Bool) (a b s f : ℕ) → not t ≡ false → 4 * (k + bit t) ≤ length es → es′
+    ≡ putEdge es k a b s f → EdgesPushed k es (edgeIf t a b s f) (k + 1) es′
 unfolding onlyIf bit
 pushed-yes {k} {es} {es′} t a b s f h r q =
     let e = not-false t h in
@@ -74,17 +76,20 @@ length-put-vertex vs k s n = simp length-set
 pub verts-none : (k : ℕ) (vs p : List ℕ) → VertsPushed k vs p [] k vs
 verts-none k vs p = record { count = omega arith; len = refl; same = λ i h. refl; is = sym (append-nil (seqsIn k vs p)) }
 
-verts-one : {k : ℕ} {vs vs′ : List ℕ} (s n : ℕ) (p : List ℕ) → 2 * k + 2 ≤ length vs → vs′ ≡ putVertex vs k s n → VertsPushed k vs p (part p s n ∷ []) (k + 1) vs′
+verts-one : {k : ℕ} {vs vs′ : List ℕ} (s n : ℕ) (p : List ℕ) → 2 * k + 2 ≤ length vs → vs′ ≡ putVertex vs k s n
+    → VertsPushed k vs p (part p s n ∷ []) (k + 1) vs′
 verts-one {k} {vs} {vs′} s n p h q = record {
   count = refl;
   len = ap length q ∙ length-put-vertex vs k s n;
   same = λ i b. ap (λ (l : List ℕ). getD l i 0) q ∙ put-before vs k s n i b;
   is = ap (λ (l : List ℕ). seqsIn (k + 1) l p) q ∙ tab-snoc k (seqIn (putVertex vs k s n) p)
-      ∙ (λ j. tab-ext k (seqIn (putVertex vs k s n) p) (seqIn vs p) (λ v b i. part p (put-before vs k s n (2 * v) (omega arith) i) (put-before vs k s n (2 * v + 1) (omega arith) i)) j
+      ∙ (λ j. tab-ext k (seqIn (putVertex vs k s n) p) (seqIn vs p) (λ v b i.
+      part p (put-before vs k s n (2 * v) (omega arith) i) (put-before vs k s n (2 * v + 1) (omega arith) i)) j
       ++ (part p (put-start vs k s n h j) (put-len vs k s n h j) ∷ []));
 }
 
-pub verts-then : {k k′ k″ : ℕ} {vs vs′ vs″ p : List ℕ} {x y : List (List ℕ)} → VertsPushed k vs p x k′ vs′ → VertsPushed k′ vs′ p y k″ vs″ → VertsPushed k vs p (x ++ y) k″ vs″
+pub verts-then : {k k′ k″ : ℕ} {vs vs′ vs″ p : List ℕ} {x y : List (List ℕ)} → VertsPushed k vs p x k′ vs′ → VertsPushed k′ vs′ p y k″ vs″
+    → VertsPushed k vs p (x ++ y) k″ vs″
 verts-then {k} {vs = vs} {p = p} {x = x} {y = y} A B = record {
   count = omega (arith, A .count, B .count, length-append x y);
   len = B .len ∙ A .len;
@@ -122,7 +127,8 @@ part-put {k} {n} {vs} {vs′} {start} z h q = record {
 }
 
 -- the part of a sequence that is handed on
-pub rest-length : (p : List ℕ) (start len x y : ℕ) → x + y ≤ len → start + len ≤ length p → length (take (len - y - x) (drop x (take (start + len - start) (drop start p)))) ≡ len - y - x
+pub rest-length : (p : List ℕ) (start len x y : ℕ) → x + y ≤ len → start + len ≤ length p
+    → length (take (len - y - x) (drop x (take (start + len - start) (drop start p)))) ≡ len - y - x
 rest-length p start len x y h b =
     let z : start + len - start ≡ len = omega arith in
     ap (λ (n : ℕ). length (take (len - y - x) (drop x (take n (drop start p))))) z

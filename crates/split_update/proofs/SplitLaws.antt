@@ -9,7 +9,8 @@ use lib.Dec.{ltb}
 use borrow.Author.Tests.{lt-ltb, le-ltb}
 use Rattle.defs.specs.Lists.{bit, keepIf}
 use Rattle.defs.specs.SeqGraph.{Edge, Graph, Change, nodeCount, addOrUpdateEdges, withAdditions, applyChange, removeVerticesById}
-use Rattle.defs.specs.Rewrites.{MidPlan, midPlan, hasRemaining, nonEmpty, orElse, isNone, prefixToSuffix, prefixToSuffixFrom, splitAndUpdateWith, splitAndUpdate}
+use Rattle.defs.specs.Rewrites.{MidPlan, midPlan, hasRemaining, nonEmpty, orElse, isNone, prefixToSuffix, prefixToSuffixFrom}
+use Rattle.defs.specs.Rewrites.{splitAndUpdateWith, splitAndUpdate}
 use Rattle.laws.proofs.Walks.{byTest}
 use Rattle.laws.proofs.ListLaws.{byOrder, keepIf-yes, keepIf-no}
 use Rattle.laws.proofs.Edges.{Linked, of-raiseAll, order-grown}
@@ -34,7 +35,8 @@ use Rattle.split_update.proofs.VertLaws.{filled-is}
 use Rattle.split_update.proofs.PlanLaws.{plan-is, remains, gather-bare, cons-bare, edges-bare}
 use Rattle.split_update.proofs.EdgeLaws.{split-edges, split-below}
 
-keepIf-map : {A B : Type 0} (p : B → Bool) (f : A → B) (t : A → Bool) (l : List A) → ((x : A) → List·Memᴰ x l → p (f x) ≡ t x) → keepIf p (map f l) ≡ map f (keepIf t l)
+keepIf-map : {A B : Type 0} (p : B → Bool) (f : A → B) (t : A → Bool) (l : List A) → ((x : A) → List·Memᴰ x l → p (f x) ≡ t x)
+    → keepIf p (map f l) ≡ map f (keepIf t l)
 keepIf-map p f t [] h = unfold keepIf in refl
 keepIf-map {A} {B} p f t (x ∷ l) h =
     let ih = keepIf-map p f t l (λ y k. h y (List·Memᴰ·tail k)) in
@@ -56,10 +58,31 @@ or-sum : (x y : ℕ) → 0 < x + y → (ltb 0 x || ltb 0 y) ≡ true
 or-sum x y h = byOrder x 0 (λ (z : x ≤ 0). rw (le-ltb 0 x z, lt-ltb 0 y (omega arith))) (λ (z : 0 < x). rw (lt-ltb 0 x z))
 
 pub places-is : (top bottom : ℕ) (ends : Bool) (n : ℕ) (a : Added) (c x y : ℕ) {l : Bool} → l ≡ (ltb 0 y && ends)
-    → _≡_ {A = Places} (record { top = top; bottom = bottom; prefix = n; suffix = a .suffix; middles = a .middles; prefixed = ltb 0 x; suffixed = ltb 0 y; linked = l; consumed = ltb (a .all) (a .middles + c) }) (placesOf top bottom ends n a c x y)
-places-is top bottom ends n a c x y q = λ i. record { top = top; bottom = bottom; prefix = n; suffix = a .suffix; middles = a .middles; prefixed = ltb 0 x; suffixed = ltb 0 y; linked = q i; consumed = ltb (a .all) (a .middles + c) }
+    → _≡_ {A = Places} (record {
+      top = top;
+      bottom = bottom;
+      prefix = n;
+      suffix = a .suffix;
+      middles = a .middles;
+      prefixed = ltb 0 x;
+      suffixed = ltb 0 y;
+      linked = l;
+      consumed = ltb (a .all) (a .middles + c);
+    }) (placesOf top bottom ends n a c x y)
+places-is top bottom ends n a c x y q = λ i. record {
+  top = top;
+  bottom = bottom;
+  prefix = n;
+  suffix = a .suffix;
+  middles = a .middles;
+  prefixed = ltb 0 x;
+  suffixed = ltb 0 y;
+  linked = q i;
+  consumed = ltb (a .all) (a .middles + c);
+}
 
-module _ {h : Held} {es vs p heads nodes : List ℕ} {c : ℕ} {mp : List ℕ} {top bottom : ℕ} {ends : Bool} {x y : ℕ} (F : Splittable h es vs p heads nodes c mp top bottom ends x y) where
+module _ {h : Held} {es vs p heads nodes : List ℕ} {c : ℕ} {mp : List ℕ} {top bottom : ℕ} {ends : Bool} {x y : ℕ} (F :
+    Splittable h es vs p heads nodes c mp top bottom ends x y) where
   abbrev n : ℕ
   n = h .n
 
@@ -106,12 +129,14 @@ module _ {h : Held} {es vs p heads nodes : List ℕ} {c : ℕ} {mp : List ℕ} {
   plan-at v k =
       let r = of-mem-tab c (λ (i : ℕ). getD nodes i 0) k in
       (λ i. midPlan g (length-part p (startAt vs nodes 0) x in₁ i) (length-part p (startAt vs nodes 0 + lenAt vs nodes 0 - y) y in₂ i) v)
-      ∙ rw (r .2) (plan-is (h .k .0) n m es vs p heads (getD nodes (r .0) 0) (F .middles (r .0) (r .1)) x y (F .parts .below (r .0) (r .1)) (inside (r .0) (r .1)) (F .long (r .0) (r .1)))
+      ∙ rw (r .2) (plan-is (h .k .0) n m es vs p heads (getD nodes (r .0) 0) (F .middles (r .0) (r .1)) x y (F .parts .below (r .0) (r .1))
+      (inside (r .0) (r .1)) (F .long (r .0) (r .1)))
 
   remains-at : (v : ℕ) → List·Memᴰ v mids → hasRemaining (full v) ≡ leaves vs (x + y) v
   remains-at v k =
       let r = of-mem-tab c (λ (i : ℕ). getD nodes i 0) k in
-      rw (r .2) (remains (h .k .0) n m es vs p heads (getD nodes (r .0) 0) (F .middles (r .0) (r .1)) x y (F .parts .below (r .0) (r .1)) (inside (r .0) (r .1)) (F .long (r .0) (r .1)))
+      rw (r .2) (remains (h .k .0) n m es vs p heads (getD nodes (r .0) 0) (F .middles (r .0) (r .1)) x y (F .parts .below (r .0) (r .1))
+      (inside (r .0) (r .1)) (F .long (r .0) (r .1)))
 
   plans-are : map (midPlan g (length pre) (length suf)) mids ≡ map full mids
   plans-are = map-same (midPlan g (length pre) (length suf)) full mids plan-at
@@ -120,14 +145,16 @@ module _ {h : Held} {es vs p heads nodes : List ℕ} {c : ℕ} {mp : List ℕ} {
   lefts-are = ap (keepIf hasRemaining) plans-are ∙ keepIf-map hasRemaining full (leaves vs (x + y)) mids remains-at
 
   others-are : keepIf (λ (q : MidPlan). not (hasRemaining q)) (map (midPlan g (length pre) (length suf)) mids) ≡ map full gone
-  others-are = ap (keepIf (λ (q : MidPlan). not (hasRemaining q))) plans-are ∙ keepIf-map (λ (q : MidPlan). not (hasRemaining q)) full (λ (v : ℕ). not (leaves vs (x + y) v)) mids (λ v k. ap not (remains-at v k))
+  others-are = ap (keepIf (λ (q : MidPlan). not (hasRemaining q))) plans-are
+      ∙ keepIf-map (λ (q : MidPlan). not (hasRemaining q)) full (λ (v : ℕ). not (leaves vs (x + y) v)) mids (λ v k. ap not (remains-at v k))
 
   abbrev D : Change
   D = splitAndUpdateWith (nonEmpty pre) (nonEmpty suf) n top (bottomIf ends bottom) (map full left) (prefixToSuffix (map full gone)) pre suf mids
 
   change-is : C ≡ D
   unfolding splitAndUpdate
-  change-is = λ i. splitAndUpdateWith (nonEmpty pre) (nonEmpty suf) (order-in (h .k .0) n m es vs p i) top (bottomIf ends bottom) (lefts-are i) (prefixToSuffix (others-are i)) pre suf mids
+  change-is = λ i. splitAndUpdateWith (nonEmpty pre) (nonEmpty suf) (order-in (h .k .0) n m es vs p i) top (bottomIf ends bottom)
+      (lefts-are i) (prefixToSuffix (others-are i)) pre suf mids
 
   gone-is : C .gone ≡ mids
   unfolding splitAndUpdateWith
@@ -162,7 +189,10 @@ module _ {h : Held} {es vs p heads nodes : List ℕ} {c : ℕ} {mp : List ℕ} {
     all-is = A .is .count ∙ sym verts-count
 
     pub placeable : (n < 4294967296) × ((a .suffix < 4294967296) × (a .middles + c < 4294967296))
-    placeable = (omega (arith, F .small, all-is, A .all, A .middles, A .suffix), (omega (arith, F .small, all-is, A .all, A .middles), omega (arith, F .small, all-is, A .all)))
+    placeable = (
+      omega (arith, F .small, all-is, A .all, A .middles, A .suffix),
+      (omega (arith, F .small, all-is, A .all, A .middles), omega (arith, F .small, all-is, A .all)),
+    )
 
     abbrev w : Places
     w = placesOf top bottom ends n a c x y
@@ -176,11 +206,24 @@ module _ {h : Held} {es vs p heads nodes : List ℕ} {c : ℕ} {mp : List ℕ} {
     edges-are : addOrUpdateEdges (C .edges) (edgesIn m es) ≡ edgesIn m es ++ newEdgesOf m es vs heads nodes c (x + y) w
     edges-are =
         ap (λ (z : Change). addOrUpdateEdges (z .edges) (edgesIn m es)) change-is
-        ∙ split-edges (nonEmpty pre) (nonEmpty suf) n top (bottomIf ends bottom) (map full left) (map full gone) pre suf mids (edgesIn m es) (F .top-old) bottom-old old any
+        ∙ split-edges (nonEmpty pre) (nonEmpty suf) n top (bottomIf ends bottom) (map full left) (map full gone) pre suf mids (edgesIn m es)
+        (F .top-old) bottom-old old any
         ∙ (λ i. edgesIn m es ++ newEdges (places i) (map full left) (gather-bare m es heads (restOf vs p x y) nothing gone i))
         ∙ ap (λ (l : List Edge). edgesIn m es ++ l) (edges-bare m es heads (restOf vs p x y) w left (prefixToSuffixFrom nothing (plansOf m es heads gone)))
       where
-        places : _≡_ {A = Places} (record { top = top; bottom = orElse 0 (bottomIf ends bottom); prefix = n; suffix = bit (nonEmpty pre) + n; middles = bit (nonEmpty suf) + (bit (nonEmpty pre) + n); prefixed = nonEmpty pre; suffixed = nonEmpty suf; linked = nonEmpty suf && not (isNone (bottomIf ends bottom)); consumed = isCons (map full gone) }) w
+        places : _≡_ {A = Places} (record {
+          top = top;
+          bottom = orElse 0 (bottomIf ends bottom);
+          prefix = n;
+          suffix = bit (nonEmpty pre)
+              + n;
+          middles = bit (nonEmpty suf) + (bit (nonEmpty pre) + n);
+          prefixed = nonEmpty pre;
+          suffixed = nonEmpty suf;
+          linked =
+              nonEmpty suf && not (isNone (bottomIf ends bottom));
+          consumed = isCons (map full gone);
+        }) w
         places = λ i. record {
           top = top;
           bottom = bottom-is ends bottom (F .no-bottom) i;
@@ -197,14 +240,16 @@ module _ {h : Held} {es vs p heads nodes : List ℕ} {c : ℕ} {mp : List ℕ} {
     lens i b = A .is .same (2 * getD nodes i 0 + 1) (omega (arith, F .parts .below i b))
 
     news-same : newEdgesOf m es vs′ heads nodes c (x + y) w ≡ newEdgesOf m es vs heads nodes c (x + y) w
-    news-same = λ i. newEdges w (plansOf m es heads (left-kept vs vs′ nodes (x + y) c lens i)) (prefixToSuffixFrom nothing (plansOf m es heads (gone-kept vs vs′ nodes (x + y) c lens i)))
+    news-same = λ i. newEdges w (plansOf m es heads (left-kept vs vs′ nodes (x + y) c lens i))
+        (prefixToSuffixFrom nothing (plansOf m es heads (gone-kept vs vs′ nodes (x + y) c lens i)))
 
     grown-edges : (withAdditions C g) .edges ≡ edgesIn m es ++ newEdgesOf m es vs′ heads nodes c (x + y) w
     unfolding withAdditions
     grown-edges = edges-are ∙ ap (λ (l : List Edge). edgesIn m es ++ l) (sym news-same)
 
     edges-count : length ((withAdditions C g) .edges) ≡ m + length (newEdgesOf m es vs′ heads nodes c (x + y) w)
-    edges-count = ap length grown-edges ∙ length-append (edgesIn m es) (newEdgesOf m es vs′ heads nodes c (x + y) w) ∙ ap (λ (z : ℕ). z + length (newEdgesOf m es vs′ heads nodes c (x + y) w)) (length-tab m (edgeIn es))
+    edges-count = ap length grown-edges ∙ length-append (edgesIn m es) (newEdgesOf m es vs′ heads nodes c (x + y) w)
+        ∙ ap (λ (z : ℕ). z + length (newEdgesOf m es vs′ heads nodes c (x + y) w)) (length-tab m (edgeIn es))
 
     pub edgeable : (v : Places) → v ≡ w → Edgeable m es vs′ heads nodes c (x + y) v
     edgeable v q = rw q (record {
@@ -238,7 +283,9 @@ module _ {h : Held} {es vs p heads nodes : List ℕ} {c : ℕ} {mp : List ℕ} {
           let l : Linked (addOrUpdateEdges (C .edges) (edgesIn m es)) (e .from) (e .to) = (e, subst (List·Memᴰ e) edges-now k, refl, refl) in
           of-raiseAll (C .edges) (edgesIn m es) (e .from) (e .to) l
           (λ o. let z = old (e .from) (e .to) o in (omega (arith, z .0, A .all, A .middles, A .suffix), omega (arith, z .1, A .all, A .middles, A .suffix)))
-          (λ o. let z = split-below (nonEmpty pre) (nonEmpty suf) n top (bottomIf ends bottom) (map full left) (map full gone) pre suf mids (edgesIn m es) (F .top-old) bottom-old old any (e .from) (e .to) (subst (λ (t : Change). Linked (t .edges) (e .from) (e .to)) change-is o) in
+          (λ o. let z = split-below (nonEmpty pre) (nonEmpty suf) n top (bottomIf ends bottom) (map full left) (map full gone) pre suf mids
+          (edgesIn m es) (F .top-old) bottom-old old any (e .from) (e .to)
+          (subst (λ (t : Change). Linked (t .edges) (e .from) (e .to)) change-is o) in
           (omega (arith, z .0, A .all, middles-are, length-map left full), omega (arith, z .1, A .all, middles-are, length-map left full))))
 
       pub compactable : Compactable (a .all) d es′ vs′ mp × Below nodes c (a .all)
@@ -253,7 +300,8 @@ module _ {h : Held} {es vs p heads nodes : List ℕ} {c : ℕ} {mp : List ℕ} {
         record { room = F .parts .room; at = λ i b. omega (arith, F .parts .below i b, A .all, A .middles, A .suffix) },
       )
 
-      pub split-done : {r : Counts} {es″ vs″ mp″ : List ℕ} → Removed (a .all) d es′ vs′ mids r es″ vs″ mp″ → SplitDone h es vs p nodes c top bottom ends x y (record { k = h .k; n = r .n; m = r .m; used = h .used }) es″ vs″
+      pub split-done : {r : Counts} {es″ vs″ mp″ : List ℕ} → Removed (a .all) d es′ vs′ mids r es″ vs″ mp″
+          → SplitDone h es vs p nodes c top bottom ends x y (record { k = h .k; n = r .n; m = r .m; used = h .used }) es″ vs″
       unfolding applyChange
       split-done R = record {
         is = R .is (h .k .0) p ∙ (λ i. removeVerticesById (sym gone-is i) (now-is i));

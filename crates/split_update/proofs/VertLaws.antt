@@ -116,10 +116,12 @@ module _ {n : ℕ} {vs p nodes : List ℕ} {c x y : ℕ} (F : Vertable n vs p no
       k₂-is = V₂ .count ∙ ap (λ (z : ℕ). k₁ + z) (length-filled p (s₀ + l₀ - y) y at₂)
 
       start-same : (i : ℕ) → i < c → startOf vs₂ (getD nodes i 0) ≡ startAt vs nodes i
-      start-same i h = V₂ .same (2 * getD nodes i 0) (omega (arith, F .parts .below i h, k₁-is)) ∙ V₁ .same (2 * getD nodes i 0) (omega (arith, F .parts .below i h))
+      start-same i h = V₂ .same (2 * getD nodes i 0) (omega (arith, F .parts .below i h, k₁-is))
+          ∙ V₁ .same (2 * getD nodes i 0) (omega (arith, F .parts .below i h))
 
       len-same : (i : ℕ) → i < c → lenOf vs₂ (getD nodes i 0) ≡ lenAt vs nodes i
-      len-same i h = V₂ .same (2 * getD nodes i 0 + 1) (omega (arith, F .parts .below i h, k₁-is)) ∙ V₁ .same (2 * getD nodes i 0 + 1) (omega (arith, F .parts .below i h))
+      len-same i h = V₂ .same (2 * getD nodes i 0 + 1) (omega (arith, F .parts .below i h, k₁-is))
+          ∙ V₁ .same (2 * getD nodes i 0 + 1) (omega (arith, F .parts .below i h))
 
       left-is : leftNodes vs₂ (x + y) nodes c ≡ left
       left-is = left-kept vs vs₂ nodes (x + y) c len-same
@@ -139,7 +141,8 @@ module _ {n : ℕ} {vs p nodes : List ℕ} {c x y : ℕ} (F : Vertable n vs p no
           let r = of-mem-tab c (λ (i : ℕ). getD nodes i 0) (of-keepIf (leaves vs (x + y)) (numsIn c nodes) k .0) in
           rw (r .2) (λ i. part p (start-same (r .0) (r .1) i + x) (len-same (r .0) (r .1) i - y - x)))
 
-      pub verts-added : {k₃ : ℕ} {vs₃ : List ℕ} → RestsPushed k₂ vs₂ p nodes c x y k₃ vs₃ → VertsAdded n vs p nodes c x y (record { suffix = k₁; middles = k₂; all = k₃ }) vs₃
+      pub verts-added : {k₃ : ℕ} {vs₃ : List ℕ} → RestsPushed k₂ vs₂ p nodes c x y k₃ vs₃
+          → VertsAdded n vs p nodes c x y (record { suffix = k₁; middles = k₂; all = k₃ }) vs₃
       verts-added {k₃} {vs₃} A₃ = record {
         suffix = omega (arith, k₁-is);
         middles = omega (arith, k₂-is);

@@ -87,11 +87,13 @@ unfoldable pub newEdges : Places → List MidPlan → EdgeData → List Edge
 newEdges w l d =
     onlyIf (w .prefixed) (newEdge (w .top) (w .prefix) record { support = 1; isRef = anyRef 1 l || d .isRef } ∷ [])
     ++ (onlyIf (w .linked) (newEdge (w .suffix) (w .bottom) record { support = 1; isRef = anyRef 0 l || d .isRef } ∷ [])
-    ++ (edgesToMiddles (upper w) (w .middles) l ++ (onlyIf (w .consumed) (newEdge (upper w) (lower w) (directOnce w d) ∷ []) ++ edgesFromMiddles (w .middles) (lower w) l)))
+    ++ (edgesToMiddles (upper w) (w .middles) l ++ (onlyIf (w .consumed) (newEdge (upper w) (lower w) (directOnce w d) ∷ [])
+    ++ edgesFromMiddles (w .middles) (lower w) l)))
 
 -- of the middles in the slices
 abbrev pub newEdgesOf : ℕ → List ℕ → List ℕ → List ℕ → List ℕ → ℕ → ℕ → Places → List Edge
-newEdgesOf m es vs heads nodes c cut w = newEdges w (plansOf m es heads (leftNodes vs cut nodes c)) (prefixToSuffixFrom nothing (plansOf m es heads (goneNodes vs cut nodes c)))
+newEdgesOf m es vs heads nodes c cut w = newEdges w (plansOf m es heads (leftNodes vs cut nodes c))
+    (prefixToSuffixFrom nothing (plansOf m es heads (goneNodes vs cut nodes c)))
 
 -- an edge behind the first k, where t holds
 pub record EdgeIfPushed (k : ℕ) (es : List ℕ) (t : Bool) (a b s f k′ : ℕ) (es′ : List ℕ) : Type 0 where

@@ -349,7 +349,8 @@ pub fn split_and_update(
     y: usize,
 ) -> Held
     requires { ⌜ Splittable held (now es) (now vs) (now p) (now heads) (now nodes) c (now map) top bottom ends x y ⌝ }
-    ensures { λ r. ⌜ SplitDone held (now (es .entry)) (now (vs .entry)) (now (p .entry)) (now (nodes .entry)) c top bottom ends x y r (now (es .exit)) (now (vs .exit)) ⌝ }
+    ensures { λ r. ⌜ SplitDone held (now (es .entry)) (now (vs .entry)) (now (p .entry)) (now (nodes .entry)) c top bottom ends x y r
+        (now (es .exit)) (now (vs .exit)) ⌝ }
 {
     let n = held.n;
     let m = held.m;

@@ -58,7 +58,8 @@ module _ {l₀ : List ℕ} {n : ℕ} {mp : List ℕ} where
     }
 
   pub moving-end : {l : List ℕ} {j v : ℕ} → Moving l₀ n mp l j v → n ≤ v → MarksMoved l₀ n mp j l
-  moving-end {l} {j} {v} M h = let q : v ≡ n = omega (arith, M .high) in record { count = M .count ∙ ap (rank (keptBy mp)) q; at = λ u b. M .at u (omega arith) }
+  moving-end {l} {j} {v} M h = let q : v ≡ n = omega (arith, M .high) in
+      record { count = M .count ∙ ap (rank (keptBy mp)) q; at = λ u b. M .at u (omega arith) }
 
 -- ---- clearing
 
@@ -78,7 +79,11 @@ module _ {l₀ : List ℕ} {from to : ℕ} where
     low = omega (arith, C .low);
     high = omega arith;
     len = length-set l _ _ ∙ C .len;
-    none = λ k a b. elim (ℕ-discrete k i) [ yes q ↦ rw q (getD-set-same l i 0 0 (omega (arith, C .len))) | no ne ↦ getD-set-other l i k 0 0 ne ∙ C .none k a (omega arith) ];
+    none = λ k a b. elim (ℕ-discrete k i) [
+      | yes q ↦ rw q (getD-set-same l i 0 0 (omega (arith, C .len)))
+      | no ne ↦
+          getD-set-other l i k 0 0 ne ∙ C .none k a (omega arith)
+    ];
     same = λ k b. getD-set-other l i k 0 0 (λ z. omega (arith, C .low)) ∙ C .same k b;
   }
 
@@ -111,7 +116,9 @@ module _ (gone : List ℕ) where
       here : eqb w x ≡ true → elemOf (rank (keeps gone) w) (rank (keeps gone) x ∷ map (rank (keeps gone)) (keepIf (keeps gone) list)) ≡ true
       here s = rw (eq-eqb (rank (keeps gone) w) (rank (keeps gone) x) (ap (rank (keeps gone)) (eqb-true w x s)), elemOf)
 
-      there : keeps gone x ≡ true → eqb w x ≡ false → elemOf (rank (keeps gone) w) (rank (keeps gone) x ∷ map (rank (keeps gone)) (keepIf (keeps gone) list)) ≡ elemOf (rank (keeps gone) w) (map (rank (keeps gone)) (keepIf (keeps gone) list))
+      there : keeps gone x ≡ true → eqb w x ≡ false → elemOf (rank (keeps gone) w) (rank (keeps gone) x
+          ∷ map (rank (keeps gone)) (keepIf (keeps gone) list))
+          ≡ elemOf (rank (keeps gone) w) (map (rank (keeps gone)) (keepIf (keeps gone) list))
       there t s = rw (ne-eqb (rank (keeps gone) w) (rank (keeps gone) x) (λ z. eqb-false w x s (rank-inj (keeps gone) w x k t z)), elemOf)
 
   -- and a member of the new list is the number of a kept one
@@ -126,14 +133,21 @@ module _ (gone : List ℕ) where
 
   member-step : (x : ℕ) (list : List ℕ) (u : ℕ) → (elemOf u (new list) ≡ true → Member list u) → elemOf u (new (x ∷ list)) ≡ true → Member (x ∷ list) u
   member-step x list u ih e = byTest (keeps gone x)
-      (λ t. let e′ : elemOf u (rank (keeps gone) x ∷ new list) ≡ true = ap (λ (l : List ℕ). elemOf u (map (rank (keeps gone)) l)) (sym (keepIf-yes (keeps gone) x list t)) ∙ e in
+      (λ t. let e′ : elemOf u (rank (keeps gone) x ∷ new list) ≡ true =
+      ap (λ (l : List ℕ). elemOf u (map (rank (keeps gone)) l)) (sym (keepIf-yes (keeps gone) x list t)) ∙ e in
       byTest (eqb u (rank (keeps gone) x))
       (λ s. record { old = x; member = elem-yes x x list (eq-eqb x x refl); stays = t; is = sym (eqb-true u _ s) })
       (λ s. later (ih (sym (elem-no u (rank (keeps gone) x) (new list) s) ∙ e′))))
       (λ t. later (ih (ap (λ (l : List ℕ). elemOf u (map (rank (keeps gone)) l)) (sym (keepIf-no (keeps gone) x list t)) ∙ e)))
     where
       later : Member list u → Member (x ∷ list) u
-      later m = record { old = m .old; member = byTest (eqb (m .old) x) (λ s. elem-yes (m .old) x list s) (λ s. elem-no (m .old) x list s ∙ m .member); stays = m .stays; is = m .is }
+      later m = record {
+        old = m .old;
+        member = byTest (eqb (m .old) x) (λ s. elem-yes (m .old) x list s) (λ s. elem-no (m .old) x list s
+            ∙ m .member);
+        stays = m .stays;
+        is = m .is;
+      }
 
   remap-member : (list : List ℕ) (u : ℕ) → elemOf u (new list) ≡ true → Member list u
   remap-member [] u e = clash e (unfold elemOf keepIf in refl)
@@ -149,7 +163,8 @@ place p (suc n) u h = byTest (p n)
     (λ t. let z = place p n u (omega (arith, rank-no p n t)) in (z .0, omega (arith, z .1), z .2, z .3))
 
 -- moved and cleared, the marks are those of the list under its new numbers
-pub marks-after : (n n′ j : ℕ) (mp gone l l₁ l₂ : List ℕ) → ((v : ℕ) → v < n → keptBy mp v ≡ keeps gone v) → MarksMoved l n mp j l₁ → Cleared l₁ j n′ l₂ → j ≤ n′
+pub marks-after : (n n′ j : ℕ) (mp gone l l₁ l₂ : List ℕ) → ((v : ℕ) → v < n → keptBy mp v ≡ keeps gone v) → MarksMoved l n mp j l₁
+    → Cleared l₁ j n′ l₂ → j ≤ n′
     → (list : List ℕ) → Marks n l list → Marks n′ l₂ (remapNumbers gone list)
 unfolding remapNumbers
 marks-after n n′ j mp gone l l₁ l₂ K M C hj list S = record { at = at; below = below }
@@ -163,12 +178,19 @@ marks-after n n′ j mp gone l l₁ l₂ K M C hj list S = record { at = at; bel
     old : (u : ℕ) → u < j → isSet (getD l₂ u 0) ≡ elemOf u (map (rank (keeps gone)) (keepIf (keeps gone) list))
     old u b =
         let z = place (keeps gone) n u (omega (arith, j-is)) in
-        let e : getD l₂ u 0 ≡ getD l (z .0) 0 = C .same u b ∙ ap (λ (x : ℕ). getD l₁ x 0) (sym (ranks (z .0) (omega (arith, z .1)) ∙ z .3)) ∙ M .at (z .0) (z .1) (K (z .0) (z .1) ∙ z .2) in
-        ap isSet e ∙ S .at (z .0) (z .1) ∙ sym (remap-elem gone list (z .0) (z .2)) ∙ ap (λ (x : ℕ). elemOf x (map (rank (keeps gone)) (keepIf (keeps gone) list))) (z .3)
+        let e : getD l₂ u 0 ≡ getD l (z .0) 0 = C .same u b ∙ ap (λ (x : ℕ). getD l₁ x 0) (sym (ranks (z .0) (omega (arith, z .1)) ∙ z .3))
+        ∙ M .at (z .0) (z .1) (K (z .0) (z .1) ∙ z .2) in
+        ap isSet e ∙ S .at (z .0) (z .1) ∙ sym (remap-elem gone list (z .0) (z .2))
+        ∙ ap (λ (x : ℕ). elemOf x (map (rank (keeps gone)) (keepIf (keeps gone) list))) (z .3)
 
     not-member : (u : ℕ) → j ≤ u → elemOf u (map (rank (keeps gone)) (keepIf (keeps gone) list)) ≡ false
     not-member u b = byTest (elemOf u (map (rank (keeps gone)) (keepIf (keeps gone) list)))
-        (λ t. let z = remap-member gone list u t in absurd (omega (arith, z .is, j-is, rank-lt (keeps gone) (z .old) n (S .below (z .old) (z .member)) (z .stays))))
+        (λ t. let z = remap-member gone list u t in absurd (omega (
+          arith,
+          z .is,
+          j-is,
+          rank-lt (keeps gone) (z .old) n (S .below (z .old) (z .member)) (z .stays),
+        )))
         (λ t. t)
 
     at : (u : ℕ) → u < n′ → isSet (getD l₂ u 0) ≡ elemOf u (map (rank (keeps gone)) (keepIf (keeps gone) list))

@@ -72,11 +72,13 @@ module _ {h : Held} {es vs p heads nexts : List ℕ} {v : ℕ} {r : Tried} {es�
         order-in (r .held .k .0) (r .held .n) (r .held .m) es′ vs′ p,
       )
 
-  pub remarked-yes : {tried tried₁ tried′ : List ℕ} {j : ℕ} → r .done ≡ true → MarksMoved tried (h .n) mp′ j tried₁ → Cleared tried₁ j (r .held .n) tried′ → Remarked h es vs p heads nexts tried v r es′ vs′ tried′
+  pub remarked-yes : {tried tried₁ tried′ : List ℕ} {j : ℕ} → r .done ≡ true → MarksMoved tried (h .n) mp′ j tried₁
+      → Cleared tried₁ j (r .held .n) tried′ → Remarked h es vs p heads nexts tried v r es′ vs′ tried′
   remarked-yes {tried} {tried₁} {tried′} {j} t M C = record {
     left = S .left;
     same = λ s. clash t s;
-    marks = λ _ list K. marks-after (h .n) (r .held .n) j mp′ (incomingNodes (graphOf h es vs p) v) tried tried₁ tried′ (S .kept t) M C (omega (arith, M .count, kept-first t)) list K;
+    marks = λ _ list K. marks-after (h .n) (r .held .n) j mp′ (incomingNodes (graphOf h es vs p) v) tried tried₁ tried′ (S .kept t) M C
+        (omega (arith, M .count, kept-first t)) list K;
   }
 
 -- ---- the first split
@@ -146,7 +148,8 @@ module _ {h : Held} {es₀ vs₀ p nodes₀ mp₀ tried₀ : List ℕ} where
       reached = λ list K. let z = S .reached list K in record {
         now = z .now;
         marks = z .marks;
-        is = (λ j. firstSplit (graphOf h es₀ vs₀ p) (z .now) (add-one v j) (h .n - (v + 1))) ∙ sym (firstSplit-tried (graphOf h es₀ vs₀ p) (z .now) v (h .n - (v + 1)) (sym (z .marks .at v b) ∙ set-is (getD tried v 0) o))
+        is = (λ j. firstSplit (graphOf h es₀ vs₀ p) (z .now) (add-one v j) (h .n - (v + 1)))
+            ∙ sym (firstSplit-tried (graphOf h es₀ vs₀ p) (z .now) v (h .n - (v + 1)) (sym (z .marks .at v b) ∙ set-is (getD tried v 0) o))
             ∙ ap (firstSplit (graphOf h es₀ vs₀ p) (z .now) v) (sym (one-less (h .n) v b)) ∙ z .is;
       };
     }
@@ -154,7 +157,8 @@ module _ {h : Held} {es₀ vs₀ p nodes₀ mp₀ tried₀ : List ℕ} where
     module _ (b : v < h .n) (o : getD tried v 0 ≡ 0) (room : h .n ≤ length tried₀) {heads nexts : List ℕ} {r : Tried} {es′ vs′ tried′ : List ℕ}
         (R : Remarked h es vs p heads nexts (set tried v 1) v r es′ vs′ tried′) where
       left : Left (trySplitCommonSuffix (graphOf h es₀ vs₀ p) v) h es vs p heads nexts r es′ vs′ p
-      left = subst (λ (x : Option Graph). Left x h es vs p heads nexts r es′ vs′ p) (λ j. trySplitCommonSuffix (graphOf h (S .same-es j) (S .same-vs j) p) v) (R .left)
+      left = subst (λ (x : Option Graph). Left x h es vs p heads nexts r es′ vs′ p) (λ j.
+          trySplitCommonSuffix (graphOf h (S .same-es j) (S .same-vs j) p) v) (R .left)
 
       not-in : (list : List ℕ) → Marks (h .n) tried list → elemOf v list ≡ false
       not-in list K = sym (K .at v b) ∙ unset-is (getD tried v 0) o
@@ -162,7 +166,8 @@ module _ {h : Held} {es₀ vs₀ p nodes₀ mp₀ tried₀ : List ℕ} where
       marked : (list : List ℕ) → Marks (h .n) tried list → Marks (h .n) (set tried v 1) (v ∷ list)
       marked list K = more-marks v b (omega (arith, S .tried-len)) K
 
-      pub splitting-none : {nodes′ mp′ : List ℕ} → r .done ≡ false → length nodes′ ≡ length nodes → length mp′ ≡ length mp → Splitting h es₀ vs₀ p nodes₀ mp₀ tried₀ es′ vs′ nodes′ mp′ tried′ (v + 1)
+      pub splitting-none : {nodes′ mp′ : List ℕ} → r .done ≡ false → length nodes′ ≡ length nodes → length mp′ ≡ length mp
+          → Splitting h es₀ vs₀ p nodes₀ mp₀ tried₀ es′ vs′ nodes′ mp′ tried′ (v + 1)
       splitting-none t a c = record {
         high = omega arith;
         same-es = left .same-es t ∙ S .same-es;
@@ -173,7 +178,8 @@ module _ {h : Held} {es₀ vs₀ p nodes₀ mp₀ tried₀ : List ℕ} where
         reached = λ list K. let z = S .reached list K in record {
           now = v ∷ z .now;
           marks = rw (R .same t) (marked (z .now) (z .marks));
-          is = (λ j. firstSplit (graphOf h es₀ vs₀ p) (v ∷ z .now) (add-one v j) (h .n - (v + 1))) ∙ sym (firstSplit-none (graphOf h es₀ vs₀ p) (z .now) v (h .n - (v + 1)) (not-in (z .now) (z .marks)) (left .no t))
+          is = (λ j. firstSplit (graphOf h es₀ vs₀ p) (v ∷ z .now) (add-one v j) (h .n - (v + 1)))
+              ∙ sym (firstSplit-none (graphOf h es₀ vs₀ p) (z .now) v (h .n - (v + 1)) (not-in (z .now) (z .marks)) (left .no t))
               ∙ ap (firstSplit (graphOf h es₀ vs₀ p) (z .now) v) (sym (one-less (h .n) v b)) ∙ z .is;
         };
       }
@@ -186,8 +192,11 @@ module _ {h : Held} {es₀ vs₀ p nodes₀ mp₀ tried₀ : List ℕ} where
         no = λ s. clash t s;
         yes = λ _ list K. let z = S .reached list K in record {
           list = remapNumbers (incomingNodes (graphOf h es₀ vs₀ p) v) (v ∷ z .now);
-          is = sym (z .is) ∙ ap (firstSplit (graphOf h es₀ vs₀ p) (z .now) v) (one-less (h .n) v b) ∙ firstSplit-some (graphOf h es₀ vs₀ p) (z .now) v (h .n - (v + 1)) (graphOf (r .held) es′ vs′ p) (not-in (z .now) (z .marks)) (left .yes t);
-          at = subst (λ (x : Graph). Marks (r .held .n) tried′ (remapNumbers (incomingNodes x v) (v ∷ z .now))) (λ j. graphOf h (S .same-es j) (S .same-vs j) p) (R .marks t (v ∷ z .now) (marked (z .now) (z .marks)));
+          is = sym (z .is) ∙ ap (firstSplit (graphOf h es₀ vs₀ p) (z .now) v) (one-less (h .n) v b)
+              ∙ firstSplit-some (graphOf h es₀ vs₀ p) (z .now) v (h .n - (v + 1)) (graphOf (r .held) es′ vs′ p) (not-in (z .now) (z .marks))
+              (left .yes t);
+          at = subst (λ (x : Graph). Marks (r .held .n) tried′ (remapNumbers (incomingNodes x v) (v ∷ z .now))) (λ j.
+              graphOf h (S .same-es j) (S .same-vs j) p) (R .marks t (v ∷ z .now) (marked (z .now) (z .marks)));
         };
         holds = λ s. left .holds s;
       }
@@ -197,7 +206,8 @@ module _ {h : Held} {es₀ vs₀ p nodes₀ mp₀ tried₀ : List ℕ} where
       same = λ _. refl;
       same-es = λ _. S .same-es;
       same-vs = λ _. S .same-vs;
-      no = λ _ list K. let z = S .reached list K in sym (z .is) ∙ ap (firstSplit (graphOf h es₀ vs₀ p) (z .now) v) (nothing b) ∙ firstSplit-zero (graphOf h es₀ vs₀ p) (z .now) v;
+      no = λ _ list K. let z = S .reached list K in sym (z .is) ∙ ap (firstSplit (graphOf h es₀ vs₀ p) (z .now) v) (nothing b)
+          ∙ firstSplit-zero (graphOf h es₀ vs₀ p) (z .now) v;
       yes = λ t. clash t refl;
       holds = λ t. clash t refl;
     }
@@ -222,7 +232,8 @@ pub record Doing (w₀ : Work) (es₀ vs₀ p heads₀ : List ℕ) (w : Work) (e
   pub count : w .rewrites + w₀ .held .n ≤ w₀ .rewrites + w .held .n
 
 module _ {w₀ : Work} {es₀ vs₀ p heads₀ : List ℕ} where
-  pub doing-start : {nexts nodes mp tried : List ℕ} → Ready 4 (w₀ .held) es₀ vs₀ p heads₀ nexts nodes mp → Marks (w₀ .held .n) tried [] → Doing w₀ es₀ vs₀ p heads₀ w₀ es₀ vs₀ heads₀ nexts nodes mp tried
+  pub doing-start : {nexts nodes mp tried : List ℕ} → Ready 4 (w₀ .held) es₀ vs₀ p heads₀ nexts nodes mp → Marks (w₀ .held .n) tried []
+      → Doing w₀ es₀ vs₀ p heads₀ w₀ es₀ vs₀ heads₀ nexts nodes mp tried
   doing-start R K = record {
     ready = R;
     heads-len = refl;
@@ -242,7 +253,8 @@ module _ {w₀ : Work} {es₀ vs₀ p heads₀ : List ℕ} where
     order-is : nodeCount G ≡ w .held .n
     order-is = order-in (w .held .k .0) (w .held .n) (w .held .m) es vs p
 
-    pub doing-end : {nodes′ mp′ : List ℕ} → r .done ≡ false → length nodes′ ≡ length nodes → length mp′ ≡ length mp → SplitAll w₀ es₀ vs₀ p w es′ vs′ heads nexts nodes′ mp′
+    pub doing-end : {nodes′ mp′ : List ℕ} → r .done ≡ false → length nodes′ ≡ length nodes → length mp′ ≡ length mp
+        → SplitAll w₀ es₀ vs₀ p w es′ vs′ heads nexts nodes′ mp′
     doing-end t a b = record {
       ready = record {
         least-is = D .ready .least-is;
@@ -264,7 +276,8 @@ module _ {w₀ : Work} {es₀ vs₀ p heads₀ : List ℕ} where
 
       step : Tame G (graphOf (r .held) es′ vs′ p) × (w .held .n < r .held .n)
       step =
-          let z = firstSplit-tame G (D .list) 0 (w .held .n) record { graph = graphOf (r .held) es′ vs′ p; tried = found .list } (D .ready .holds .fit .good) (found .is) in
+          let z = firstSplit-tame G (D .list) 0 (w .held .n) record { graph = graphOf (r .held) es′ vs′ p; tried = found .list }
+          (D .ready .holds .fit .good) (found .is) in
           (z .0, omega (arith, z .1, order-is, order-in (r .held .k .0) (r .held .n) (r .held .m) es′ vs′ p))
 
       pub doing-countable : Counted (w₀ .rewrites) heads₀ → w .rewrites + 1 < 4294967296
@@ -282,22 +295,31 @@ module _ {w₀ : Work} {es₀ vs₀ p heads₀ : List ℕ} where
         ends = held-ends (S .holds t);
       }
 
-      pub doing-more : {heads′ nexts′ nodes′ mp′ : List ℕ} → Indexed (r .held .m) (r .held .n) es′ heads′ nexts′ → length es′ ≡ length es → length vs′ ≡ length vs
+      pub doing-more : {heads′ nexts′ nodes′ mp′ : List ℕ} → Indexed (r .held .m) (r .held .n) es′ heads′ nexts′ → length es′ ≡ length es
+          → length vs′ ≡ length vs
           → length heads′ ≡ length heads → length nexts′ ≡ length nexts → length nodes′ ≡ length nodes → length mp′ ≡ length mp
           → Doing w₀ es₀ vs₀ p heads₀ record { held = r .held; rewrites = w .rewrites + 1 } es′ vs′ heads′ nexts′ nodes′ mp′ tried′
       doing-more {heads′} {nexts′} {nodes′} {mp′} I a b d e f i = go (D .fuel) (D .enough) (D .is)
         where
-          go : (fuel : ℕ) → weight G < fuel + w .held .n → splitUntilComplete fuel (D .list) (workOf w es vs p) ≡ splitUntilComplete (fuelFor (graphOf (w₀ .held) es₀ vs₀ p)) [] (workOf w₀ es₀ vs₀ p)
+          go : (fuel : ℕ) → weight G < fuel + w .held .n → splitUntilComplete fuel (D .list) (workOf w es vs p)
+              ≡ splitUntilComplete (fuelFor (graphOf (w₀ .held) es₀ vs₀ p)) [] (workOf w₀ es₀ vs₀ p)
               → Doing w₀ es₀ vs₀ p heads₀ record { held = r .held; rewrites = w .rewrites + 1 } es′ vs′ heads′ nexts′ nodes′ mp′ tried′
           go zero h q = absurd (omega (arith, order-weight G, order-is))
           go (suc fuel) h q = record {
-            ready = record { least-is = D .ready .least-is; room = room-kept (D .ready .room) a b refl d e f i; holds = holds-kept (S .holds t) d e; indexed = I };
+            ready = record {
+              least-is = D .ready .least-is;
+              room = room-kept (D .ready .room) a b refl d e f i;
+              holds =
+                  holds-kept (S .holds t) d e;
+              indexed = I;
+            };
             heads-len = d ∙ D .heads-len;
             list = found .list;
             marks = found .at;
             fuel = fuel;
             enough = omega (arith, step .0 .light, step .1);
             is = (λ j. splitUntilComplete fuel (found .list) record { graph = graphOf (r .held) es′ vs′ p; rewrites = add-one (w .rewrites) j })
-                ∙ sym (splitAll-some fuel (D .list) (workOf w es vs p) record { graph = graphOf (r .held) es′ vs′ p; tried = found .list } (ap (firstSplit G (D .list) 0) order-is ∙ found .is)) ∙ q;
+                ∙ sym (splitAll-some fuel (D .list) (workOf w es vs p) record { graph = graphOf (r .held) es′ vs′ p; tried = found .list }
+                (ap (firstSplit G (D .list) 0) order-is ∙ found .is)) ∙ q;
             count = omega (arith, D .count, step .1);
           }

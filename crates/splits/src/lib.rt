@@ -51,8 +51,10 @@ fn split_at(
     tried: &mut [u64],
     v: usize,
 ) -> Tried
-    requires { ⌜ Ready 4 held (now es) (now vs) (now p) (now heads) (now nexts) (now nodes) (now map) × ((v < held .n) × (vertexRoom (now heads) ≤ length (now tried))) ⌝ }
-    ensures { λ r. ⌜ Remarked held (now (es .entry)) (now (vs .entry)) (now (p .entry)) (now (heads .entry)) (now (nexts .entry)) (now (tried .entry)) v r (now (es .exit)) (now (vs .exit)) (now (tried .exit)) ⌝ }
+    requires { ⌜ Ready 4 held (now es) (now vs) (now p) (now heads) (now nexts) (now nodes) (now map)
+        × ((v < held .n) × (vertexRoom (now heads) ≤ length (now tried))) ⌝ }
+    ensures { λ r. ⌜ Remarked held (now (es .entry)) (now (vs .entry)) (now (p .entry)) (now (heads .entry)) (now (nexts .entry))
+        (now (tried .entry)) v r (now (es .exit)) (now (vs .exit)) (now (tried .exit)) ⌝ }
 {
     let t = split_suffix::try_split_common_suffix(held, es, vs, p, heads, nexts, nodes, map, v);
     let done = t.done;
@@ -78,7 +80,8 @@ fn first_split(
     tried: &mut [u64],
 ) -> Tried
     requires { ⌜ Ready 4 held (now es) (now vs) (now p) (now heads) (now nexts) (now nodes) (now map) × (vertexRoom (now heads) ≤ length (now tried)) ⌝ }
-    ensures { λ r. ⌜ SplitFirst held (now (es .entry)) (now (vs .entry)) (now (p .entry)) (now (heads .entry)) (now (nexts .entry)) (now (tried .entry)) r (now (es .exit)) (now (vs .exit)) (now (tried .exit)) ⌝ }
+    ensures { λ r. ⌜ SplitFirst held (now (es .entry)) (now (vs .entry)) (now (p .entry)) (now (heads .entry)) (now (nexts .entry))
+        (now (tried .entry)) r (now (es .exit)) (now (vs .exit)) (now (tried .exit)) ⌝ }
 {
     let n = held.n;
     let mut v = 0;
@@ -112,8 +115,10 @@ pub fn split_until_complete(
     map: &mut [u32],
     tried: &mut [u64],
 ) -> Work
-    requires { ⌜ Ready 4 (work .held) (now es) (now vs) (now p) (now heads) (now nexts) (now nodes) (now map) × (Counted (work .rewrites) (now heads) × (vertexRoom (now heads) ≤ length (now tried))) ⌝ }
-    ensures { λ r. ⌜ SplitAll work (now (es .entry)) (now (vs .entry)) (now (p .entry)) r (now (es .exit)) (now (vs .exit)) (now (heads .exit)) (now (nexts .exit)) (now (nodes .exit)) (now (map .exit)) ⌝ }
+    requires { ⌜ Ready 4 (work .held) (now es) (now vs) (now p) (now heads) (now nexts) (now nodes) (now map)
+        × (Counted (work .rewrites) (now heads) × (vertexRoom (now heads) ≤ length (now tried))) ⌝ }
+    ensures { λ r. ⌜ SplitAll work (now (es .entry)) (now (vs .entry)) (now (p .entry)) r (now (es .exit)) (now (vs .exit))
+        (now (heads .exit)) (now (nexts .exit)) (now (nodes .exit)) (now (map .exit)) ⌝ }
 {
     let held = work.held;
     clear_marks(tried, 0, held.n);

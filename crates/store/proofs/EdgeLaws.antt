@@ -38,7 +38,8 @@ raise-hit : (a b s : ℕ) (r : Bool) (es : List Edge) → findEdge a b es < leng
 raise-hit a b s r [] h = absurd (omega arith)
 raise-hit a b s r (e ∷ es) h = byTest (hasEnds a b e)
     (λ t. rw (first-yes (hasEnds a b) e es t) (raise-yes a b s r e es t))
-    (λ t. rw (first-no (hasEnds a b) e es t) (raise-no a b s r e es t ∙ ap (λ (xs : List Edge). e ∷ xs) (raise-hit a b s r es (omega (arith, h, first-no (hasEnds a b) e es t)))))
+    (λ t. rw (first-no (hasEnds a b) e es t) (raise-no a b s r e es t
+    ∙ ap (λ (xs : List Edge). e ∷ xs) (raise-hit a b s r es (omega (arith, h, first-no (hasEnds a b) e es t)))))
 
 raise-miss : (a b s : ℕ) (r : Bool) (es : List Edge) → length es ≤ findEdge a b es
     → addOrUpdateEdge a b s r es ≡ es ++ (record { from = a; to = b; support = s; isRef = r } ∷ [])
@@ -66,10 +67,12 @@ put-same es i a b s r h = λ j. edge (p0 j) (p1 j) (p2 j) (p3 j)
     g3 = set g2 (4 * i + 2) s
 
     p0 : getD (set g3 (4 * i + 3) r) (4 * i) 0 ≡ a
-    p0 = getD-set-other g3 _ (4 * i) _ 0 (λ q. omega arith) ∙ getD-set-other g2 _ (4 * i) _ 0 (λ q. omega arith) ∙ getD-set-other g1 _ (4 * i) _ 0 (λ q. omega arith) ∙ getD-set-same es _ _ 0 (omega arith)
+    p0 = getD-set-other g3 _ (4 * i) _ 0 (λ q. omega arith) ∙ getD-set-other g2 _ (4 * i) _ 0 (λ q. omega arith)
+        ∙ getD-set-other g1 _ (4 * i) _ 0 (λ q. omega arith) ∙ getD-set-same es _ _ 0 (omega arith)
 
     p1 : getD (set g3 (4 * i + 3) r) (4 * i + 1) 0 ≡ b
-    p1 = getD-set-other g3 _ (4 * i + 1) _ 0 (λ q. omega arith) ∙ getD-set-other g2 _ (4 * i + 1) _ 0 (λ q. omega arith) ∙ getD-set-same g1 _ _ 0 (simp length-set (omega arith))
+    p1 = getD-set-other g3 _ (4 * i + 1) _ 0 (λ q. omega arith) ∙ getD-set-other g2 _ (4 * i + 1) _ 0 (λ q. omega arith)
+        ∙ getD-set-same g1 _ _ 0 (simp length-set (omega arith))
 
     p2 : getD (set g3 (4 * i + 3) r) (4 * i + 2) 0 ≡ s
     p2 = getD-set-other g3 _ (4 * i + 2) _ 0 (λ q. omega arith) ∙ getD-set-same g2 _ _ 0 (simp length-set (omega arith))
@@ -77,9 +80,12 @@ put-same es i a b s r h = λ j. edge (p0 j) (p1 j) (p2 j) (p3 j)
     p3 : getD (set g3 (4 * i + 3) r) (4 * i + 3) 0 ≡ r
     p3 = getD-set-same g3 _ _ 0 (simp length-set (omega arith))
 
-pub put-at : (es : List ℕ) (i a b s r x : ℕ) → (x ≡ 4 * i → ⊥) → (x ≡ 4 * i + 1 → ⊥) → (x ≡ 4 * i + 2 → ⊥) → (x ≡ 4 * i + 3 → ⊥) → getD (putEdge es i a b s r) x 0 ≡ getD es x 0
+pub put-at : (es : List ℕ) (i a b s r x : ℕ) → (x ≡ 4 * i → ⊥) → (x ≡ 4 * i + 1 → ⊥) → (x ≡ 4 * i + 2 → ⊥) → (x ≡ 4 * i + 3 → ⊥)
+    → getD (putEdge es i a b s r) x 0 ≡ getD es x 0
 unfolding putEdge
-put-at es i a b s r x h k l m = getD-set-other (set (set (set es (4 * i) a) (4 * i + 1) b) (4 * i + 2) s) _ x _ 0 m ∙ getD-set-other (set (set es (4 * i) a) (4 * i + 1) b) _ x _ 0 l ∙ getD-set-other (set es (4 * i) a) _ x _ 0 k ∙ getD-set-other es _ x _ 0 h
+put-at es i a b s r x h k l m = getD-set-other (set (set (set es (4 * i) a) (4 * i + 1) b) (4 * i + 2) s) _ x _ 0 m
+    ∙ getD-set-other (set (set es (4 * i) a) (4 * i + 1) b) _ x _ 0 l ∙ getD-set-other (set es (4 * i) a) _ x _ 0 k
+    ∙ getD-set-other es _ x _ 0 h
 
 pub put-other : (es : List ℕ) (i a b s r k : ℕ) → (k ≡ i → ⊥) → edgeIn (putEdge es i a b s r) k ≡ edgeIn es k
 put-other es i a b s r k ne = λ j. edge
@@ -91,11 +97,13 @@ put-other es i a b s r k ne = λ j. edge
 -- an edge stored behind the m that are there, and one stored among them
 pub put-push : (m : ℕ) (es : List ℕ) (a b s r : ℕ) → 4 * m + 4 ≤ length es → edgesIn (m + 1) (putEdge es m a b s r) ≡ edgesIn m es ++ (edge a b s r ∷ [])
 put-push m es a b s r h =
-    tab-snoc m _ ∙ (λ j. tab-ext m (edgeIn (putEdge es m a b s r)) (edgeIn es) (λ k c. put-other es m a b s r k (λ q. omega arith)) j ++ (put-same es m a b s r h j ∷ []))
+    tab-snoc m _ ∙ (λ j. tab-ext m (edgeIn (putEdge es m a b s r)) (edgeIn es) (λ k c. put-other es m a b s r k (λ q. omega arith)) j
+    ++ (put-same es m a b s r h j ∷ []))
 
 pub put-set : (m : ℕ) (es : List ℕ) (i a b s r : ℕ) → i < m → 4 * m ≤ length es → edgesIn m (putEdge es i a b s r) ≡ set (edgesIn m es) i (edge a b s r)
 put-set m es i a b s r c h =
-    tab-set m (edgeIn es) (edgeIn (putEdge es i a b s r)) i no-edge c (λ k d ne. put-other es i a b s r k ne) ∙ ap (set (edgesIn m es) i) (put-same es i a b s r (omega arith))
+    tab-set m (edgeIn es) (edgeIn (putEdge es i a b s r)) i no-edge c (λ k d ne. put-other es i a b s r k ne)
+    ∙ ap (set (edgesIn m es) i) (put-same es i a b s r (omega arith))
 
 set-max : (w r : ℕ) → isSet (max w r) ≡ isSet w || isSet r
 set-max w r = byTest (eqb w 0)
@@ -108,8 +116,11 @@ pub packed-hit : (m : ℕ) (es es′ : List ℕ) (a b x r e fr to z u w v : ℕ)
     → es′ ≡ putEdge es e fr to u v → edgesIn m es′ ≡ addOrUpdateEdge a b x (isSet r) (edgesIn m es)
 packed-hit m es es′ a b x r e fr to z u w v R q h hf ht hz hu hw hv is =
     ap (edgesIn m) is ∙ put-set m es e fr to u v h (omega arith)
-    ∙ rw (hf, ht, hu, hv, hz, hw, set-max (getD es (4 * e + 3) 0) r) (sym (raise-hit a b x (isSet r) (edgesIn m es) (omega (arith, length-tab m (edgeIn es), q)) ∙ rw (← q, getD-tab m (edgeIn es) e no-edge h)))
+    ∙ rw (hf, ht, hu, hv, hz, hw, set-max (getD es (4 * e + 3) 0) r)
+    (sym (raise-hit a b x (isSet r) (edgesIn m es) (omega (arith, length-tab m (edgeIn es), q))
+    ∙ rw (← q, getD-tab m (edgeIn es) e no-edge h)))
 
 pub packed-miss : (m : ℕ) (es es′ : List ℕ) (a b x r e : ℕ) → 4 * m + 4 ≤ length es → e ≡ findEdge a b (edgesIn m es) → m ≤ e
     → es′ ≡ putEdge es m a b x r → edgesIn (m + 1) es′ ≡ addOrUpdateEdge a b x (isSet r) (edgesIn m es)
-packed-miss m es es′ a b x r e R q h is = ap (edgesIn (m + 1)) is ∙ put-push m es a b x r R ∙ sym (raise-miss a b x (isSet r) (edgesIn m es) (omega (arith, length-tab m (edgeIn es), q)))
+packed-miss m es es′ a b x r e R q h is = ap (edgesIn (m + 1)) is ∙ put-push m es a b x r R
+    ∙ sym (raise-miss a b x (isSet r) (edgesIn m es) (omega (arith, length-tab m (edgeIn es), q)))

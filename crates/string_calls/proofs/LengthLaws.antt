@@ -23,13 +23,15 @@ use Rattle.laws.proofs.Counts.{total, total-kept}
 spelled-length : (g : Graph) (l : List ℕ) → length (concat (map (vertexSequence g) l)) ≡ total (λ (v : ℕ). length (getD (g .verts) v [])) l
 unfolding total concat vertexSequence
 spelled-length g [] = refl
-spelled-length g (v ∷ l) = length-append (getD (g .verts) v []) (concat (map (vertexSequence g) l)) ∙ ap (λ (x : ℕ). length (getD (g .verts) v []) + x) (spelled-length g l)
+spelled-length g (v ∷ l) = length-append (getD (g .verts) v []) (concat (map (vertexSequence g) l))
+    ∙ ap (λ (x : ℕ). length (getD (g .verts) v []) + x) (spelled-length g l)
 
 module _ (g : Graph) (S : Sound g) where
   spelled-most : (u : ℕ) (ws : List ℕ) → IsPath g u ws → length (spelled g (u ∷ ws)) ≤ sequenceBytes (g .verts)
   unfolding spelled
   spelled-most u ws path =
-      let k = total-kept length [] (g .verts) (u ∷ ws) (path-distinct g (S .rank) (S .ranks) u ws path) (λ v m. unfold nodeCount in (path-below g u ws path v m)) in
+      let k = total-kept length [] (g .verts) (u ∷ ws) (path-distinct g (S .rank) (S .ranks) u ws path) (λ v m. unfold nodeCount in
+      (path-below g u ws path v m)) in
       omega (arith, k, bytes-is (g .verts), spelled-length g (u ∷ ws))
 
   pub path-most : (start : ℕ) (list : List ℕ) → isPathOf g start list ≡ true → length (pathBasesBytes g start list) ≤ sequenceBytes (g .verts)
@@ -51,7 +53,8 @@ module _ (g : Graph) (S : Sound g) where
       let same : spelled g (s ∷ r .0) ≡ b = sym (ap (spelled g) (r .1)) ∙ by-some ws b (sym (ap (spelledBy g) q) ∙ e) in
       omega (arith, ap length same, spelled-most s (r .0) (r .2)))
 
-  between-most : (s t : Option ℕ) → referenceSourceVertex g ≡ s → (b : List ℕ) → spelledBy g (referenceBetween g s t) ≡ some b → length b ≤ sequenceBytes (g .verts)
+  between-most : (s t : Option ℕ) → referenceSourceVertex g ≡ s → (b : List ℕ) → spelledBy g (referenceBetween g s t) ≡ some b
+      → length b ≤ sequenceBytes (g .verts)
   unfolding referenceBetween
   between-most none t q b e = by-none b e
   between-most (some s) none q b e = by-none b e

@@ -36,7 +36,8 @@ use Rattle.string_calls.specs.Telling.{ReadIndexed, Tells}
 use Rattle.arrays.specs.Sized.{LentGraph}
 
 -- a held graph can be indexed, and spelled
-module _ {bs es vs p heads nexts nodes mp : List ℕ} (Z : LentGraph bs es vs p heads nexts nodes mp) {h : Held} {es′ vs′ p′ : List ℕ} (H : Holds h es′ vs′ p′ heads nexts)
+module _ {bs es vs p heads nexts nodes mp : List ℕ} (Z : LentGraph bs es vs p heads nexts nodes mp) {h : Held} {es′ vs′ p′ : List ℕ} (H :
+    Holds h es′ vs′ p′ heads nexts)
     (a : length es′ ≡ length es) (b : length vs′ ≡ length vs) (c : length p′ ≡ length p) where
   room : Room es′ vs′ p′ heads nexts nodes mp
   room = room-kept {heads′ = heads} {nexts′ = nexts} {nodes′ = nodes} {mp′ = mp} (Z .room) a b c refl refl refl refl
@@ -63,25 +64,32 @@ module _ {bs heads nexts : List ℕ} {r : Read} {es vs p : List ℕ} (A : ReadAs
 
   -- what is told can be counted in 32 bits
   module _ (ok : r .number ≡ 0) (room : vertexRoom heads < 4294967296) where
-    most : {o : Option (List ℕ)} → ((s : List ℕ) → o ≡ some s → length s ≤ sequenceBytes (graphOf (r .held) es vs p .verts)) → {out out′ : List ℕ} {b : Bytes} → Told o out b out′ → b .found ≡ true → b .len < 4294967296
+    most : {o : Option (List ℕ)} → ((s : List ℕ) → o ≡ some s → length s ≤ sequenceBytes (graphOf (r .held) es vs p .verts))
+        → {out out′ : List ℕ} {b : Bytes} → Told o out b out′ → b .found ≡ true → b .len < 4294967296
     most h T t = let y = T .yes t in omega (arith, y .2 .size, h (y .0) (y .1), fit-bytes (A .holds ok .fit), room)
 
-    pub reference-counted : {out out′ : List ℕ} {b : Bytes} → Told (referencePathBytes (graphOf (r .held) es vs p)) out b out′ → b .found ≡ true → b .len < 4294967296
+    pub reference-counted : {out out′ : List ℕ} {b : Bytes} → Told (referencePathBytes (graphOf (r .held) es vs p)) out b out′ → b .found
+        ≡ true → b .len < 4294967296
     reference-counted T = most (reference-most (graphOf (r .held) es vs p) (A .holds ok .fit .good .0)) T
 
-    pub path-counted : (start : ℕ) (list : List ℕ) {out out′ : List ℕ} {b : Bytes} → Told (given (isPathOf (graphOf (r .held) es vs p) start list) (pathBasesBytes (graphOf (r .held) es vs p) start list)) out b out′ → b .found ≡ true → b .len < 4294967296
+    pub path-counted : (start : ℕ) (list : List ℕ) {out out′ : List ℕ} {b : Bytes}
+        → Told (given (isPathOf (graphOf (r .held) es vs p) start list) (pathBasesBytes (graphOf (r .held) es vs p) start list)) out b out′
+        → b .found ≡ true → b .len < 4294967296
     path-counted start list T =
         let g = graphOf (r .held) es vs p in
-        most (λ s e. let y = given-some (isPathOf g start list) (pathBasesBytes g start list) s e in omega (arith, ap length (y .1), path-most g (A .holds ok .fit .good .0) start list (y .0))) T
+        most (λ s e. let y = given-some (isPathOf g start list) (pathBasesBytes g start list) s e in
+        omega (arith, ap length (y .1), path-most g (A .holds ok .fit .good .0) start list (y .0))) T
 
 -- a call that tells o, or the number n where there is none
-module _ {o : Option (List ℕ)} {out out′ : List ℕ} {b : Bytes} (T : Told o out b out′) {x : Response} {n : ℕ} (none-is : o ≡ none → x ≡ refused n) (some-is : (s : List ℕ) → o ≡ some s → x ≡ fits (length out) s)
+module _ {o : Option (List ℕ)} {out out′ : List ℕ} {b : Bytes} (T : Told o out b out′) {x : Response} {n : ℕ} (none-is : o ≡ none → x
+    ≡ refused n) (some-is : (s : List ℕ) → o ≡ some s → x ≡ fits (length out) s)
     {t : Tally} {a : Answer} (e : length out′ ≡ length out) (A : Tells b (length out′) n t a) where
   whole : b .found ≡ true → Responds x out t a out′
   whole f = let y = T .yes f in byOrder (b .len) (length out′)
       (λ l. responds-accepted (some-is (y .0) (y .1) ∙ fits-enough (length out) (y .0) (omega (arith, e, y .2 .size))) (y .2 .size) (A .whole f l)
       (y .2 .is (omega (arith, e)) ∙ ap (λ (k : ℕ). y .0 ++ drop k out) (y .2 .size)))
-      (λ l. responds-refused (some-is (y .0) (y .1) ∙ fits-short (length out) (y .0) (omega (arith, e, y .2 .size))) (A .short f l) (y .2 .kept (omega (arith, e))))
+      (λ l. responds-refused (some-is (y .0) (y .1) ∙ fits-short (length out) (y .0) (omega (arith, e, y .2 .size))) (A .short f l)
+      (y .2 .kept (omega (arith, e))))
 
   pub tells : Responds x out t a out′
   tells = byTest (b .found) whole (λ f. responds-refused (none-is (T .no f)) (A .none f) (T .same f))
@@ -99,7 +107,8 @@ module _ (bs : List ℕ) (room : ℕ) where
 
     pub reference-some : (s : List ℕ) → referencePathBytes (decode bs) ≡ some s → referencePathBytesResponse bs room ≡ fits room s
     unfolding referencePathBytesResponse isNothing bytesOrNone
-    reference-some s e = respond-fits _ room _ (behind-absent sequenceOnly bs 10 _ z (ap isNothing e)) ∙ ap (λ (p : Option (List ℕ)). fits room (bytesOrNone p)) e
+    reference-some s e = respond-fits _ room _ (behind-absent sequenceOnly bs 10 _ z (ap isNothing e))
+        ∙ ap (λ (p : Option (List ℕ)). fits room (bytesOrNone p)) e
 
 module _ (bs : List ℕ) (start : ℕ) (list : List ℕ) (room : ℕ) where
   abbrev told : Option (List ℕ)
@@ -138,15 +147,21 @@ module _ {bs heads nexts : List ℕ} {r : Read} {es vs p : List ℕ} (A : ReadAs
   pub reference-stopped : (out : List ℕ) → (r .number ≡ 0 → ⊥) → Refuses (r .number) t a → Responds (referencePathBytesResponse bs (length out)) out t a out
   reference-stopped out o R = responds-refused (reference-refused bs (length out) (sym (A .number)) o) R refl
 
-  pub path-stopped : (start : ℕ) (list out : List ℕ) → (r .number ≡ 0 → ⊥) → Refuses (r .number) t a → Responds (pathBasesBytesResponse bs start list (length out)) out t a out
+  pub path-stopped : (start : ℕ) (list out : List ℕ) → (r .number ≡ 0 → ⊥) → Refuses (r .number) t a
+      → Responds (pathBasesBytesResponse bs start list (length out)) out t a out
   path-stopped start list out o R = responds-refused (path-refused bs start list (length out) (sym (A .number)) o) R refl
 
   module _ (ok : r .number ≡ 0) where
-    pub reference-told : {out out′ : List ℕ} {b : Bytes} → Told (referencePathBytes (graphOf (r .held) es vs p)) out b out′ → length out′ ≡ length out → Tells b (length out′) 10 t a → Responds (referencePathBytesResponse bs (length out)) out t a out′
+    pub reference-told : {out out′ : List ℕ} {b : Bytes} → Told (referencePathBytes (graphOf (r .held) es vs p)) out b out′ → length out′
+        ≡ length out → Tells b (length out′) 10 t a → Responds (referencePathBytesResponse bs (length out)) out t a out′
     reference-told {out} {out′} {b} T e S =
-        tells (subst (λ (g : Graph). Told (referencePathBytes g) out b out′) (A .is ok) T) (reference-none bs (length out) (sym (A .number) ∙ ok)) (reference-some bs (length out) (sym (A .number) ∙ ok)) e S
+        tells (subst (λ (g : Graph). Told (referencePathBytes g) out b out′) (A .is ok) T)
+        (reference-none bs (length out) (sym (A .number) ∙ ok)) (reference-some bs (length out) (sym (A .number) ∙ ok)) e S
 
-    pub path-told : (start : ℕ) (list : List ℕ) {out out′ : List ℕ} {b : Bytes} → Told (given (isPathOf (graphOf (r .held) es vs p) start list) (pathBasesBytes (graphOf (r .held) es vs p) start list)) out b out′ → length out′ ≡ length out → Tells b (length out′) 9 t a
+    pub path-told : (start : ℕ) (list : List ℕ) {out out′ : List ℕ} {b : Bytes}
+        → Told (given (isPathOf (graphOf (r .held) es vs p) start list) (pathBasesBytes (graphOf (r .held) es vs p) start list)) out b out′
+        → length out′ ≡ length out → Tells b (length out′) 9 t a
         → Responds (pathBasesBytesResponse bs start list (length out)) out t a out′
     path-told start list {out} {out′} {b} T e S =
-        tells (subst (λ (g : Graph). Told (given (isPathOf g start list) (pathBasesBytes g start list)) out b out′) (A .is ok) T) (path-none bs start list (length out) (sym (A .number) ∙ ok)) (path-some bs start list (length out) (sym (A .number) ∙ ok)) e S
+        tells (subst (λ (g : Graph). Told (given (isPathOf g start list) (pathBasesBytes g start list)) out b out′) (A .is ok) T)
+        (path-none bs start list (length out) (sym (A .number) ∙ ok)) (path-some bs start list (length out) (sym (A .number) ∙ ok)) e S

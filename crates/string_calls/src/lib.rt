@@ -24,7 +24,8 @@ fn read_indexed(
     map: &mut [u32],
 ) -> Read
     requires { ⌜ LentGraph (now rec) (now es) (now vs) (now p) (now heads) (now nexts) (now nodes) (now map) ⌝ }
-    ensures { λ r. ⌜ ReadIndexed (now (rec .entry)) (now (heads .entry)) (now (nexts .entry)) r (now (es .exit)) (now (vs .exit)) (now (p .exit)) (now (heads .exit)) (now (nexts .exit)) ⌝ }
+    ensures { λ r. ⌜ ReadIndexed (now (rec .entry)) (now (heads .entry)) (now (nexts .entry)) r (now (es .exit)) (now (vs .exit))
+        (now (p .exit)) (now (heads .exit)) (now (nexts .exit)) ⌝ }
 {
     let read = accept::read_sequence_graph(rec, es, vs, p, heads, nexts, nodes, map);
     if read.number == 0 {
@@ -185,7 +186,8 @@ fn path_bases_bytes_in(
     map: &mut [u32],
 ) -> Answer
     requires { ⌜ LentGraph (now rec) (now es) (now vs) (now p) (now heads) (now nexts) (now nodes) (now map) ⌝ }
-    ensures { λ r. ⌜ Responds (pathBasesBytesResponse (now (rec .entry)) start (now (list .entry)) (length (now (out .entry)))) (now (out .entry)) tally r (now (out .exit)) ⌝ }
+    ensures { λ r. ⌜ Responds (pathBasesBytesResponse (now (rec .entry)) start (now (list .entry)) (length (now (out .entry))))
+        (now (out .entry)) tally r (now (out .exit)) ⌝ }
 {
     let read = read_indexed(rec, es, vs, p, heads, nexts, nodes, map);
     let number = read.number;
@@ -212,7 +214,8 @@ fn path_large_with(
     nodes: &mut [u32; 16384],
     map: &mut [u32; 20480],
 ) -> Answer
-    ensures { λ r. ⌜ Responds (pathBasesBytesResponse (now (rec .entry)) start (now (list .entry)) (length (now (out .entry)))) (now (out .entry)) tally r (now (out .exit)) ⌝ }
+    ensures { λ r. ⌜ Responds (pathBasesBytesResponse (now (rec .entry)) start (now (list .entry)) (length (now (out .entry))))
+        (now (out .entry)) tally r (now (out .exit)) ⌝ }
 {
     path_bases_bytes_in(
         rec,
@@ -231,7 +234,8 @@ fn path_large_with(
 }
 
 fn path_large(rec: &[u8], start: u32, list: &[u32], out: &mut [u8], tally: Tally) -> Answer
-    ensures { λ r. ⌜ Responds (pathBasesBytesResponse (now (rec .entry)) start (now (list .entry)) (length (now (out .entry)))) (now (out .entry)) tally r (now (out .exit)) ⌝ }
+    ensures { λ r. ⌜ Responds (pathBasesBytesResponse (now (rec .entry)) start (now (list .entry)) (length (now (out .entry))))
+        (now (out .entry)) tally r (now (out .exit)) ⌝ }
 {
     let mut es = [0u32; 131072];
     let mut vs = [0u32; 40960];
@@ -272,7 +276,8 @@ fn path_small_with(
     map: &mut [u32; 2048],
 ) -> Answer
     requires { ⌜ length (now rec) ≤ 1024 ⌝ }
-    ensures { λ r. ⌜ Responds (pathBasesBytesResponse (now (rec .entry)) start (now (list .entry)) (length (now (out .entry)))) (now (out .entry)) tally r (now (out .exit)) ⌝ }
+    ensures { λ r. ⌜ Responds (pathBasesBytesResponse (now (rec .entry)) start (now (list .entry)) (length (now (out .entry))))
+        (now (out .entry)) tally r (now (out .exit)) ⌝ }
 {
     path_bases_bytes_in(
         rec,
@@ -292,7 +297,8 @@ fn path_small_with(
 
 fn path_small(rec: &[u8], start: u32, list: &[u32], out: &mut [u8], tally: Tally) -> Answer
     requires { ⌜ length (now rec) ≤ 1024 ⌝ }
-    ensures { λ r. ⌜ Responds (pathBasesBytesResponse (now (rec .entry)) start (now (list .entry)) (length (now (out .entry)))) (now (out .entry)) tally r (now (out .exit)) ⌝ }
+    ensures { λ r. ⌜ Responds (pathBasesBytesResponse (now (rec .entry)) start (now (list .entry)) (length (now (out .entry))))
+        (now (out .entry)) tally r (now (out .exit)) ⌝ }
 {
     let mut es = [0u32; 10240];
     let mut vs = [0u32; 4096];
@@ -325,7 +331,8 @@ pub fn path_bases_bytes(
     out: &mut [u8],
     tally: Tally,
 ) -> Answer
-    ensures { λ r. ⌜ Responds (pathBasesBytesResponse (now (rec .entry)) start (now (list .entry)) (length (now (out .entry)))) (now (out .entry)) tally r (now (out .exit)) ⌝ }
+    ensures { λ r. ⌜ Responds (pathBasesBytesResponse (now (rec .entry)) start (now (list .entry)) (length (now (out .entry))))
+        (now (out .entry)) tally r (now (out .exit)) ⌝ }
 {
     if rec.len() <= 1024 {
         return path_small(rec, start, list, out, tally);

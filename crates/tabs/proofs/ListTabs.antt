@@ -1,7 +1,8 @@
 -- The model's list functions along lists by index: one more at the end. Assumes nothing.
 use mathlib.Core.Path.{_≡_, refl, sym, ap, _∙_}
 use mathlib.Core.Bool.{Bool, true, false, cond, not, _&&_, _||_}
-use mathlib.Core.List.{List, [], _∷_, _++_, map, map-append, append-assoc, append-nil, List·Memᴰ, List·Memᴰ·head, List·Memᴰ·tail, List·Memᴰ·not-nil, List·Memᴰ·cases-cons}
+use mathlib.Core.List.{List, [], _∷_, _++_, map, map-append, append-assoc, append-nil, List·Memᴰ, List·Memᴰ·head, List·Memᴰ·tail}
+use mathlib.Core.List.{List·Memᴰ·not-nil, List·Memᴰ·cases-cons}
 use mathlib.Core.Logic.{⊎-elim}
 use Prim.Native.Nat.{ℕ, zero, suc, _+_, _*_, _-_, _≤_, _<_}
 use native.Mathlib.Nat.{add-zero, zero-add, add-suc, suc-add}
@@ -23,7 +24,8 @@ module _ {A : Type 0} where
       let e : n + suc c ≡ (n + c) + 1 = omega arith in
       let d : suc c ≡ c + 1 = omega arith in
       ap (λ (x : ℕ). tab x f) e ∙ tab-snoc (n + c) f ∙ ap (λ (l : List A). l ++ (f (n + c) ∷ [])) (tab-append n c f)
-      ∙ append-assoc (tab n f) _ _ ∙ ap (λ (l : List A). tab n f ++ l) (sym (ap (λ (x : ℕ). tab x (λ (i : ℕ). f (n + i))) d ∙ tab-snoc c (λ (i : ℕ). f (n + i))))
+      ∙ append-assoc (tab n f) _ _ ∙ ap (λ (l : List A). tab n f
+      ++ l) (sym (ap (λ (x : ℕ). tab x (λ (i : ℕ). f (n + i))) d ∙ tab-snoc c (λ (i : ℕ). f (n + i))))
 
   module _ (p : A → Bool) where
     pub keepIf-append : (xs ys : List A) → keepIf p (xs ++ ys) ≡ keepIf p xs ++ keepIf p ys
@@ -82,7 +84,8 @@ module _ {A : Type 0} where
   of-mem-tab n f m = let r = of-mem-tab-from 0 n f m in (r .0, r .1, r .2 ∙ ap f (zero-add _))
 
 -- one edge more
-pub raiseAll-snoc : (ns es : List Edge) (n : Edge) → addOrUpdateEdges (ns ++ (n ∷ [])) es ≡ addOrUpdateEdge (n .from) (n .to) (n .support) (n .isRef) (addOrUpdateEdges ns es)
+pub raiseAll-snoc : (ns es : List Edge) (n : Edge) → addOrUpdateEdges (ns ++ (n ∷ [])) es
+    ≡ addOrUpdateEdge (n .from) (n .to) (n .support) (n .isRef) (addOrUpdateEdges ns es)
 unfolding addOrUpdateEdges
 raiseAll-snoc [] es n = refl
 raiseAll-snoc (x ∷ xs) es n = raiseAll-snoc xs _ n

@@ -35,7 +35,8 @@ module _ (p : ℕ → Bool) where
   unfolding keepIf rank tabFrom
   length-kept zero = refl
   length-kept (suc n) = ap (λ (x : ℕ). length (keepIf p (tab x (λ (i : ℕ). i)))) (sym (add-one n)) ∙ byTest (p n)
-      (λ t. ap length (keepIf-tab-yes p n (λ (i : ℕ). i) t) ∙ length-append (keepIf p (tab n (λ (i : ℕ). i))) (n ∷ []) ∙ omega (arith, length-kept n, rank-yes p n t))
+      (λ t. ap length (keepIf-tab-yes p n (λ (i : ℕ). i) t) ∙ length-append (keepIf p (tab n (λ (i : ℕ). i))) (n ∷ [])
+      ∙ omega (arith, length-kept n, rank-yes p n t))
       (λ t. ap length (keepIf-tab-no p n (λ (i : ℕ). i) t) ∙ length-kept n ∙ sym (rank-no p n t))
 
 module _ (p q : ℕ → Bool) where
@@ -48,7 +49,8 @@ module _ (p q : ℕ → Bool) where
   pub rank-less : (n d : ℕ) → d < n → p d ≡ true → q d ≡ false → ((i : ℕ) → i < n → (i ≡ d → ⊥) → p i ≡ q i) → rank p n ≡ suc (rank q n)
   rank-less zero d h t f o = absurd (omega arith)
   rank-less (suc n) d h t f o = elim (ℕ-discrete d n) [
-    | yes e ↦ (let s = rank-same n (λ i b. o i (omega arith) (λ z. omega arith)) in omega (arith, rank-yes p n (ap p (sym e) ∙ t), rank-no q n (ap q (sym e) ∙ f)))
+    | yes e ↦ (let s = rank-same n (λ i b. o i (omega arith) (λ z. omega arith)) in
+        omega (arith, rank-yes p n (ap p (sym e) ∙ t), rank-no q n (ap q (sym e) ∙ f)))
     | no ne ↦ (let r = rank-less n d (omega arith) t f (λ i b. o i (omega arith)) in
         let e = o n (omega arith) (λ z. ne (sym z)) in
         byTest (p n) (λ y. omega (arith, rank-yes p n y, rank-yes q n (sym e ∙ y))) (λ y. omega (arith, rank-no p n y, rank-no q n (sym e ∙ y))))

@@ -36,7 +36,8 @@ module _ {A : Type 0} where
   unfolding tabFrom
   tab-from-ext s zero f g h = refl
   tab-from-ext s (suc n) f g h =
-      λ i. h s (omega arith) (omega (arith, add-suc s n)) i ∷ tab-from-ext (suc s) n f g (λ k a b. h k (omega arith) (omega (arith, suc-add s n, add-suc s n))) i
+      λ i. h s (omega arith) (omega (arith, add-suc s n)) i
+      ∷ tab-from-ext (suc s) n f g (λ k a b. h k (omega arith) (omega (arith, suc-add s n, add-suc s n))) i
 
   -- two lists by index are equal where they agree at each index
   pub tab-ext : (n : ℕ) (f g : ℕ → A) → ((k : ℕ) → k < n → f k ≡ g k) → tab n f ≡ tab n g
@@ -45,7 +46,8 @@ module _ {A : Type 0} where
   tab-from-snoc : (s n : ℕ) (f : ℕ → A) → tabFrom s (suc n) f ≡ tabFrom s n f ++ (f (s + n) ∷ [])
   unfolding tabFrom
   tab-from-snoc s zero f = ap (λ (k : ℕ). f k ∷ []) (sym (add-zero s))
-  tab-from-snoc s (suc n) f = ap (λ (r : List A). f s ∷ r) (tab-from-snoc (suc s) n f ∙ ap (λ (k : ℕ). tabFrom (suc s) n f ++ (f k ∷ [])) (suc-add s n ∙ sym (add-suc s n)))
+  tab-from-snoc s (suc n) f = ap (λ (r : List A). f s ∷ r) (tab-from-snoc (suc s) n f
+      ∙ ap (λ (k : ℕ). tabFrom (suc s) n f ++ (f k ∷ [])) (suc-add s n ∙ sym (add-suc s n)))
 
   -- one more at the end: a turn of a loop that goes up
   pub tab-snoc : (n : ℕ) (f : ℕ → A) → tab (n + 1) f ≡ tab n f ++ (f n ∷ [])
@@ -82,13 +84,15 @@ module _ {A : Type 0} where
 
   -- ---- firstIx
 
-  pub first-skip : (p : A → Bool) (xs ys : List A) → ((k : ℕ) (d : A) → k < length xs → p (getD xs k d) ≡ false) → firstIx p (xs ++ ys) ≡ length xs + firstIx p ys
+  pub first-skip : (p : A → Bool) (xs ys : List A) → ((k : ℕ) (d : A) → k < length xs → p (getD xs k d) ≡ false) → firstIx p (xs ++ ys)
+      ≡ length xs + firstIx p ys
   unfolding firstIx
   first-skip p [] ys h = sym (zero-add (firstIx p ys))
   first-skip p (x ∷ xs) ys h =
       rw (h zero x (omega arith)) (ap suc (first-skip p xs ys (λ k d b. h (suc k) d (omega arith))) ∙ sym (suc-add (length xs) (firstIx p ys)))
 
-  first-from : (p : A → Bool) (s n : ℕ) (f : ℕ → A) (i : ℕ) → i < n → ((k : ℕ) → k < i → p (f (s + k)) ≡ false) → p (f (s + i)) ≡ true → firstIx p (tabFrom s n f) ≡ i
+  first-from : (p : A → Bool) (s n : ℕ) (f : ℕ → A) (i : ℕ) → i < n → ((k : ℕ) → k < i → p (f (s + k)) ≡ false) → p (f (s + i)) ≡ true
+      → firstIx p (tabFrom s n f) ≡ i
   unfolding firstIx tabFrom
   first-from p s zero f i h o t = absurd (not-suc-le-zero h)
   first-from p s (suc n) f zero h o t = let t′ : p (f s) ≡ true = rw add-zero at t in rw t′

@@ -84,8 +84,10 @@ module _ {x : ℤ} (F : SFits w32 x) (h : mag x < 65536) where
     pub below-cast : let z = toZ w32 (ofZ w32 (pos 0 -ℤ toZ w32 (ofZ w32 x))) in T (nonNeg z) × Fits w32 (natAbs z)
     below-cast = rw is-neg (neg-cast x h below)
 
-    pub below-put : {text text′ : List ℕ} {at r : ℕ} → Put 10 (decimal (natAbs (toZ w32 (ofZ w32 (pos 0 -ℤ toZ w32 (ofZ w32 x)))))) (set text at 45) (at + 1) r text′ → Put 11 (signed x) text at r text′
-    below-put {text} {text′} {at} {r} P = put-as (ap (λ (z : ℤ). (45 ∷ []) ++ decimal (natAbs z)) is-neg ∙ signed-below x below) (put-then (put-one text at (at + 1) refl refl) P)
+    pub below-put : {text text′ : List ℕ} {at r : ℕ} → Put 10 (decimal (natAbs (toZ w32 (ofZ w32 (pos 0 -ℤ toZ w32 (ofZ w32 x))))))
+        (set text at 45) (at + 1) r text′ → Put 11 (signed x) text at r text′
+    below-put {text} {text′} {at} {r} P = put-as (ap (λ (z : ℤ). (45 ∷ []) ++ decimal (natAbs z)) is-neg ∙ signed-below x below)
+        (put-then (put-one text at (at + 1) refl refl) P)
 
   module _ (t : ltZ (toZ w32 (ofZ w32 x)) (pos 0) ≡ false) where
     same : ltZ x (pos 0) ≡ false

@@ -22,7 +22,8 @@ use Rattle.text.specs.Put.{Put}
 pub put-one : (text : List ℕ) (at r : ℕ) {x y : ℕ} → x ≡ y → r ≡ at + 1 → Put 1 (y ∷ []) text at r (set text at x)
 put-one text at r e q = record { size = omega arith; end = q; is = ap (set text at) e }
 
-pub put-then : {a b : ℕ} {s t text text′ text″ : List ℕ} {at r r′ : ℕ} → Put a s text at r text′ → Put b t text′ r r′ text″ → Put (a + b) (s ++ t) text at r′ text″
+pub put-then : {a b : ℕ} {s t text text′ text″ : List ℕ} {at r r′ : ℕ} → Put a s text at r text′ → Put b t text′ r r′ text″
+    → Put (a + b) (s ++ t) text at r′ text″
 put-then {s = s} {t = t} {text = text} {at = at} {r = r} P Q = record {
   size = omega (arith, length-append s t, P .size, Q .size);
   end = omega (arith, length-append s t, P .end, Q .end);
@@ -71,7 +72,8 @@ module _ {n : ℕ} {m : ℕ → ℕ} {f : ℕ → List ℕ} {text : List ℕ} {a
 
 module _ {s text : List ℕ} {at : ℕ} {text′ : List ℕ} {i : ℕ} (G : Growing (length s) (λ (k : ℕ). take k s) text at text′ i) where
   pub bytes-more : i < length s → Growing (length s) (λ (k : ℕ). take k s) text at (set text′ (at + i) (getD s i 0)) (i + 1)
-  bytes-more h = growing-more (getD s i 0 ∷ []) (at + i) G h (ap (λ (k : ℕ). take k s) (add-one i) ∙ take-suc s i 0 h) (omega (arith, length-take-le i s (G .high))) refl
+  bytes-more h = growing-more (getD s i 0 ∷ []) (at + i) G h (ap (λ (k : ℕ). take k s) (add-one i) ∙ take-suc s i 0 h)
+      (omega (arith, length-take-le i s (G .high))) refl
 
   pub bytes-end : length s ≤ i → Put (length s) s text at (at + i) text′
   bytes-end h =
@@ -83,12 +85,14 @@ module _ {s text : List ℕ} {at : ℕ} {text′ : List ℕ} {i : ℕ} (G : Grow
 pub each-is : (s : List ℕ) → concat (tab (length s) (λ (k : ℕ). printedByte (getD s k 0))) ≡ concat (map printedByte s)
 each-is s = ap concat (sym (map-tab printedByte (length s) (λ (k : ℕ). getD s k 0)) ∙ ap (map printedByte) (tab-getD s 0))
 
-pub sequence-none : (s : List ℕ) {text text′ : List ℕ} {at r : ℕ} → length s ≡ 0 → Put 1 (46 ∷ []) text at r text′ → Put (4 * length s + 1) (printedSequence s) text at r text′
+pub sequence-none : (s : List ℕ) {text text′ : List ℕ} {at r : ℕ} → length s ≡ 0 → Put 1 (46 ∷ []) text at r text′
+    → Put (4 * length s + 1) (printedSequence s) text at r text′
 unfolding printedSequence ascii tabFrom
 sequence-none [] q P = P
 sequence-none (b ∷ s) q P = absurd (omega arith)
 
-pub sequence-some : (s : List ℕ) {text text′ : List ℕ} {at r : ℕ} → (length s ≡ 0 → ⊥) → Put (4 * length s) (concat (map printedByte s)) text at r text′ → Put (4 * length s + 1) (printedSequence s) text at r text′
+pub sequence-some : (s : List ℕ) {text text′ : List ℕ} {at r : ℕ} → (length s ≡ 0 → ⊥)
+    → Put (4 * length s) (concat (map printedByte s)) text at r text′ → Put (4 * length s + 1) (printedSequence s) text at r text′
 unfolding printedSequence
 sequence-some [] o P = absurd (o refl)
 sequence-some (b ∷ s) o P = put-most (omega arith) P
@@ -127,7 +131,8 @@ decimal-one n h = by-one n n (lt-ltb n 10 h)
 
 pub decimal-more : (n : ℕ) → 10 ≤ n → decimal n ≡ decimal (n / 10) ++ (digit (n % 10) ∷ [])
 unfolding decimal
-decimal-more n h = by-more n n (le-ltb n 10 h) ∙ ap (λ (l : List ℕ). l ++ (digit (n % 10) ∷ [])) (fuel-enough n (suc (n / 10)) (n / 10) (omega arith) (omega arith))
+decimal-more n h = by-more n n (le-ltb n 10 h) ∙ ap (λ (l : List ℕ). l ++ (digit (n % 10) ∷ []))
+    (fuel-enough n (suc (n / 10)) (n / 10) (omega arith) (omega arith))
 
 -- the number that digits spell behind a
 unfoldable pub readFrom : ℕ → List ℕ → ℕ
@@ -175,7 +180,8 @@ decimal-short {n} h = short 9 n (omega arith)
 pub digits-one : {text : List ℕ} {at x d : ℕ} → x < 10 → d ≡ digit x → Put (length (decimal x)) (decimal x) text at (at + 1) (set text at d)
 digits-one {text} {at} {x} h q = put-size (omega arith) (put-as (sym (decimal-one x h)) (put-one text at (at + 1) q refl))
 
-pub digits-more : {text text′ : List ℕ} {at x d r : ℕ} → 10 ≤ x → Put (length (decimal (x / 10))) (decimal (x / 10)) text at r text′ → d ≡ digit (x % 10) → Put (length (decimal x)) (decimal x) text at (r + 1) (set text′ r d)
+pub digits-more : {text text′ : List ℕ} {at x d r : ℕ} → 10 ≤ x → Put (length (decimal (x / 10))) (decimal (x / 10)) text at r text′ → d
+    ≡ digit (x % 10) → Put (length (decimal x)) (decimal x) text at (r + 1) (set text′ r d)
 digits-more {text′ = text′} {x = x} {r = r} h P q = put-size (omega arith) (put-as (sym (decimal-more x h)) (put-then P (put-one text′ r (r + 1) q refl)))
 
 -- the call for the digits before the last: a smaller number, and room for them and the last
@@ -185,7 +191,8 @@ falls-to q h = omega arith
 pub more-long : (x : ℕ) → 10 ≤ x → length (decimal x) ≡ length (decimal (x / 10)) + 1
 more-long x h = ap length (decimal-more x h) ∙ length-append (decimal (x / 10)) (digit (x % 10) ∷ [])
 
-pub digits-behind : {x at r : ℕ} {text text′ : List ℕ} → 10 ≤ x → at + length (decimal x) ≤ length text → Put (length (decimal (x / 10))) (decimal (x / 10)) text at r text′ → r < length text
+pub digits-behind : {x at r : ℕ} {text text′ : List ℕ} → 10 ≤ x → at + length (decimal x) ≤ length text
+    → Put (length (decimal (x / 10))) (decimal (x / 10)) text at r text′ → r < length text
 digits-behind {x} h room P = omega (arith, more-long x h, P .end)
 
 -- ---- letters
@@ -226,4 +233,5 @@ module _ (b : ℕ) where
   pub put-other : {text : List ℕ} {at x y : ℕ} {l : Bool} → l ≡ false → l ≡ isLetter b → x ≡ digit (b / 16) → y ≡ digit (b % 16)
       → Put 4 (printedByte b) text at (at + 4) (set (set (set (set text at 92) (at + 1) 120) (at + 2) x) (at + 3) y)
   put-other {text} {at} t q d e = put-as (sym (byte-other (sym q ∙ t)))
-      (put-then (put-then (put-then (put-one text at (at + 1) refl refl) (put-one _ (at + 1) (at + 2) refl (omega arith))) (put-one _ (at + 2) (at + 3) d (omega arith))) (put-one _ (at + 3) (at + 4) e (omega arith)))
+      (put-then (put-then (put-then (put-one text at (at + 1) refl refl) (put-one _ (at + 1) (at + 2) refl (omega arith)))
+      (put-one _ (at + 2) (at + 3) d (omega arith))) (put-one _ (at + 3) (at + 4) e (omega arith)))

@@ -30,7 +30,8 @@ use Rattle.until.specs.Until.{rewriteOf, Completed}
 pub measureOf : ℕ → Graph → ℕ
 measureOf kind g = cond (eqb kind 1) (weight g) (cond (eqb kind 2) (weight g) (nodeCount g))
 
-pub falls : (kind least : ℕ) → 3 < least → (g g′ : Graph) (v : ℕ) → Good g → rewriteOf kind least g v ≡ some g′ → Tame g g′ × (measureOf kind g′ < measureOf kind g)
+pub falls : (kind least : ℕ) → 3 < least → (g g′ : Graph) (v : ℕ) → Good g → rewriteOf kind least g v ≡ some g′ → Tame g g′
+    × (measureOf kind g′ < measureOf kind g)
 unfolding measureOf
 falls kind least pos g g′ v h = byTest (eqb kind 1)
     (λ t. rw t (λ d. let z = diamond-tame g g′ v h d in (z .0, z .2)))
@@ -71,10 +72,21 @@ pub record Scanning (f : ℕ → Option Graph) (n : ℕ) (es₀ vs₀ p₀ nodes
 
 module _ {f : ℕ → Option Graph} {n : ℕ} {es₀ vs₀ p₀ nodes₀ mp₀ : List ℕ} where
   pub scanning-start : Scanning f n es₀ vs₀ p₀ nodes₀ mp₀ es₀ vs₀ p₀ nodes₀ mp₀ 0
-  scanning-start = record { high = omega arith; same-es = refl; same-vs = refl; same-p = refl; nodes-len = refl; mp-len = refl; is = ap (firstAt f 0) (omega arith) }
+  scanning-start = record {
+    high = omega arith;
+    same-es = refl;
+    same-vs = refl;
+    same-p = refl;
+    nodes-len = refl;
+    mp-len = refl;
+    is =
+        ap (firstAt f 0) (omega arith);
+  }
 
-  module _ {es vs p nodes mp : List ℕ} {v : ℕ} (S : Scanning f n es₀ vs₀ p₀ nodes₀ mp₀ es vs p nodes mp v) (h : v < n) {k : Held} {heads nexts : List ℕ} {r : Tried} {es′ vs′ p′ : List ℕ} where
-    pub scanning-more : {nodes′ mp′ : List ℕ} → Left (f v) k es vs p heads nexts r es′ vs′ p′ → r .done ≡ false → length nodes′ ≡ length nodes → length mp′ ≡ length mp → Scanning f n es₀ vs₀ p₀ nodes₀ mp₀ es′ vs′ p′ nodes′ mp′ (v + 1)
+  module _ {es vs p nodes mp : List ℕ} {v : ℕ} (S : Scanning f n es₀ vs₀ p₀ nodes₀ mp₀ es vs p nodes mp v) (h : v < n) {k :
+      Held} {heads nexts : List ℕ} {r : Tried} {es′ vs′ p′ : List ℕ} where
+    pub scanning-more : {nodes′ mp′ : List ℕ} → Left (f v) k es vs p heads nexts r es′ vs′ p′ → r .done ≡ false → length nodes′
+        ≡ length nodes → length mp′ ≡ length mp → Scanning f n es₀ vs₀ p₀ nodes₀ mp₀ es′ vs′ p′ nodes′ mp′ (v + 1)
     scanning-more L t a b = record {
       high = omega arith;
       same-es = L .same-es t ∙ S .same-es;
@@ -96,7 +108,8 @@ module _ {f : ℕ → Option Graph} {n : ℕ} {es₀ vs₀ p₀ nodes₀ mp₀ :
       holds = L .holds;
     }
 
-  pub scanning-none : {es vs p nodes mp : List ℕ} {v : ℕ} → Scanning f n es₀ vs₀ p₀ nodes₀ mp₀ es vs p nodes mp v → n ≤ v → (k : Held) (heads nexts : List ℕ) → Left (firstAt f 0 n) k es₀ vs₀ p₀ heads nexts record { done = false; held = k } es vs p
+  pub scanning-none : {es vs p nodes mp : List ℕ} {v : ℕ} → Scanning f n es₀ vs₀ p₀ nodes₀ mp₀ es vs p nodes mp v → n ≤ v
+      → (k : Held) (heads nexts : List ℕ) → Left (firstAt f 0 n) k es₀ vs₀ p₀ heads nexts record { done = false; held = k } es vs p
   scanning-none {v = v} S h k heads nexts = record {
     no = λ _. sym (S .is) ∙ ap (firstAt f v) size ∙ first-out f v;
     same = λ _. refl;
@@ -117,11 +130,13 @@ pub record Doing (kind least : ℕ) (w₀ : Work) (es₀ vs₀ p₀ heads₀ : L
   pub heads-len : length heads ≡ length heads₀
   pub fuel : ℕ
   pub enough : measureOf kind (graphOf (w .held) es vs p) < fuel
-  pub is : transformUntilComplete (rewriteOf kind least) fuel (workOf w es vs p) ≡ transformUntilComplete (rewriteOf kind least) (fuelFor (graphOf (w₀ .held) es₀ vs₀ p₀)) (workOf w₀ es₀ vs₀ p₀)
+  pub is : transformUntilComplete (rewriteOf kind least) fuel (workOf w es vs p)
+      ≡ transformUntilComplete (rewriteOf kind least) (fuelFor (graphOf (w₀ .held) es₀ vs₀ p₀)) (workOf w₀ es₀ vs₀ p₀)
   pub count : w .rewrites + measureOf kind (graphOf (w .held) es vs p) ≤ w₀ .rewrites + vertexRoom heads₀
 
 module _ {kind least : ℕ} {w₀ : Work} {es₀ vs₀ p₀ heads₀ : List ℕ} where
-  pub doing-start : {nexts nodes mp : List ℕ} → Ready least (w₀ .held) es₀ vs₀ p₀ heads₀ nexts nodes mp → Doing kind least w₀ es₀ vs₀ p₀ heads₀ w₀ es₀ vs₀ p₀ heads₀ nexts nodes mp
+  pub doing-start : {nexts nodes mp : List ℕ} → Ready least (w₀ .held) es₀ vs₀ p₀ heads₀ nexts nodes mp
+      → Doing kind least w₀ es₀ vs₀ p₀ heads₀ w₀ es₀ vs₀ p₀ heads₀ nexts nodes mp
   doing-start R = record {
     ready = R;
     heads-len = refl;
@@ -132,7 +147,8 @@ module _ {kind least : ℕ} {w₀ : Work} {es₀ vs₀ p₀ heads₀ : List ℕ}
   }
 
   module _ {w : Work} {es vs p heads nexts nodes mp : List ℕ} (D : Doing kind least w₀ es₀ vs₀ p₀ heads₀ w es vs p heads nexts nodes mp)
-      {r : Tried} {es′ vs′ p′ : List ℕ} (L : Left (firstAt (rewriteOf kind least (graphOf (w .held) es vs p)) 0 (w .held .n)) (w .held) es vs p heads nexts r es′ vs′ p′) where
+      {r : Tried} {es′ vs′ p′ : List ℕ} (L : Left (firstAt (rewriteOf kind least (graphOf (w .held) es vs p)) 0 (w .held .n)) (w .held) es
+      vs p heads nexts r es′ vs′ p′) where
     abbrev g : Graph
     g = graphOf (w .held) es vs p
 
@@ -142,7 +158,8 @@ module _ {kind least : ℕ} {w₀ : Work} {es₀ vs₀ p₀ heads₀ : List ℕ}
     order-is : nodeCount g ≡ w .held .n
     order-is = order-in (w .held .k .0) (w .held .n) (w .held .m) es vs p
 
-    pub doing-end : {nodes′ mp′ : List ℕ} → r .done ≡ false → length nodes′ ≡ length nodes → length mp′ ≡ length mp → Completed kind least w₀ es₀ vs₀ p₀ w es′ vs′ p′ heads nexts nodes′ mp′
+    pub doing-end : {nodes′ mp′ : List ℕ} → r .done ≡ false → length nodes′ ≡ length nodes → length mp′ ≡ length mp
+        → Completed kind least w₀ es₀ vs₀ p₀ w es′ vs′ p′ heads nexts nodes′ mp′
     doing-end {nodes′} {mp′} t a b = record {
       ready = record {
         least-is = D .ready .least-is;
@@ -179,12 +196,14 @@ module _ {kind least : ℕ} {w₀ : Work} {es₀ vs₀ p₀ heads₀ : List ℕ}
         ends = held-ends (L .holds t);
       }
 
-      pub doing-more : {heads′ nexts′ nodes′ mp′ : List ℕ} → Indexed (r .held .m) (r .held .n) es′ heads′ nexts′ → length es′ ≡ length es → length vs′ ≡ length vs → length p′ ≡ length p
+      pub doing-more : {heads′ nexts′ nodes′ mp′ : List ℕ} → Indexed (r .held .m) (r .held .n) es′ heads′ nexts′ → length es′ ≡ length es
+          → length vs′ ≡ length vs → length p′ ≡ length p
           → length heads′ ≡ length heads → length nexts′ ≡ length nexts → length nodes′ ≡ length nodes → length mp′ ≡ length mp
           → Doing kind least w₀ es₀ vs₀ p₀ heads₀ record { held = r .held; rewrites = w .rewrites + 1 } es′ vs′ p′ heads′ nexts′ nodes′ mp′
       doing-more {heads′} {nexts′} {nodes′} {mp′} I a b c d e f i = go (D .fuel) (D .enough) (D .is)
         where
-          go : (fuel : ℕ) → measureOf kind g < fuel → transformUntilComplete (rewriteOf kind least) fuel (workOf w es vs p) ≡ transformUntilComplete (rewriteOf kind least) (fuelFor (graphOf (w₀ .held) es₀ vs₀ p₀)) (workOf w₀ es₀ vs₀ p₀)
+          go : (fuel : ℕ) → measureOf kind g < fuel → transformUntilComplete (rewriteOf kind least) fuel (workOf w es vs p)
+              ≡ transformUntilComplete (rewriteOf kind least) (fuelFor (graphOf (w₀ .held) es₀ vs₀ p₀)) (workOf w₀ es₀ vs₀ p₀)
               → Doing kind least w₀ es₀ vs₀ p₀ heads₀ record { held = r .held; rewrites = w .rewrites + 1 } es′ vs′ p′ heads′ nexts′ nodes′ mp′
           go zero h q = absurd (omega arith)
           go (suc fuel) h q = record {
@@ -208,5 +227,8 @@ module _ (kind least : ℕ) {n : ℕ} {h : Held} {es₀ vs₀ p₀ nodes₀ mp�
     indexed = rw (S .same-es) (R .indexed);
   }
 
-  pub scan-left : {heads nexts : List ℕ} {r : Tried} {es′ vs′ p′ : List ℕ} → Left (rewriteOf kind least (graphOf h es vs p) v) h es vs p heads nexts r es′ vs′ p′ → Left (rewriteOf kind least (graphOf h es₀ vs₀ p₀) v) h es vs p heads nexts r es′ vs′ p′
-  scan-left {heads} {nexts} {r} {es′} {vs′} {p′} L = subst (λ (o : Option Graph). Left o h es vs p heads nexts r es′ vs′ p′) (λ j. rewriteOf kind least (graphOf h (S .same-es j) (S .same-vs j) (S .same-p j)) v) L
+  pub scan-left : {heads nexts : List ℕ} {r : Tried} {es′ vs′ p′ : List ℕ}
+      → Left (rewriteOf kind least (graphOf h es vs p) v) h es vs p heads nexts r es′ vs′ p′
+      → Left (rewriteOf kind least (graphOf h es₀ vs₀ p₀) v) h es vs p heads nexts r es′ vs′ p′
+  scan-left {heads} {nexts} {r} {es′} {vs′} {p′} L = subst (λ (o : Option Graph). Left o h es vs p heads nexts r es′ vs′ p′) (λ j.
+      rewriteOf kind least (graphOf h (S .same-es j) (S .same-vs j) (S .same-p j)) v) L

@@ -25,7 +25,9 @@ pub fn try_rewrite(
     v: usize,
 ) -> Tried
     requires { ⌜ Ready least held (now es) (now vs) (now p) (now heads) (now nexts) (now nodes) (now map) × (v < held .n) ⌝ }
-    ensures { λ r. ⌜ Left (rewriteOf kind least (graphOf held (now (es .entry)) (now (vs .entry)) (now (p .entry))) v) held (now (es .entry)) (now (vs .entry)) (now (p .entry)) (now (heads .entry)) (now (nexts .entry)) r (now (es .exit)) (now (vs .exit)) (now (p .exit)) ⌝ }
+    ensures { λ r. ⌜ Left (rewriteOf kind least (graphOf held (now (es .entry)) (now (vs .entry)) (now (p .entry))) v) held
+        (now (es .entry)) (now (vs .entry)) (now (p .entry)) (now (heads .entry)) (now (nexts .entry)) r (now (es .exit)) (now (vs .exit))
+        (now (p .exit)) ⌝ }
 {
     match kind {
         1 => merge_diamond::try_merge_diamond(held, es, vs, p, heads, nexts, nodes, map, v as u32),
@@ -69,7 +71,9 @@ pub fn first_at(
     map: &mut [u32],
 ) -> Tried
     requires { ⌜ Ready least held (now es) (now vs) (now p) (now heads) (now nexts) (now nodes) (now map) ⌝ }
-    ensures { λ r. ⌜ Left (firstAt (rewriteOf kind least (graphOf held (now (es .entry)) (now (vs .entry)) (now (p .entry)))) 0 (held .n)) held (now (es .entry)) (now (vs .entry)) (now (p .entry)) (now (heads .entry)) (now (nexts .entry)) r (now (es .exit)) (now (vs .exit)) (now (p .exit)) ⌝ }
+    ensures { λ r. ⌜ Left (firstAt (rewriteOf kind least (graphOf held (now (es .entry)) (now (vs .entry)) (now (p .entry)))) 0 (held .n))
+        held (now (es .entry)) (now (vs .entry)) (now (p .entry)) (now (heads .entry)) (now (nexts .entry)) r (now (es .exit))
+        (now (vs .exit)) (now (p .exit)) ⌝ }
 {
     let n = held.n;
     let mut v = 0;
@@ -101,7 +105,8 @@ pub fn transform_until_complete(
     map: &mut [u32],
 ) -> Work
     requires { ⌜ Ready least (work .held) (now es) (now vs) (now p) (now heads) (now nexts) (now nodes) (now map) × Counted (work .rewrites) (now heads) ⌝ }
-    ensures { λ r. ⌜ Completed kind least work (now (es .entry)) (now (vs .entry)) (now (p .entry)) r (now (es .exit)) (now (vs .exit)) (now (p .exit)) (now (heads .exit)) (now (nexts .exit)) (now (nodes .exit)) (now (map .exit)) ⌝ }
+    ensures { λ r. ⌜ Completed kind least work (now (es .entry)) (now (vs .entry)) (now (p .entry)) r (now (es .exit)) (now (vs .exit))
+        (now (p .exit)) (now (heads .exit)) (now (nexts .exit)) (now (nodes .exit)) (now (map .exit)) ⌝ }
 {
     let mut w = work;
     loop {

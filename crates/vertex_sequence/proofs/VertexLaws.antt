@@ -42,10 +42,12 @@ peelable-kept P l = record { degrees-room = omega (arith, l, P .degrees-room); q
 
 module _ (m n : ℕ) (es vs p : List ℕ) where
   -- what is doubled, in graphs of k-mers and of sequences
-  pub kmers-doubled : {kmers d : Bool} {order : List ℕ} → kmers ≡ true → Doubles m n es vs p d order → d ≡ (doubledEdge (edgesIn m es) || (kmers && equalKmers (seqsIn n vs p)))
+  pub kmers-doubled : {kmers d : Bool} {order : List ℕ} → kmers ≡ true → Doubles m n es vs p d order → d
+      ≡ (doubledEdge (edgesIn m es) || (kmers && equalKmers (seqsIn n vs p)))
   kmers-doubled t D = rw t (D .is)
 
-  pub edges-doubled : {kmers d : Bool} → kmers ≡ false → d ≡ doubledEdge (edgesIn m es) → d ≡ (doubledEdge (edgesIn m es) || (kmers && equalKmers (seqsIn n vs p)))
+  pub edges-doubled : {kmers d : Bool} → kmers ≡ false → d ≡ doubledEdge (edgesIn m es) → d
+      ≡ (doubledEdge (edgesIn m es) || (kmers && equalKmers (seqsIn n vs p)))
   edges-doubled f e = rw f (e ∙ sym (or-none (doubledEdge (edgesIn m es))))
     where
       or-none : (b : Bool) → (b || false) ≡ b
@@ -84,7 +86,8 @@ module _ (bs : List ℕ) where
       split (suc zero) h f g = g refl
       split (suc (suc n)) h f g = absurd (omega arith)
 
-  pub roomy : {es vs p heads nexts order scratch place : List ℕ} → Lengths es vs p heads nexts order scratch place → Roomy bs es vs p heads nexts order scratch place
+  pub roomy : {es vs p heads nexts order scratch place : List ℕ} → Lengths es vs p heads nexts order scratch place
+      → Roomy bs es vs p heads nexts order scratch place
   roomy Z = record {
     room = λ W. record {
       es-room = omega (arith, Z .es-is, W .edges);
@@ -130,7 +133,8 @@ module _ (bs : List ℕ) where
           ends = L .ends;
         }
 
-        pub number-checkable : length vs′ ≡ length vs → length p′ ≡ length p → {heads′ nexts′ : List ℕ} → Indexed (h .m) (h .n) es′ heads′ nexts′ → Checkable (h .m) (h .n) es′ vs′ p′ heads′ nexts′ order scratch place
+        pub number-checkable : length vs′ ≡ length vs → length p′ ≡ length p → {heads′ nexts′ : List ℕ}
+            → Indexed (h .m) (h .n) es′ heads′ nexts′ → Checkable (h .m) (h .n) es′ vs′ p′ heads′ nexts′ order scratch place
         number-checkable a b I = record {
           indexed = I;
           markable = record { room = omega (arith, L .n, R .scratch-room); small = omega (arith, L .n, formed .vertices) };
@@ -140,12 +144,18 @@ module _ (bs : List ℕ) where
             small = omega (arith, L .n, formed .vertices);
             keys = λ v c. record { room = omega (arith, a, L .n, R .vs-room); inside = omega (arith, L .within .at v c, L .used, b, R .p-room) };
           };
-          peelable = record { degrees-room = omega (arith, L .n, R .scratch-room); queue-room = omega (arith, L .n, R .place-room); small = omega (arith, L .n, formed .vertices) };
+          peelable = record {
+            degrees-room = omega (arith, L .n, R .scratch-room);
+            queue-room = omega (arith, L .n, R .place-room);
+            small =
+                omega (arith, L .n, formed .vertices);
+          };
           few = omega (arith, L .m, formed .edges);
         }
 
     module _ {h : Held} {es vs p : List ℕ} (L : Loaded bs h es vs p) where
-      number-is : {kmers : Bool} {r : ℕ} → kmers ≡ eqb (kindOf bs) 0 → Checks kmers (h .m) (h .n) es vs p r → r ≡ cond (doubled bs) 6 (cond (hasCycle (decode bs)) 7 0)
+      number-is : {kmers : Bool} {r : ℕ} → kmers ≡ eqb (kindOf bs) 0 → Checks kmers (h .m) (h .n) es vs p r → r
+          ≡ cond (doubled bs) 6 (cond (hasCycle (decode bs)) 7 0)
       unfolding doubled
       number-is q C = C .is (h .k .0) ∙ (λ i. cond (doubledEdge ((L .is i) .edges) || (q i && equalKmers ((L .is i) .verts))) 6 (cond (hasCycle (L .is i)) 7 0))
 

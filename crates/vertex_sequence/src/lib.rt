@@ -32,7 +32,8 @@ fn is_doubled(
     order: &mut [u32],
     scratch: &mut [u32],
 ) -> bool
-    requires { ⌜ Indexed m n (now es) (now heads) (now nexts) × (Markable n (now scratch) × Sortable (Sequence (now vs) (now p)) n (now order) (now scratch)) ⌝ }
+    requires { ⌜ Indexed m n (now es) (now heads) (now nexts)
+        × (Markable n (now scratch) × Sortable (Sequence (now vs) (now p)) n (now order) (now scratch)) ⌝ }
     ensures { λ r. ⌜ r ≡ (doubledEdge (edgesIn m (now (es .entry))) || (kmers && equalKmers (seqsIn n (now (vs .entry)) (now (p .entry))))) ⌝ }
 {
     if kmers {

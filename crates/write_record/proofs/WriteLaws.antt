@@ -38,21 +38,26 @@ put-four l w x y z i j₁ j₂ j₃ p₁ p₂ p₃ p₄ e₁ e₂ e₃ =
 
 -- ---- the header
 
-pub counts-put : (k n m b : ℕ) (l : List ℕ) {l₁ l₂ l₃ l₄ : List ℕ} → l₁ ≡ sets l 6 (le16 k) → l₂ ≡ sets l₁ 8 (le16 n) → l₃ ≡ sets l₂ 10 (le16 m) → l₄ ≡ sets l₃ 12 (le32 b)
+pub counts-put : (k n m b : ℕ) (l : List ℕ) {l₁ l₂ l₃ l₄ : List ℕ} → l₁ ≡ sets l 6 (le16 k) → l₂ ≡ sets l₁ 8 (le16 n) → l₃
+    ≡ sets l₂ 10 (le16 m) → l₄ ≡ sets l₃ 12 (le32 b)
     → l₄ ≡ sets l 6 (le16 k ++ le16 n ++ le16 m ++ le32 b)
 unfolding le16
 counts-put k n m b l p₁ p₂ p₃ p₄ = put-four l (le16 k) (le16 n) (le16 m) (le32 b) 6 8 10 12 p₁ p₂ p₃ p₄ refl refl refl
 
-pub offsets-put : (x y z : ℕ) (l : List ℕ) {l₁ l₂ l₃ l₄ : List ℕ} → l₁ ≡ sets l 16 (le32 32) → l₂ ≡ sets l₁ 20 (le32 x) → l₃ ≡ sets l₂ 24 (le32 y) → l₄ ≡ sets l₃ 28 (le32 z)
+pub offsets-put : (x y z : ℕ) (l : List ℕ) {l₁ l₂ l₃ l₄ : List ℕ} → l₁ ≡ sets l 16 (le32 32) → l₂ ≡ sets l₁ 20 (le32 x) → l₃
+    ≡ sets l₂ 24 (le32 y) → l₄ ≡ sets l₃ 28 (le32 z)
     → l₄ ≡ sets l 16 (le32 32 ++ le32 x ++ le32 y ++ le32 z)
 unfolding le32
 offsets-put x y z l p₁ p₂ p₃ p₄ = put-four l (le32 32) (le32 x) (le32 y) (le32 z) 16 20 24 28 p₁ p₂ p₃ p₄ refl refl refl
 
-pub header-put : (status k n m b : ℕ) (l : List ℕ) {l₁ l₂ l₃ : List ℕ} → l₁ ≡ sets l 0 (mark ++ (1 ∷ status ∷ [])) → l₂ ≡ sets l₁ 6 (le16 k ++ le16 n ++ le16 m ++ le32 b)
-    → l₃ ≡ sets l₂ 16 (le32 32 ++ le32 (32 + 2 * n) ++ le32 (32 + 2 * n + 9 * m) ++ le32 (32 + 2 * n + 9 * m + b)) → l₃ ≡ sets l 0 (encodeHeader 1 status k n m b)
+pub header-put : (status k n m b : ℕ) (l : List ℕ) {l₁ l₂ l₃ : List ℕ} → l₁ ≡ sets l 0 (mark ++ (1 ∷ status ∷ [])) → l₂
+    ≡ sets l₁ 6 (le16 k ++ le16 n ++ le16 m ++ le32 b)
+    → l₃ ≡ sets l₂ 16 (le32 32 ++ le32 (32 + 2 * n) ++ le32 (32 + 2 * n + 9 * m) ++ le32 (32 + 2 * n + 9 * m + b)) → l₃
+    ≡ sets l 0 (encodeHeader 1 status k n m b)
 unfolding encodeHeader le16 le32 edgesAt bytesAt wholeLength
 header-put status k n m b l p₁ p₂ p₃ =
-    put-behind l (mark ++ (1 ∷ status ∷ []) ++ (le16 k ++ le16 n ++ le16 m ++ le32 b)) (le32 32 ++ le32 (32 + 2 * n) ++ le32 (32 + 2 * n + 9 * m) ++ le32 (32 + 2 * n + 9 * m + b)) 0 16
+    put-behind l (mark ++ (1 ∷ status ∷ []) ++ (le16 k ++ le16 n ++ le16 m ++ le32 b)) (le32 32 ++ le32 (32 + 2 * n)
+    ++ le32 (32 + 2 * n + 9 * m) ++ le32 (32 + 2 * n + 9 * m + b)) 0 16
     (put-behind l (mark ++ (1 ∷ status ∷ [])) (le16 k ++ le16 n ++ le16 m ++ le32 b) 0 6 p₁ p₂ refl) p₃ refl
 
 header-length : (status k n m b : ℕ) → length (encodeHeader 1 status k n m b) ≡ 32
@@ -74,7 +79,8 @@ pub edge-put : (at : ℕ) (l : List ℕ) {a b s f : ℕ} (e : Edge) {l₁ l₂ l
 unfolding encodeEdge le16 le32
 edge-put at l {f = f} e {l₁} {l₂} {l₃} qa qb qs qf p₁ p₂ p₃ =
     put-four l (le16 (e .from)) (le16 (e .to)) (le32 (e .support)) (bit (e .isRef) ∷ []) at (at + 2) (at + 4) (at + 8)
-    (p₁ ∙ ap (λ (x : ℕ). sets l at (le16 x)) qa) (p₂ ∙ ap (λ (x : ℕ). sets l₁ (at + 2) (le16 x)) qb) (p₃ ∙ ap (λ (x : ℕ). sets l₂ (at + 4) (le32 x)) qs) (ap (λ (x : ℕ). set l₃ (at + 8) x) qf)
+    (p₁ ∙ ap (λ (x : ℕ). sets l at (le16 x)) qa) (p₂ ∙ ap (λ (x : ℕ). sets l₁ (at + 2) (le16 x)) qb) (p₃
+    ∙ ap (λ (x : ℕ). sets l₂ (at + 4) (le32 x)) qs) (ap (λ (x : ℕ). set l₃ (at + 8) x) qf)
     refl refl refl
 
 -- ---- a loop that writes: w i is written in i turns
@@ -90,7 +96,8 @@ module _ {n : ℕ} {w : ℕ → List ℕ} {l : List ℕ} {at : ℕ} where
   pub growing-len : {l′ : List ℕ} {i : ℕ} → Growing n w l at l′ i → length l′ ≡ length l
   growing-len {i = i} G = ap length (G .is) ∙ length-sets l at (w i)
 
-  pub growing-more : {l′ l″ : List ℕ} {i : ℕ} (x : List ℕ) (j : ℕ) → Growing n w l at l′ i → i < n → w (i + 1) ≡ w i ++ x → j ≡ at + length (w i) → l″ ≡ sets l′ j x → Growing n w l at l″ (i + 1)
+  pub growing-more : {l′ l″ : List ℕ} {i : ℕ} (x : List ℕ) (j : ℕ) → Growing n w l at l′ i → i < n → w (i + 1) ≡ w i ++ x → j ≡ at
+      + length (w i) → l″ ≡ sets l′ j x → Growing n w l at l″ (i + 1)
   growing-more {i = i} x j G h e q p = record { high = omega arith; is = put-behind l (w i) x at j (G .is) p q ∙ ap (λ (y : List ℕ). sets l at y) (sym e) }
 
   pub growing-end : {l′ : List ℕ} {i : ℕ} → Growing n w l at l′ i → n ≤ i → l′ ≡ sets l at (w n)
@@ -141,7 +148,8 @@ part-more p start i h =
     ∙ ap (λ (x : ℕ). take i (drop start p) ++ (x ∷ [])) (getD-drop start p i 0)
 
 pub seqs-length : (vs p : List ℕ) (n : ℕ) → Within (length p) n vs → length (concat (tab n (seqIn vs p))) ≡ bytesIn n vs
-seqs-length vs p n W = fields-length (seqIn vs p) (λ (v : ℕ). getD vs (2 * v + 1) 0) n (λ i b. part-length p (getD vs (2 * i) 0) (getD vs (2 * i + 1) 0) (W .at i b))
+seqs-length vs p n W = fields-length (seqIn vs p) (λ (v : ℕ). getD vs (2 * v + 1) 0) n (λ i b.
+    part-length p (getD vs (2 * i) 0) (getD vs (2 * i + 1) 0) (W .at i b))
 
 -- those before v, of n
 pub seqs-before : (vs p : List ℕ) {n : ℕ} (v : ℕ) → Within (length p) n vs → v ≤ n → length (concat (tab v (seqIn vs p))) ≡ bytesIn v vs
@@ -162,19 +170,24 @@ module _ (status k n m : ℕ) (es vs p : List ℕ) (W : Within (length p) n vs) 
   bytes-are = bytes-from 0 n (seqIn vs p) ∙ ap sum (tab-ext n (λ (v : ℕ). length (seqIn vs p v)) (λ (v : ℕ). getD vs (2 * v + 1) 0) size)
 
   lengths-are : concat (map (λ (s : List ℕ). le16 (length s)) (tab n (seqIn vs p))) ≡ concat (tab n (lengthBytes vs))
-  lengths-are = ap concat (map-tab (λ (s : List ℕ). le16 (length s)) n (seqIn vs p) ∙ tab-ext n (λ (v : ℕ). le16 (length (seqIn vs p v))) (lengthBytes vs) (λ v b. ap le16 (size v b)))
+  lengths-are = ap concat (map-tab (λ (s : List ℕ). le16 (length s)) n (seqIn vs p)
+      ∙ tab-ext n (λ (v : ℕ). le16 (length (seqIn vs p v))) (lengthBytes vs) (λ v b. ap le16 (size v b)))
 
   edges-are : concat (map encodeEdge (tab m (edgeIn es))) ≡ concat (tab m (λ (i : ℕ). encodeEdge (edgeIn es i)))
   edges-are = ap concat (map-tab encodeEdge m (edgeIn es))
 
-  encode-is : encode sequenceGraph status (graphIn k n m es vs p) ≡ encodeHeader 1 status k n m (bytesIn n vs) ++ concat (tab n (lengthBytes vs)) ++ concat (tab m (λ (i : ℕ). encodeEdge (edgeIn es i))) ++ concat (tab n (seqIn vs p))
+  encode-is : encode sequenceGraph status (graphIn k n m es vs p) ≡ encodeHeader 1 status k n m (bytesIn n vs)
+      ++ concat (tab n (lengthBytes vs)) ++ concat (tab m (λ (i : ℕ). encodeEdge (edgeIn es i))) ++ concat (tab n (seqIn vs p))
   unfolding encode recordKindNumber nodeCount
-  encode-is = λ j. encodeHeader 1 status k (length-tab n (seqIn vs p) j) (length-tab m (edgeIn es) j) (bytes-are j) ++ lengths-are j ++ edges-are j ++ concat (tab n (seqIn vs p))
+  encode-is = λ j. encodeHeader 1 status k (length-tab n (seqIn vs p) j) (length-tab m (edgeIn es) j) (bytes-are j) ++ lengths-are j
+      ++ edges-are j ++ concat (tab n (seqIn vs p))
 
   front-lengths : length (encodeHeader 1 status k n m (bytesIn n vs) ++ concat (tab n (lengthBytes vs))) ≡ 32 + 2 * n
-  front-lengths = length-append (encodeHeader 1 status k n m (bytesIn n vs)) (concat (tab n (lengthBytes vs))) ∙ omega (arith, header-length status k n m (bytesIn n vs), lengths-length vs n)
+  front-lengths = length-append (encodeHeader 1 status k n m (bytesIn n vs)) (concat (tab n (lengthBytes vs)))
+      ∙ omega (arith, header-length status k n m (bytesIn n vs), lengths-length vs n)
 
-  front-edges : length (encodeHeader 1 status k n m (bytesIn n vs) ++ concat (tab n (lengthBytes vs)) ++ concat (tab m (λ (i : ℕ). encodeEdge (edgeIn es i)))) ≡ 32 + 2 * n + 9 * m
+  front-edges : length (encodeHeader 1 status k n m (bytesIn n vs) ++ concat (tab n (lengthBytes vs))
+      ++ concat (tab m (λ (i : ℕ). encodeEdge (edgeIn es i)))) ≡ 32 + 2 * n + 9 * m
   front-edges =
       length-append (encodeHeader 1 status k n m (bytesIn n vs) ++ concat (tab n (lengthBytes vs))) (concat (tab m (λ (i : ℕ). encodeEdge (edgeIn es i))))
       ∙ omega (arith, front-lengths, edges-length es m)
@@ -183,7 +196,8 @@ module _ (status k n m : ℕ) (es vs p : List ℕ) (W : Within (length p) n vs) 
   pub encode-length : length (encode sequenceGraph status (graphIn k n m es vs p)) ≡ 32 + 2 * n + 9 * m + bytesIn n vs
   encode-length =
       ap length encode-is
-      ∙ length-append (encodeHeader 1 status k n m (bytesIn n vs) ++ concat (tab n (lengthBytes vs)) ++ concat (tab m (λ (i : ℕ). encodeEdge (edgeIn es i)))) (concat (tab n (seqIn vs p)))
+      ∙ length-append (encodeHeader 1 status k n m (bytesIn n vs) ++ concat (tab n (lengthBytes vs))
+      ++ concat (tab m (λ (i : ℕ). encodeEdge (edgeIn es i)))) (concat (tab n (seqIn vs p)))
       ∙ omega (arith, front-edges, seqs-length vs p n W)
 
   module _ (l : List ℕ) {l₁ l₂ l₃ l₄ : List ℕ} where
@@ -191,21 +205,26 @@ module _ (status k n m : ℕ) (es vs p : List ℕ) (W : Within (length p) n vs) 
         → l₃ ≡ sets l₂ (32 + 2 * n) (concat (tab m (λ (i : ℕ). encodeEdge (edgeIn es i)))) → l₄ ≡ sets l₃ (32 + 2 * n + 9 * m) (concat (tab n (seqIn vs p)))
         → l₄ ≡ sets l 0 (encode sequenceGraph status (graphIn k n m es vs p))
     parts-put p₁ p₂ p₃ p₄ =
-        put-four l (encodeHeader 1 status k n m (bytesIn n vs)) (concat (tab n (lengthBytes vs))) (concat (tab m (λ (i : ℕ). encodeEdge (edgeIn es i)))) (concat (tab n (seqIn vs p))) 0 32 (32 + 2 * n) (32 + 2 * n + 9 * m) p₁ p₂ p₃ p₄
+        put-four l (encodeHeader 1 status k n m (bytesIn n vs)) (concat (tab n (lengthBytes vs)))
+        (concat (tab m (λ (i : ℕ). encodeEdge (edgeIn es i)))) (concat (tab n (seqIn vs p))) 0 32 (32 + 2 * n) (32 + 2 * n
+        + 9 * m) p₁ p₂ p₃ p₄
         (omega (arith, header-length status k n m (bytesIn n vs))) (omega (arith, front-lengths)) (omega (arith, front-edges))
         ∙ ap (λ (x : List ℕ). sets l 0 x) (sym encode-is)
 
 sets-front : (l w : List ℕ) → length w ≤ length l → sets l 0 w ≡ w ++ drop (length w) l
 sets-front l w h = sets-eq w l 0 (omega arith) ∙ ap (λ (x : ℕ). w ++ drop x l) (zero-add (length w))
 
-pub written : {status : ℕ} {h : Held} {es vs p l : List ℕ} → Writable status h es vs p l → {b r : ℕ} → b ≡ bytesIn (h .n) vs → r ≡ 32 + 2 * h .n + 9 * h .m + b → {l₁ l₂ l₃ l₄ : List ℕ}
+pub written : {status : ℕ} {h : Held} {es vs p l : List ℕ} → Writable status h es vs p l → {b r : ℕ} → b ≡ bytesIn (h .n) vs → r ≡ 32
+    + 2 * h .n + 9 * h .m + b → {l₁ l₂ l₃ l₄ : List ℕ}
     → l₁ ≡ sets l 0 (encodeHeader 1 status (h .k .0) (h .n) (h .m) b) → l₂ ≡ sets l₁ 32 (concat (tab (h .n) (lengthBytes vs)))
-    → l₃ ≡ sets l₂ (32 + 2 * h .n) (concat (tab (h .m) (λ (i : ℕ). encodeEdge (edgeIn es i)))) → l₄ ≡ sets l₃ (32 + 2 * h .n + 9 * h .m) (concat (tab (h .n) (seqIn vs p)))
+    → l₃ ≡ sets l₂ (32 + 2 * h .n) (concat (tab (h .m) (λ (i : ℕ). encodeEdge (edgeIn es i)))) → l₄
+    ≡ sets l₃ (32 + 2 * h .n + 9 * h .m) (concat (tab (h .n) (seqIn vs p)))
     → Written status h es vs p l r l₄
 written {status} {h} {es} {vs} {p} {l} W qb qr p₁ p₂ p₃ p₄ =
     let e = encode-length status (h .k .0) (h .n) (h .m) es vs p (W .within) in
     record {
       long = omega (arith, e);
-      is = parts-put status (h .k .0) (h .n) (h .m) es vs p (W .within) l (p₁ ∙ ap (λ (x : ℕ). sets l 0 (encodeHeader 1 status (h .k .0) (h .n) (h .m) x)) qb) p₂ p₃ p₄
+      is = parts-put status (h .k .0) (h .n) (h .m) es vs p (W .within) l (p₁
+          ∙ ap (λ (x : ℕ). sets l 0 (encodeHeader 1 status (h .k .0) (h .n) (h .m) x)) qb) p₂ p₃ p₄
           ∙ sets-front l (encode sequenceGraph status (graphOf h es vs p)) (omega (arith, e, W .room));
     }

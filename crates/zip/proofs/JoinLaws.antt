@@ -88,7 +88,8 @@ module _ {h : Held} {es vs p heads nexts nodes mp : List ℕ} {start c : ℕ}
   in-pool = record { at = λ v b. omega (arith, H .within .at v b, H .used-room, R .p-room) }
 
   rest-below : (v : ℕ) → List·Memᴰ v (start ∷ rest) → v < h .n
-  rest-below v m = ⊎-elim (λ (e : v ≡ start). rw e (C .start-below)) (λ k. let z = of-mem-tab c (λ (i : ℕ). getD nodes i 0) k in rw (z .2) (C .below (z .0) (z .1))) (List·Memᴰ·cases-cons m)
+  rest-below v m = ⊎-elim (λ (e : v ≡ start). rw e (C .start-below)) (λ k. let z = of-mem-tab c (λ (i : ℕ). getD nodes i 0) k in
+      rw (z .2) (C .below (z .0) (z .1))) (List·Memᴰ·cases-cons m)
 
   chain-bytes : getD vs (2 * start + 1) 0 + bytesAt vs nodes c ≤ vertexRoom heads
   chain-bytes =
@@ -101,7 +102,8 @@ module _ {h : Held} {es vs p heads nexts nodes mp : List ℕ} {start c : ℕ}
 
       sums : total (λ (v : ℕ). length (getD (g .verts) v [])) (start ∷ rest) ≡ getD vs (2 * start + 1) 0 + bytesAt vs nodes c
       sums = unfold total in (λ i. size start (C .start-below) i + (total-tab c (λ (v : ℕ). length (getD (g .verts) v [])) (λ (i : ℕ). getD nodes i 0)
-          ∙ ap sum (tab-ext c (λ (j : ℕ). length (getD (g .verts) (getD nodes j 0) [])) (λ (j : ℕ). getD vs (2 * getD nodes j 0 + 1) 0) (λ j b. size (getD nodes j 0) (C .below j b)))) i)
+          ∙ ap sum (tab-ext c (λ (j : ℕ). length (getD (g .verts) (getD nodes j 0) [])) (λ (j : ℕ). getD vs (2 * getD nodes j 0 + 1) 0)
+          (λ j b. size (getD nodes j 0) (C .below j b)))) i)
 
   pub join-writable : Writable vs p (h .used) start nodes c
   join-writable = record {
@@ -132,7 +134,8 @@ module _ {h : Held} {es vs p heads nexts nodes mp : List ℕ} {start c : ℕ}
 
     put-start : getD vs′ (2 * start) 0 ≡ h .used
     unfolding putVertex
-    put-start = getD-set-other (set vs (2 * start) (h .used)) (2 * start + 1) (2 * start) _ 0 (λ z. omega arith) ∙ getD-set-same vs (2 * start) (h .used) 0 (omega (arith, start-at))
+    put-start = getD-set-other (set vs (2 * start) (h .used)) (2 * start + 1) (2 * start) _ 0 (λ z. omega arith)
+        ∙ getD-set-same vs (2 * start) (h .used) 0 (omega (arith, start-at))
 
     put-size : getD vs′ (2 * start + 1) 0 ≡ end - h .used
     unfolding putVertex
@@ -141,8 +144,10 @@ module _ {h : Held} {es vs p heads nexts nodes mp : List ℕ} {start c : ℕ}
     put-other : (v : ℕ) → (v ≡ start → ⊥) → (getD vs′ (2 * v) 0 ≡ getD vs (2 * v) 0) × (getD vs′ (2 * v + 1) 0 ≡ getD vs (2 * v + 1) 0)
     unfolding putVertex
     put-other v ne = (
-      getD-set-other (set vs (2 * start) (h .used)) (2 * start + 1) (2 * v) _ 0 (λ z. omega arith) ∙ getD-set-other vs (2 * start) (2 * v) _ 0 (λ z. ne (omega arith)),
-      getD-set-other (set vs (2 * start) (h .used)) (2 * start + 1) (2 * v + 1) _ 0 (λ z. ne (omega arith)) ∙ getD-set-other vs (2 * start) (2 * v + 1) _ 0 (λ z. omega arith),
+      getD-set-other (set vs (2 * start) (h .used)) (2 * start + 1) (2 * v) _ 0 (λ z. omega arith)
+          ∙ getD-set-other vs (2 * start) (2 * v) _ 0 (λ z. ne (omega arith)),
+      getD-set-other (set vs (2 * start) (h .used)) (2 * start + 1) (2 * v + 1) _ 0 (λ z. ne (omega arith))
+          ∙ getD-set-other vs (2 * start) (2 * v + 1) _ 0 (λ z. omega arith),
     )
 
     merged-is : merged ≡ concat (map (seqIn vs p) (start ∷ rest))
@@ -159,7 +164,8 @@ module _ {h : Held} {es vs p heads nexts nodes mp : List ℕ} {start c : ℕ}
 
       seq-other : (v : ℕ) → v < h .n → (v ≡ start → ⊥) → seqIn vs′ p′ v ≡ seqIn vs p v
       seq-other v b ne = let z = put-other v ne in rw (z .0, z .1)
-          (part-same p p′ (getD vs (2 * v) 0) (getD vs (2 * v) 0) (getD vs (2 * v + 1) 0) (in-pool .at v b) (omega (arith, in-pool .at v b, q)) (λ x d. W .old (getD vs (2 * v) 0 + x) (omega (arith, H .within .at v b))))
+          (part-same p p′ (getD vs (2 * v) 0) (getD vs (2 * v) 0) (getD vs (2 * v + 1) 0) (in-pool .at v b)
+          (omega (arith, in-pool .at v b, q)) (λ x d. W .old (getD vs (2 * v) 0 + x) (omega (arith, H .within .at v b))))
 
       pub verts-joined : seqsIn (h .n) vs′ p′ ≡ set (g .verts) start merged
       verts-joined = tab-set (h .n) (seqIn vs p) (seqIn vs′ p′) start [] (C .start-below) (λ v b ne. seq-other v b ne) ∙ ap (set (g .verts) start) seq-start
@@ -196,7 +202,8 @@ module _ {h : Held} {es vs p heads nexts nodes mp : List ℕ} {start c : ℕ}
         flag : e .isRef ≡ (moveFrom last (start ∷ y ∷ ys) start e) .isRef
         flag = unfold moveFrom in refl
 
-    map-same : (l : List Edge) → ((e : Edge) → List·Memᴰ e l → List·Memᴰ e (g .edges)) → map (movedEdge last start) l ≡ map (moveFrom last (start ∷ y ∷ ys) start) l
+    map-same : (l : List Edge) → ((e : Edge) → List·Memᴰ e l → List·Memᴰ e (g .edges)) → map (movedEdge last start) l
+        ≡ map (moveFrom last (start ∷ y ∷ ys) start) l
     map-same [] s = refl
     map-same (e ∷ l) s = λ i. move-same e (s e (List·Memᴰ·head refl)) i ∷ map-same l (λ d m. s d (List·Memᴰ·tail m)) i
 
@@ -214,7 +221,8 @@ module _ {h : Held} {es vs p heads nexts nodes mp : List ℕ} {start c : ℕ}
 
   -- the ends after moving
   pub moved-ends : {es′ : List ℕ} {last : ℕ} → EdgesMoved (h .m) es last start es′ → EndsBelow (h .n) (h .m) es′
-  moved-ends {es′} {last} M = mem-ends (h .n) (h .m) es′ (λ e m. each e (subst (λ (l : List Edge). List·Memᴰ e l) (M .is ∙ map-tab (movedEdge last start) (h .m) (edgeIn es)) m))
+  moved-ends {es′} {last} M = mem-ends (h .n) (h .m) es′ (λ e m.
+      each e (subst (λ (l : List Edge). List·Memᴰ e l) (M .is ∙ map-tab (movedEdge last start) (h .m) (edgeIn es)) m))
     where
       either : (t : Bool) {x : ℕ} → x < h .n → cond t start x < h .n
       either true b = C .start-below
@@ -234,7 +242,8 @@ module _ {h : Held} {es vs p heads nexts nodes mp : List ℕ} {start c : ℕ}
   pub last-below : getD nodes (c - 1) 0 < h .n
   last-below = C .below (c - 1) (omega (arith, C .some))
 
-  pub join-compactable : {es′ vs₁ : List ℕ} {last : ℕ} → EdgesMoved (h .m) es last start es′ → length es′ ≡ length es → length vs₁ ≡ length vs → Compactable (h .n) (h .m) es′ vs₁ mp
+  pub join-compactable : {es′ vs₁ : List ℕ} {last : ℕ} → EdgesMoved (h .m) es last start es′ → length es′ ≡ length es → length vs₁
+      ≡ length vs → Compactable (h .n) (h .m) es′ vs₁ mp
   join-compactable M a b = record {
     es-room = omega (arith, a, held-edges H, R .es-room);
     vs-room = omega (arith, b, n-room, R .vs-room);
@@ -291,10 +300,16 @@ module _ {h : Held} {es vs p heads nexts nodes mp : List ℕ} {start c : ℕ}
         → Joined h es vs p heads nexts nodes start c record { k = h .k; n = r .n; m = r .m; used = used } es₂ vs₃ p₃ mp₂
     joined-all {used} {vs₃} {p₃} P b =
         let s = packed-seqs P pool-rest (omega (arith, P .used-is, bytes-rest, R .p-room, q, b)) in
-        let same : graphIn (h .k .0) (r .n) (r .m) es₂ vs₃ p₃ ≡ graphIn (h .k .0) (r .n) (r .m) es₂ vs₂ p₁ = λ i. record { k = h .k .0; verts = s i; edges = edgesIn (r .m) es₂ } in
+        let same : graphIn (h .k .0) (r .n) (r .m) es₂ vs₃ p₃ ≡ graphIn (h .k .0) (r .n) (r .m) es₂ vs₂ p₁ = λ i.
+        record { k = h .k .0; verts = s i; edges = edgesIn (r .m) es₂ } in
         record {
           is = same ∙ removed-is;
-          holds = record { fit = rw same fit-rest; within = packed-within P pool-rest (omega (arith, P .used-is, bytes-rest, R .p-room, q, b)); used-room = omega (arith, P .used-is, bytes-rest) };
+          holds = record {
+            fit = rw same fit-rest;
+            within = packed-within
+                P pool-rest (omega (arith, P .used-is, bytes-rest, R .p-room, q, b));
+            used-room = omega (arith, P .used-is, bytes-rest);
+          };
           fewer = omega (arith, tame-rest .1, order-in (h .k .0) (r .n) (r .m) es₂ vs₂ p₁, ap nodeCount removed-is, order-in (h .k .0) (h .n) (h .m) es vs p);
           numbered = D .numbered;
           kept = D .kept;

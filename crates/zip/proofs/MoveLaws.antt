@@ -52,7 +52,8 @@ module _ {m n : ℕ} {es₀ heads nexts : List ℕ} (I : Indexed m n es₀ heads
         flag-kept = λ j. refl;
       }
 
-  pub moving-more : {es : List ℕ} {e : ℕ} → Moving m es₀ es last start e → e < m → (x : ℕ) → x ≡ getD nexts (2 * e) 0 → Moving m es₀ (set es (4 * e) start) last start x
+  pub moving-more : {es : List ℕ} {e : ℕ} → Moving m es₀ es last start e → e < m → (x : ℕ) → x ≡ getD nexts (2 * e) 0
+      → Moving m es₀ (set es (4 * e) start) last start x
   moving-more {es} {e} M h x q =
       let N = I .index 0 (omega arith) .nexts e h in
       let z : x ≡ pairAt 0 nexts e = q ∙ ap (λ (y : ℕ). getD nexts y 0) (sym (add-zero (2 * e))) in
@@ -64,7 +65,8 @@ module _ {m n : ℕ} {es₀ heads nexts : List ℕ} (I : Indexed m n es₀ heads
         len = length-set es _ _ ∙ M .len;
         done = λ j b t. elim (ℕ-discrete j e) [
           | yes y ↦ rw y (getD-set-same es (4 * e) start 0 room)
-          | no ne ↦ getD-set-other es (4 * e) (4 * j) start 0 (λ w. ne (omega arith)) ∙ M .done j (before j ne b t (λ a c d. N .skip j a (omega arith) (from-zero es₀ j ∙ t ∙ sym at-last))) t
+          | no ne ↦ getD-set-other es (4 * e) (4 * j) start 0 (λ w. ne (omega arith))
+              ∙ M .done j (before j ne b t (λ a c d. N .skip j a (omega arith) (from-zero es₀ j ∙ t ∙ sym at-last))) t
         ];
         kept = λ j b. elim (ℕ-discrete j e) [
           | yes y ↦ absurd (omega (arith, b (ap (λ (w : ℕ). getD es₀ (4 * w) 0) y ∙ M .hit h), N .low))
@@ -79,7 +81,10 @@ module _ {m n : ℕ} {es₀ heads nexts : List ℕ} (I : Indexed m n es₀ heads
       before j ne b t f = Rattle.laws.proofs.ListLaws.byOrder e j (λ a. absurd (f (omega arith) b t)) (λ a. a)
 
   pub moving-end : {es : List ℕ} {e : ℕ} → Moving m es₀ es last start e → m ≤ e → EdgesMoved m es₀ last start es
-  moving-end {es} {e} M h = record { is = tab-ext m (edgeIn es) (λ (i : ℕ). movedEdge last start (edgeIn es₀ i)) each ∙ sym (map-tab (movedEdge last start) m (edgeIn es₀)) }
+  moving-end {es} {e} M h = record {
+    is = tab-ext m (edgeIn es) (λ (i : ℕ). movedEdge last start (edgeIn es₀ i)) each
+        ∙ sym (map-tab (movedEdge last start) m (edgeIn es₀));
+  }
     where
       source : (j : ℕ) → j < m → getD es (4 * j) 0 ≡ cond (eqb (getD es₀ (4 * j) 0) last) start (getD es₀ (4 * j) 0)
       source j b = byTest (eqb (getD es₀ (4 * j) 0) last)

@@ -69,7 +69,8 @@ module _ {starts₀ : List ℕ} {i count : ℕ} {mp : List ℕ} {n : ℕ} (F : R
       before = λ k b. getD-set-other starts j k _ 0 (λ z. omega (arith, R .low)) ∙ R .before k b;
       rest = λ k b. getD-set-other starts j k _ 0 (λ z. omega (arith, R .mid)) ∙ R .rest k (omega arith);
       is = between-more (set starts j (x - 1)) i j (R .low)
-          ∙ (λ s. between-same starts (set starts j (x - 1)) i j (λ k a b. getD-set-other starts j k _ 0 (λ z. omega arith)) s ++ (getD-set-same starts j (x - 1) 0 (omega (arith, R .mid, R .len, F .room)) s ∷ []))
+          ∙ (λ s. between-same starts (set starts j (x - 1)) i j (λ k a b. getD-set-other starts j k _ 0 (λ z. omega arith)) s
+          ++ (getD-set-same starts j (x - 1) 0 (omega (arith, R .mid, R .len, F .room)) s ∷ []))
           ∙ ap (λ (l : List ℕ). l ++ ((x - 1) ∷ [])) (R .is)
           ∙ sym (ap (λ (l : List ℕ). map (renumber mp) (keepIf (keptBy mp) l)) (between-more starts₀ i t (omega (arith, R .low, R .mid)))
           ∙ ap (map (renumber mp)) more-yes

@@ -14,10 +14,12 @@ use Rattle.pool.specs.Pool.{Apart, Moved}
 use Rattle.pool.proofs.PoolLaws.{part-same}
 use Rattle.zip.specs.Zip.{Copyable, Copied, bytesAt, Writable, Written}
 
-pub copy-apart : {vs p : List ℕ} {at v : ℕ} {start len : ℕ} → Copyable vs p at v → start ≡ getD vs (2 * v) 0 → len ≡ getD vs (2 * v + 1) 0 → Apart p at start len
+pub copy-apart : {vs p : List ℕ} {at v : ℕ} {start len : ℕ} → Copyable vs p at v → start ≡ getD vs (2 * v) 0 → len ≡ getD vs (2 * v + 1) 0
+    → Apart p at start len
 copy-apart C s l = record { to-room = omega (arith, C .room); from-room = omega (arith, C .room, C .before); apart = inl (omega (arith, C .before)) }
 
-pub copied : {vs p p′ : List ℕ} {at v start len : ℕ} → Copyable vs p at v → start ≡ getD vs (2 * v) 0 → len ≡ getD vs (2 * v + 1) 0 → Moved p at start len p′ → length p′ ≡ length p → Copied vs p at v (at + len) p′
+pub copied : {vs p p′ : List ℕ} {at v start len : ℕ} → Copyable vs p at v → start ≡ getD vs (2 * v) 0 → len ≡ getD vs (2 * v + 1) 0
+    → Moved p at start len p′ → length p′ ≡ length p → Copied vs p at v (at + len) p′
 copied {vs} {p} {p′} {at} {v} C s l M q = record {
   end = omega arith;
   old = M .before;
@@ -68,19 +70,31 @@ module _ {vs p₀ : List ℕ} {used start : ℕ} {nodes : List ℕ} {c : ℕ} (F
         place = omega (arith, W .end)
 
         before : part p′ used (at - used) ≡ concat (map (seqIn vs p₀) (start ∷ numsIn i nodes))
-        before = part-same p p′ used used (at - used) (omega (arith, fits, W .len, W .end)) (omega (arith, fits, W .len, q, W .end)) (λ x b. C .old (used + x) (omega (arith, W .end))) ∙ W .is
+        before = part-same p p′ used used (at - used) (omega (arith, fits, W .len, W .end)) (omega (arith, fits, W .len, q, W .end)) (λ x b.
+            C .old (used + x) (omega (arith, W .end))) ∙ W .is
 
         behind : part p′ (used + (at - used)) (getD vs (2 * getD nodes i 0 + 1) 0) ≡ seqIn vs p₀ (getD nodes i 0)
         behind = ap (λ (x : ℕ). part p′ x (getD vs (2 * getD nodes i 0 + 1) 0)) place ∙ C .is
-            ∙ part-same p₀ p (getD vs (2 * getD nodes i 0) 0) (getD vs (2 * getD nodes i 0) 0) (getD vs (2 * getD nodes i 0 + 1) 0) (omega (arith, F .before i h, fits, W .end)) (omega (arith, F .before i h, fits, W .end, W .len)) (λ x b. W .old (getD vs (2 * getD nodes i 0) 0 + x) (omega (arith, F .before i h)))
+            ∙ part-same p₀ p (getD vs (2 * getD nodes i 0) 0) (getD vs (2 * getD nodes i 0) 0) (getD vs (2 * getD nodes i 0 + 1) 0)
+            (omega (arith, F .before i h, fits, W .end)) (omega (arith, F .before i h, fits, W .end, W .len)) (λ x b.
+            W .old (getD vs (2 * getD nodes i 0) 0 + x) (omega (arith, F .before i h)))
 
 -- the first copy is made before the loop: p is the pool at entry, p₁ the pool where the loop starts
-module _ {vs p : List ℕ} {used start : ℕ} {nodes : List ℕ} {c : ℕ} (F : Writable vs p used start nodes c) {p₁ : List ℕ} {at₁ : ℕ} (C : Copied vs p used start at₁ p₁) (q : length p₁ ≡ length p) where
+module _ {vs p : List ℕ} {used start : ℕ} {nodes : List ℕ} {c : ℕ} (F : Writable vs p used start nodes c) {p₁ : List ℕ} {at₁ : ℕ} (C :
+    Copied vs p used start at₁ p₁) (q : length p₁ ≡ length p) where
   pub writable-then : Writable vs p₁ used start nodes c
-  writable-then = record { nodes-room = F .nodes-room; start-room = F .start-room; start-before = F .start-before; vs-room = F .vs-room; before = F .before; room = omega (arith, F .room, q) }
+  writable-then = record {
+    nodes-room = F .nodes-room;
+    start-room = F .start-room;
+    start-before = F .start-before;
+    vs-room = F .vs-room;
+    before = F .before;
+    room = omega (arith, F .room, q);
+  }
 
   seq-kept : (v : ℕ) → getD vs (2 * v) 0 + getD vs (2 * v + 1) 0 ≤ used → seqIn vs p₁ v ≡ seqIn vs p v
-  seq-kept v b = part-same p p₁ (getD vs (2 * v) 0) (getD vs (2 * v) 0) (getD vs (2 * v + 1) 0) (omega (arith, F .room)) (omega (arith, F .room, q)) (λ x h. C .old (getD vs (2 * v) 0 + x) (omega arith))
+  seq-kept v b = part-same p p₁ (getD vs (2 * v) 0) (getD vs (2 * v) 0) (getD vs (2 * v + 1) 0) (omega (arith, F .room))
+      (omega (arith, F .room, q)) (λ x h. C .old (getD vs (2 * v) 0 + x) (omega arith))
 
   pub writing-start : Writing vs p₁ used start nodes c p₁ at₁ 0
   unfolding concat
@@ -89,14 +103,17 @@ module _ {vs p : List ℕ} {used start : ℕ} {nodes : List ℕ} {c : ℕ} (F : 
     len = refl;
     end = omega (arith, C .end, sum-none (λ (i : ℕ). getD vs (2 * getD nodes i 0 + 1) 0));
     old = λ k b. refl;
-    is = ap (part p₁ used) size ∙ C .is ∙ sym (seq-kept start (F .start-before)) ∙ sym (append-nil _) ∙ sym (ap (λ (l : List ℕ). seqIn vs p₁ start ++ concat (map (seqIn vs p₁) l)) (tab-zero (λ (i : ℕ). getD nodes i 0)));
+    is = ap (part p₁ used) size ∙ C .is ∙ sym (seq-kept start (F .start-before)) ∙ sym (append-nil _)
+        ∙ sym (ap (λ (l : List ℕ). seqIn vs p₁ start ++ concat (map (seqIn vs p₁) l)) (tab-zero (λ (i : ℕ). getD nodes i 0)));
   }
     where
       size : at₁ - used ≡ getD vs (2 * start + 1) 0
       size = omega (arith, C .end)
 
   seqs-kept : map (seqIn vs p₁) (numsIn c nodes) ≡ map (seqIn vs p) (numsIn c nodes)
-  seqs-kept = map-tab (seqIn vs p₁) c (λ (i : ℕ). getD nodes i 0) ∙ tab-ext c (λ (i : ℕ). seqIn vs p₁ (getD nodes i 0)) (λ (i : ℕ). seqIn vs p (getD nodes i 0)) (λ i h. seq-kept (getD nodes i 0) (F .before i h)) ∙ sym (map-tab (seqIn vs p) c (λ (i : ℕ). getD nodes i 0))
+  seqs-kept = map-tab (seqIn vs p₁) c (λ (i : ℕ). getD nodes i 0)
+      ∙ tab-ext c (λ (i : ℕ). seqIn vs p₁ (getD nodes i 0)) (λ (i : ℕ). seqIn vs p (getD nodes i 0)) (λ i h.
+      seq-kept (getD nodes i 0) (F .before i h)) ∙ sym (map-tab (seqIn vs p) c (λ (i : ℕ). getD nodes i 0))
 
   pub writing-end : {p′ : List ℕ} {at i : ℕ} → Writing vs p₁ used start nodes c p′ at i → c ≤ i → Written vs p used start nodes c at p′
   writing-end {p′} {at} {i} W h = let e : i ≡ c = omega (arith, W .high) in record {

@@ -65,8 +65,11 @@ pub fn merge_linear_chain(
     start: u32,
     c: usize,
 ) -> Held
-    requires { ⌜ Room (now es) (now vs) (now p) (now heads) (now nexts) (now nodes) (now map) × (Holds held (now es) (now vs) (now p) (now heads) (now nexts) × (Indexed (held .m) (held .n) (now es) (now heads) (now nexts) × Chain held (now es) (now vs) (now p) (now nodes) start c)) ⌝ }
-    ensures { λ r. ⌜ Joined held (now (es .entry)) (now (vs .entry)) (now (p .entry)) (now (heads .entry)) (now (nexts .entry)) (now (nodes .entry)) start c r (now (es .exit)) (now (vs .exit)) (now (p .exit)) (now (map .exit)) ⌝ }
+    requires { ⌜ Room (now es) (now vs) (now p) (now heads) (now nexts) (now nodes) (now map)
+        × (Holds held (now es) (now vs) (now p) (now heads) (now nexts)
+        × (Indexed (held .m) (held .n) (now es) (now heads) (now nexts) × Chain held (now es) (now vs) (now p) (now nodes) start c)) ⌝ }
+    ensures { λ r. ⌜ Joined held (now (es .entry)) (now (vs .entry)) (now (p .entry)) (now (heads .entry)) (now (nexts .entry))
+        (now (nodes .entry)) start c r (now (es .exit)) (now (vs .exit)) (now (p .exit)) (now (map .exit)) ⌝ }
 {
     let n = held.n;
     let m = held.m;

@@ -42,7 +42,8 @@ module _ {w : Work} {es vs p heads nexts nodes mp : List ℕ} (R : Ready w es vs
       on : ltb s (nodeCount g) && isLinearChainStart g s ≡ true
       on = rw (lt-ltb s (nodeCount g) (omega (arith, order-in (w .held .k .0) (w .held .n) (w .held .m) es vs p)), t)
 
-  unchanged : {nodes′ : List ℕ} → length nodes′ ≡ length nodes → linearChain g s ≡ [] → At w es vs p s record { joined = false; work = w } es vs p heads nexts nodes′ mp
+  unchanged : {nodes′ : List ℕ} → length nodes′ ≡ length nodes → linearChain g s ≡ []
+      → At w es vs p s record { joined = false; work = w } es vs p heads nexts nodes′ mp
   unchanged q e = record {
     ready = record { room = room-kept (R .room) refl refl refl refl refl q refl; holds = R .holds; indexed = R .indexed; countable = R .countable };
     no = λ _. e;
@@ -59,10 +60,12 @@ module _ {w : Work} {es vs p heads nexts nodes mp : List ℕ} (R : Ready w es vs
       clash : {X : Type 0} → false ≡ true → X
       clash t = Rattle.laws.proofs.ListLaws.clash t refl
 
-  pub at-no-start : {r : Bool} → ChainStart (w .held .m) (w .held .n) es s r → r ≡ false → At w es vs p s record { joined = false; work = w } es vs p heads nexts nodes mp
+  pub at-no-start : {r : Bool} → ChainStart (w .held .m) (w .held .n) es s r → r ≡ false
+      → At w es vs p s record { joined = false; work = w } es vs p heads nexts nodes mp
   at-no-start C e = unchanged refl (chain-off (sym (C .is (w .held .k .0) vs p) ∙ e))
 
-  module _ {r : Bool} (C : ChainStart (w .held .m) (w .held .n) es s r) (e : r ≡ true) {c : ℕ} {nodes′ : List ℕ} (T : Traced (w .held .m) (w .held .n) es s c nodes′) (q : length nodes′ ≡ length nodes) where
+  module _ {r : Bool} (C : ChainStart (w .held .m) (w .held .n) es s r) (e : r ≡ true) {c : ℕ} {nodes′ : List ℕ} (T :
+      Traced (w .held .m) (w .held .n) es s c nodes′) (q : length nodes′ ≡ length nodes) where
     chain-is : linearChain g s ≡ numsIn c nodes′
     chain-is = chain-on (sym (C .is (w .held .k .0) vs p) ∙ e) ∙ sym (T .is (w .held .k .0) vs p)
 
@@ -95,7 +98,13 @@ module _ {w : Work} {es vs p heads nexts nodes mp : List ℕ} (R : Ready w es vs
       pub at-joined : {heads′ nexts′ : List ℕ} → Indexed (r′ .m) (r′ .n) es′ heads′ nexts′ → length heads′ ≡ length heads → length nexts′ ≡ length nexts
           → At w es vs p s record { joined = true; work = record { held = r′; rewrites = w .rewrites + 1 } } es′ vs′ p′ heads′ nexts′ nodes′ mp′
       at-joined I lh ln = record {
-        ready = record { room = room-kept at-room le lv lp lh ln refl lm; holds = holds-kept (J .holds) lh ln; indexed = I; countable = omega (arith, R .countable, J .fewer) };
+        ready = record {
+          room = room-kept at-room le lv lp lh ln refl lm;
+          holds = holds-kept (J .holds) lh ln;
+          indexed = I;
+          countable =
+              omega (arith, R .countable, J .fewer);
+        };
         no = λ t. clash t;
         same = λ t. clash t;
         same-n = λ t. clash t;

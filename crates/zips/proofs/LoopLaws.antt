@@ -54,7 +54,8 @@ module _ (mp gone : List ℕ) (n : ℕ) (N : Numbered n mp) (K : (v : ℕ) → v
   number-is : (v : ℕ) → v < n → keptBy mp v ≡ true → getD mp v 0 - 1 ≡ rank (keeps gone) v
   number-is v h t = omega (arith, N .is v h t, rank-same (keptBy mp) (keeps gone) v (λ u b. K u (omega arith)))
 
-  remap-list : (l : List ℕ) → ((i : ℕ) → i < length l → getD l i 0 < n) → map (λ (v : ℕ). getD mp v 0 - 1) (keepIf (keptBy mp) l) ≡ map (rank (keeps gone)) (keepIf (keeps gone) l)
+  remap-list : (l : List ℕ) → ((i : ℕ) → i < length l → getD l i 0 < n) → map (λ (v : ℕ). getD mp v 0 - 1) (keepIf (keptBy mp) l)
+      ≡ map (rank (keeps gone)) (keepIf (keeps gone) l)
   unfolding keepIf
   remap-list [] b = refl
   remap-list (v ∷ l) b =
@@ -64,32 +65,43 @@ module _ (mp gone : List ℕ) (n : ℕ) (N : Numbered n mp) (K : (v : ℕ) → v
       (λ t. rw (t, sym (K v h) ∙ t) (λ s. number-is v h t s ∷ ih s))
       (λ t. rw (t, sym (K v h) ∙ t) ih)
 
-  pub remapped-is : (starts starts′ : List ℕ) (i count r : ℕ) → Remapped starts i count mp r starts′ → ((t : ℕ) → i ≤ t → t < count → getD starts t 0 < n) → between starts′ i r ≡ remapNumbers gone (between starts i count)
+  pub remapped-is : (starts starts′ : List ℕ) (i count r : ℕ) → Remapped starts i count mp r starts′
+      → ((t : ℕ) → i ≤ t → t < count → getD starts t 0 < n) → between starts′ i r ≡ remapNumbers gone (between starts i count)
   unfolding remapNumbers
   remapped-is starts starts′ i count r R b =
-      R .is ∙ remap-list (between starts i count) (λ j h. let c : j < count - i = omega (arith, h, length-tab (count - i) (λ (j : ℕ). getD starts (i + j) 0)) in rw (getD-tab (count - i) (λ (j : ℕ). getD starts (i + j) 0) j 0 c) (b (i + j) (omega arith) (omega arith)))
+      R .is ∙ remap-list (between starts i count) (λ j h. let c : j < count - i =
+      omega (arith, h, length-tab (count - i) (λ (j : ℕ). getD starts (i + j) 0)) in
+      rw (getD-tab (count - i) (λ (j : ℕ). getD starts (i + j) 0) j 0 c) (b (i + j) (omega arith) (omega arith)))
 
   -- and below what is left
-  ranks-below : (l : List ℕ) → ((i : ℕ) → i < length l → getD l i 0 < n) → (i : ℕ) → i < length (map (rank (keeps gone)) (keepIf (keeps gone) l)) → getD (map (rank (keeps gone)) (keepIf (keeps gone) l)) i 0 < rank (keeps gone) n
+  ranks-below : (l : List ℕ) → ((i : ℕ) → i < length l → getD l i 0 < n) → (i : ℕ)
+      → i < length (map (rank (keeps gone)) (keepIf (keeps gone) l))
+      → getD (map (rank (keeps gone)) (keepIf (keeps gone) l)) i 0 < rank (keeps gone) n
   unfolding keepIf
   ranks-below [] b = λ i h. absurd (omega arith)
   ranks-below (v ∷ l) b = byTest (keeps gone v)
       (λ t. rw t (at-head t (ranks-below l (λ i h. b (suc i) (omega arith)))))
       (λ t. rw t (ranks-below l (λ i h. b (suc i) (omega arith))))
     where
-      at-head : keeps gone v ≡ true → ((i : ℕ) → i < length (map (rank (keeps gone)) (keepIf (keeps gone) l)) → getD (map (rank (keeps gone)) (keepIf (keeps gone) l)) i 0 < rank (keeps gone) n)
-          → (i : ℕ) → i < length (rank (keeps gone) v ∷ map (rank (keeps gone)) (keepIf (keeps gone) l)) → getD (rank (keeps gone) v ∷ map (rank (keeps gone)) (keepIf (keeps gone) l)) i 0 < rank (keeps gone) n
+      at-head : keeps gone v ≡ true → ((i : ℕ) → i < length (map (rank (keeps gone)) (keepIf (keeps gone) l))
+          → getD (map (rank (keeps gone)) (keepIf (keeps gone) l)) i 0 < rank (keeps gone) n)
+          → (i : ℕ) → i < length (rank (keeps gone) v ∷ map (rank (keeps gone)) (keepIf (keeps gone) l))
+          → getD (rank (keeps gone) v ∷ map (rank (keeps gone)) (keepIf (keeps gone) l)) i 0 < rank (keeps gone) n
       at-head t ih zero h = rank-lt (keeps gone) v n (b 0 (omega arith)) t
       at-head t ih (suc i) h = ih i (omega arith)
 
-  pub remapped-below : (starts starts′ : List ℕ) (i count r : ℕ) → Remapped starts i count mp r starts′ → ((t : ℕ) → i ≤ t → t < count → getD starts t 0 < n) → (t : ℕ) → i ≤ t → t < r → getD starts′ t 0 < rank (keeps gone) n
+  pub remapped-below : (starts starts′ : List ℕ) (i count r : ℕ) → Remapped starts i count mp r starts′
+      → ((t : ℕ) → i ≤ t → t < count → getD starts t 0 < n) → (t : ℕ) → i ≤ t → t < r → getD starts′ t 0 < rank (keeps gone) n
   unfolding remapNumbers
   remapped-below starts starts′ i count r R b t x y =
       let e = remapped-is starts starts′ i count r R b in
       let l = length-tab (r - i) (λ (j : ℕ). getD starts′ (i + j) 0) in
-      let z = ranks-below (between starts i count) (λ j h. let c : j < count - i = omega (arith, h, length-tab (count - i) (λ (j : ℕ). getD starts (i + j) 0)) in rw (getD-tab (count - i) (λ (j : ℕ). getD starts (i + j) 0) j 0 c) (b (i + j) (omega arith) (omega arith)))
+      let z = ranks-below (between starts i count) (λ j h. let c : j < count - i =
+      omega (arith, h, length-tab (count - i) (λ (j : ℕ). getD starts (i + j) 0)) in
+      rw (getD-tab (count - i) (λ (j : ℕ). getD starts (i + j) 0) j 0 c) (b (i + j) (omega arith) (omega arith)))
       (t - i) (omega (arith, ap length e, l)) in
-      let q : getD (between starts′ i r) (t - i) 0 ≡ getD starts′ t 0 = getD-tab (r - i) (λ (j : ℕ). getD starts′ (i + j) 0) (t - i) 0 (omega arith) ∙ ap (λ (s : ℕ). getD starts′ s 0) (omega arith) in
+      let q : getD (between starts′ i r) (t - i) 0 ≡ getD starts′ t 0 =
+      getD-tab (r - i) (λ (j : ℕ). getD starts′ (i + j) 0) (t - i) 0 (omega arith) ∙ ap (λ (s : ℕ). getD starts′ s 0) (omega arith) in
       omega (arith, z, q, ap (λ (k : List ℕ). getD k (t - i) 0) e)
 
 -- the loop: what is left to do from here is what there was to do
@@ -112,7 +124,9 @@ zip-rest zero w = zip-zero [] w
 zip-rest (suc fuel) w = zip-empty fuel w
 
 module _ {total : ℕ} {w₀ : Work} {es₀ vs₀ p₀ starts₀ : List ℕ} where
-  pub zipping-start : {heads nexts nodes mp : List ℕ} → Ready w₀ es₀ vs₀ p₀ heads nexts nodes mp → Starts (w₀ .held .m) (w₀ .held .n) es₀ total starts₀ → Zipping total w₀ es₀ vs₀ p₀ starts₀ w₀ es₀ vs₀ p₀ heads nexts nodes mp starts₀ total 0
+  pub zipping-start : {heads nexts nodes mp : List ℕ} → Ready w₀ es₀ vs₀ p₀ heads nexts nodes mp
+      → Starts (w₀ .held .m) (w₀ .held .n) es₀ total starts₀
+      → Zipping total w₀ es₀ vs₀ p₀ starts₀ w₀ es₀ vs₀ p₀ heads nexts nodes mp starts₀ total 0
   zipping-start R S = record {
     ready = R;
     low = omega arith;
@@ -123,7 +137,8 @@ module _ {total : ℕ} {w₀ : Work} {es₀ vs₀ p₀ starts₀ : List ℕ} whe
     less = omega arith;
   }
 
-  module _ {w : Work} {es vs p heads nexts nodes mp starts : List ℕ} {count i : ℕ} (Q : Zipping total w₀ es₀ vs₀ p₀ starts₀ w es vs p heads nexts nodes mp starts count i) (h : i < count) where
+  module _ {w : Work} {es vs p heads nexts nodes mp starts : List ℕ} {count i : ℕ} (Q :
+      Zipping total w₀ es₀ vs₀ p₀ starts₀ w es vs p heads nexts nodes mp starts count i) (h : i < count) where
     abbrev s : ℕ
     s = getD starts i 0
 
@@ -133,7 +148,8 @@ module _ {total : ℕ} {w₀ : Work} {es₀ vs₀ p₀ starts₀ : List ℕ} whe
     fuel-is : total - i ≡ suc (total - (i + 1))
     fuel-is = omega (arith, Q .high)
 
-    turn : zipStarts (total - i) (between starts i count) (workOf w es vs p) ≡ zipStarts (suc (total - (i + 1))) (s ∷ between starts (i + 1) count) (workOf w es vs p)
+    turn : zipStarts (total - i) (between starts i count) (workOf w es vs p)
+        ≡ zipStarts (suc (total - (i + 1))) (s ∷ between starts (i + 1) count) (workOf w es vs p)
     turn = λ j. zipStarts (fuel-is j) (between-cons starts i count h j) (workOf w es vs p)
 
     pub zip-s-below : s < w .held .n
@@ -147,7 +163,8 @@ module _ {total : ℕ} {w₀ : Work} {es₀ vs₀ p₀ starts₀ : List ℕ} whe
         high = Q .high;
         len = Q .len;
         below = λ u a b. rw (A .same-n t) (Q .below u (omega arith) b);
-        is = ap (zipStarts (total - (i + 1)) (between starts (i + 1) count)) (A .same t) ∙ sym (zip-nil (total - (i + 1)) s (between starts (i + 1) count) (workOf w es vs p) (A .no t)) ∙ sym turn ∙ Q .is;
+        is = ap (zipStarts (total - (i + 1)) (between starts (i + 1) count)) (A .same t)
+            ∙ sym (zip-nil (total - (i + 1)) s (between starts (i + 1) count) (workOf w es vs p) (A .no t)) ∙ sym turn ∙ Q .is;
         less = omega (arith, Q .less, A .less);
       }
 
@@ -161,8 +178,15 @@ module _ {total : ℕ} {w₀ : Work} {es₀ vs₀ p₀ starts₀ : List ℕ} whe
         low = R .low;
         high = omega (arith, R .high, Q .high);
         len = l ∙ Q .len;
-        below = λ u a b. omega (arith, remapped-below mp′ chain (w .held .n) (A .numbered t) (A .kept t) starts starts′ (i + 1) count count′ R (λ v x y. Q .below v (omega arith) y) u a b, left);
-        is = (λ j. zipStarts (total - (i + 1)) (remapped-is mp′ chain (w .held .n) (A .numbered t) (A .kept t) starts starts′ (i + 1) count count′ R (λ v x y. Q .below v (omega arith) y) j) (work-is j))
+        below = λ u a b. omega (
+          arith,
+          remapped-below mp′ chain
+              (w .held .n) (A .numbered t) (A .kept t) starts starts′ (i + 1) count count′ R (λ v x y. Q .below v (omega arith) y) u a b,
+          left,
+        );
+        is = (λ j. zipStarts (total - (i + 1)) (remapped-is mp′ chain
+            (w .held .n) (A .numbered t) (A .kept t) starts starts′ (i + 1) count count′ R (λ v x y. Q .below v (omega arith) y) j)
+            (work-is j))
             ∙ sym step ∙ sym turn ∙ Q .is;
         less = omega (arith, Q .less, A .less);
       }
@@ -171,16 +195,22 @@ module _ {total : ℕ} {w₀ : Work} {es₀ vs₀ p₀ starts₀ : List ℕ} whe
           chain = linearChain g s
 
           left : r .work .held .n ≡ rank (keeps chain) (w .held .n)
-          left = sym (order-in (r .work .held .k .0) (r .work .held .n) (r .work .held .m) es′ vs′ p′) ∙ ap nodeCount (A .is t) ∙ left-over g s chain ∙ ap (rank (keeps chain)) (order-in (w .held .k .0) (w .held .n) (w .held .m) es vs p)
+          left = sym (order-in (r .work .held .k .0) (r .work .held .n) (r .work .held .m) es′ vs′ p′) ∙ ap nodeCount (A .is t)
+              ∙ left-over g s chain ∙ ap (rank (keeps chain)) (order-in (w .held .k .0) (w .held .n) (w .held .m) es vs p)
 
           work-is : workOf (r .work) es′ vs′ p′ ≡ again (workOf w es vs p) (mergeLinearChain g s chain)
           work-is = λ j. record { graph = A .is t j; rewrites = (A .one-more t ∙ add-one (w .rewrites)) j }
 
-          step : zipStarts (suc (total - (i + 1))) (s ∷ between starts (i + 1) count) (workOf w es vs p) ≡ zipStarts (total - (i + 1)) (remapNumbers chain (between starts (i + 1) count)) (again (workOf w es vs p) (mergeLinearChain g s chain))
+          step : zipStarts (suc (total - (i + 1))) (s ∷ between starts (i + 1) count) (workOf w es vs p)
+              ≡ zipStarts (total - (i + 1)) (remapNumbers chain (between starts (i + 1) count)) (again
+              (workOf w es vs p) (mergeLinearChain g s chain))
           step = byList chain (λ e. absurd (omega (arith, A .some t, ap length e)))
-              (λ v more e. zip-cons (total - (i + 1)) s (between starts (i + 1) count) (workOf w es vs p) v more e ∙ (λ j. zipStarts (total - (i + 1)) (remapNumbers (sym e j) (between starts (i + 1) count)) (again (workOf w es vs p) (mergeLinearChain g s (sym e j)))))
+              (λ v more e. zip-cons (total - (i + 1)) s (between starts (i + 1) count) (workOf w es vs p) v more e
+              ∙ (λ j. zipStarts (total - (i + 1)) (remapNumbers (sym e j) (between starts (i + 1) count)) (again
+              (workOf w es vs p) (mergeLinearChain g s (sym e j)))))
 
-  pub zipping-end : {w : Work} {es vs p heads nexts nodes mp starts : List ℕ} {count i : ℕ} → Zipping total w₀ es₀ vs₀ p₀ starts₀ w es vs p heads nexts nodes mp starts count i → count ≤ i
+  pub zipping-end : {w : Work} {es vs p heads nexts nodes mp starts : List ℕ} {count i : ℕ}
+      → Zipping total w₀ es₀ vs₀ p₀ starts₀ w es vs p heads nexts nodes mp starts count i → count ≤ i
       → Starts (w₀ .held .m) (w₀ .held .n) es₀ total starts₀ → ZippedAll w₀ es₀ vs₀ p₀ w es vs p heads nexts nodes mp
   unfolding zipLinearChains
   zipping-end {w} {es} {vs} {p} {starts = starts} {count = count} {i = i} Q h S = record {
@@ -193,7 +223,10 @@ module _ {total : ℕ} {w₀ : Work} {es₀ vs₀ p₀ starts₀ : List ℕ} whe
       list : between starts₀ 0 total ≡ keepIf (isLinearChainStart (graphOf (w₀ .held) es₀ vs₀ p₀)) (upFrom 0 (nodeCount (graphOf (w₀ .held) es₀ vs₀ p₀)))
       list = ap (λ (x : ℕ). tab x (λ (j : ℕ). getD starts₀ (0 + j) 0)) (omega arith)
           ∙ tab-ext total (λ (j : ℕ). getD starts₀ (0 + j) 0) (λ (j : ℕ). getD starts₀ j 0) (λ j b. ap (λ (x : ℕ). getD starts₀ x 0) (omega arith))
-          ∙ S .is (w₀ .held .k .0) vs₀ p₀ ∙ ap (λ (x : ℕ). keepIf (isLinearChainStart (graphOf (w₀ .held) es₀ vs₀ p₀)) (upFrom 0 x)) (sym (order-in (w₀ .held .k .0) (w₀ .held .n) (w₀ .held .m) es₀ vs₀ p₀))
+          ∙ S .is (w₀ .held .k .0) vs₀ p₀ ∙ ap (λ (x : ℕ). keepIf (isLinearChainStart (graphOf (w₀ .held) es₀ vs₀ p₀)) (upFrom 0 x))
+          (sym (order-in (w₀ .held .k .0) (w₀ .held .n) (w₀ .held .m) es₀ vs₀ p₀))
 
       long : total ≡ length (keepIf (isLinearChainStart (graphOf (w₀ .held) es₀ vs₀ p₀)) (upFrom 0 (nodeCount (graphOf (w₀ .held) es₀ vs₀ p₀))))
-      long = sym (length-tab total (λ (j : ℕ). getD starts₀ j 0)) ∙ ap length (S .is (w₀ .held .k .0) vs₀ p₀) ∙ ap (λ (x : ℕ). length (keepIf (isLinearChainStart (graphOf (w₀ .held) es₀ vs₀ p₀)) (upFrom 0 x))) (sym (order-in (w₀ .held .k .0) (w₀ .held .n) (w₀ .held .m) es₀ vs₀ p₀))
+      long = sym (length-tab total (λ (j : ℕ). getD starts₀ j 0)) ∙ ap length (S .is (w₀ .held .k .0) vs₀ p₀)
+          ∙ ap (λ (x : ℕ). length (keepIf (isLinearChainStart (graphOf (w₀ .held) es₀ vs₀ p₀)) (upFrom 0 x)))
+          (sym (order-in (w₀ .held .k .0) (w₀ .held .n) (w₀ .held .m) es₀ vs₀ p₀))

@@ -26,7 +26,8 @@ pub fn zip_at(
     s: u32,
 ) -> Zipped
     requires { ⌜ Ready work (now es) (now vs) (now p) (now heads) (now nexts) (now nodes) (now map) × (s < work .held .n) ⌝ }
-    ensures { λ r. ⌜ At work (now (es .entry)) (now (vs .entry)) (now (p .entry)) s r (now (es .exit)) (now (vs .exit)) (now (p .exit)) (now (heads .exit)) (now (nexts .exit)) (now (nodes .exit)) (now (map .exit)) ⌝ }
+    ensures { λ r. ⌜ At work (now (es .entry)) (now (vs .entry)) (now (p .entry)) s r (now (es .exit)) (now (vs .exit)) (now (p .exit))
+        (now (heads .exit)) (now (nexts .exit)) (now (nodes .exit)) (now (map .exit)) ⌝ }
 {
     let held = work.held;
     let n = held.n;
@@ -68,7 +69,8 @@ pub fn zip_linear_chains(
     starts: &mut [u32],
 ) -> Work
     requires { ⌜ Ready work (now es) (now vs) (now p) (now heads) (now nexts) (now nodes) (now map) × (length (now heads) ≤ 2 * length (now starts) + 1) ⌝ }
-    ensures { λ r. ⌜ ZippedAll work (now (es .entry)) (now (vs .entry)) (now (p .entry)) r (now (es .exit)) (now (vs .exit)) (now (p .exit)) (now (heads .exit)) (now (nexts .exit)) (now (nodes .exit)) (now (map .exit)) ⌝ }
+    ensures { λ r. ⌜ ZippedAll work (now (es .entry)) (now (vs .entry)) (now (p .entry)) r (now (es .exit)) (now (vs .exit)) (now (p .exit))
+        (now (heads .exit)) (now (nexts .exit)) (now (nodes .exit)) (now (map .exit)) ⌝ }
 {
     let held = work.held;
     let mut w = work;
