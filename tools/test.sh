@@ -49,5 +49,6 @@ step 'the library from C and Rust' tools/test_library.sh
 step sgshow tools/test_sgshow.py
 step 'the record tool' tools/test_sgr.py
 step 'what moved' tools/test_moved.py
+step layout tools/test_layout.py
 step 'the comparison with the Rust' compare
 cat "$verdict"

@@ -1,5 +1,5 @@
 #!/usr/bin/env python3
-"""Breaks the long lines of antt files, so that they can be read.
+"""Breaks the long lines of antt files, and of contracts in Rattle files, so that they can be read.
 
     tools/wrap.py [--over N] [--width W] [-n] FILE..
 
@@ -75,10 +75,11 @@ def imports(line, width):
     return [head + line + "}" for line in lines]
 
 
-def wrapped(text, over, width):
+def wrapped(text, over, width, only=r""):
+    """`only`: lines that this matches are broken, no others."""
     lines = []
     for line in text.split("\n"):
-        if len(line) <= over or re.search(r"(^|\s)--(\s|$)", line):
+        if len(line) <= over or re.search(r"(^|\s)--(\s|$)", line) or not re.match(only, line):
             lines.append(line)
             continue
         if re.match(r"(pub )?use .*\}$", line):
@@ -114,7 +115,7 @@ def main(argv):
     for path in files:
         with open(path, encoding="utf-8") as f:
             old = f.read()
-        new = wrapped(old, over, width)
+        new = wrapped(old, over, width, r"\s*(requires|ensures) " if path.endswith(".rt") else r"")
         if new == old:
             continue
         print("%s: %d lines were over %d" % (path, sum(len(line) > over for line in old.split("\n")), over))

@@ -1,0 +1,42 @@
+#!/usr/bin/env python3
+"""Tests that the files of crates/ can be read: laid out by `rt fmt`, no line too long, no place named by counting steps.
+
+    tools/test_layout.py
+"""
+import os
+import re
+import subprocess
+import sys
+
+ROOT = os.path.dirname(os.path.dirname(os.path.abspath(__file__)))
+LONGEST = 200
+# Tables that are computed, a row to a line.
+TABLES = {"crates/examples/proofs/Table.antt", "crates/examples/specs/Cases.antt"}
+
+
+def faults(path, text):
+    for number, line in enumerate(text.split("\n"), 1):
+        if len(line) > LONGEST and path not in TABLES:
+            yield "%s:%d: %d characters" % (path, number, len(line))
+        if re.search(r"\.before \.before", line):
+            yield "%s:%d: a path of `.before`: tools/bind.py names its place" % (path, number)
+        if re.match(r"-- src/\S+:\d+", line):
+            yield "%s:%d: a position in the source, which the next edit makes untrue" % (path, number)
+
+
+def main():
+    found, count = [], 0
+    for folder, _, names in os.walk(os.path.join(ROOT, "crates")):
+        for name in sorted(names):
+            if name.endswith((".antt", ".rt")):
+                path = os.path.join(folder, name)
+                with open(path, encoding="utf-8") as f:
+                    found += faults(os.path.relpath(path, ROOT), f.read())
+                count += 1
+    if found or not count:
+        sys.exit("\n".join(found[:20] + ["%d faults" % len(found)]))
+    subprocess.run(["rt", "fmt", "--check"], cwd=ROOT, check=True)
+    print("layout: %d files, no fault" % count)
+
+
+main()
