@@ -17,6 +17,7 @@ added, changed and removed, last what stayed, a line for each crate.
 """
 import io
 import re
+import signal
 import subprocess
 import sys
 import tarfile
@@ -44,8 +45,8 @@ def without_comments(text, mark):
 
 
 def bare(text):
-    """Without white space, and without the comma that a layout puts behind the last of several lines."""
-    return re.sub(r",(?=[)}\]])", "", re.sub(r"\s+", "", text))
+    """Without white space, and without the mark that a layout puts behind the last of several lines."""
+    return re.sub(r"[,;](?=[)}\]])", "", re.sub(r"\s+", "", text))
 
 
 # ---- definitions
@@ -203,6 +204,7 @@ def main(base, head="HEAD"):
             print_names(kind, fate, moved[kind][fate])
 
 
+signal.signal(signal.SIGPIPE, signal.SIG_DFL)  # `moved.py BASE | head` is no error
 if len(sys.argv) not in (2, 3) or sys.argv[1].startswith("-"):
     sys.exit(__doc__)
 main(*sys.argv[1:])
