@@ -18,7 +18,7 @@ else
 fi
 
 if command -v cargo >/dev/null 2>&1; then
-    cargo test --quiet --offline --manifest-path wrapper/Cargo.toml --test calls
+    cargo test --quiet --offline --manifest-path wrapper/Cargo.toml --lib --test calls
 else
     echo "note: no cargo: the tests of the Rust wrapper are left out"
 fi

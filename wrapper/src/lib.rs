@@ -19,6 +19,17 @@ pub enum End {
     Full,
 }
 
+impl End {
+    fn of(number: u32) -> Option<End> {
+        match number {
+            1 => Some(End::Quiet),
+            2 => Some(End::Repeated),
+            3 => Some(End::Full),
+            _ => None,
+        }
+    }
+}
+
 #[derive(Debug, Clone, Copy, PartialEq, Eq)]
 pub struct Simplified {
     pub length: usize,
@@ -32,6 +43,16 @@ pub struct Simplified {
 pub enum Status {
     JustReference,
     SomeVariation,
+}
+
+impl Status {
+    fn of(number: u32) -> Option<Status> {
+        match number {
+            1 => Some(Status::JustReference),
+            2 => Some(Status::SomeVariation),
+            _ => None,
+        }
+    }
 }
 
 #[derive(Debug, Clone, Copy, PartialEq, Eq)]
@@ -64,13 +85,9 @@ pub fn simplify_graph(record: &[u8], out: &mut [u8], tally: &mut Tally) -> Resul
     // As above.
     let a = unsafe { ffi::sg_simplify_graph(r, record.len(), o, room, *tally) };
     *tally = a.tally;
-    let end = match a.end {
-        2 => End::Repeated,
-        3 => End::Full,
-        _ => End::Quiet,
-    };
-    let (rewrites, rounds) = (a.rewrites, a.rounds);
-    answered(a.number, Simplified { length: a.length as usize, rewrites, rounds, end })
+    answered(a.number, ())?;
+    let end = End::of(a.end).ok_or(Refusal::UnknownEnd(a.end))?;
+    Ok(Simplified { length: a.length as usize, rewrites: a.rewrites, rounds: a.rounds, end })
 }
 
 /// A sequence graph's record to that of the cleaned graph.
@@ -79,8 +96,9 @@ pub fn cleanup_seq_graph(record: &[u8], out: &mut [u8], tally: &mut Tally) -> Re
     // As above.
     let a = unsafe { ffi::sg_cleanup_seq_graph(r, record.len(), o, room, *tally) };
     *tally = a.tally;
-    let status = if a.status == 1 { Status::JustReference } else { Status::SomeVariation };
-    answered(a.number, Cleaned { length: a.length as usize, status })
+    answered(a.number, ())?;
+    let status = Status::of(a.status).ok_or(Refusal::UnknownStatus(a.status))?;
+    Ok(Cleaned { length: a.length as usize, status })
 }
 
 /// A sequence graph's record to that of the graph without what leads to the reference source or from the reference
@@ -122,5 +140,18 @@ fn answered<T>(number: u32, answer: T) -> Result<T, Refusal> {
     match Refusal::of(number) {
         None => Ok(answer),
         Some(refusal) => Err(refusal),
+    }
+}
+
+#[cfg(test)]
+mod tests {
+    use super::{End, Status};
+
+    #[test]
+    fn only_known_ends_and_statuses() {
+        assert_eq!([1, 2, 3].map(End::of), [Some(End::Quiet), Some(End::Repeated), Some(End::Full)]);
+        assert_eq!([1, 2].map(Status::of), [Some(Status::JustReference), Some(Status::SomeVariation)]);
+        assert_eq!([0, 4, u32::MAX].map(End::of), [None; 3]);
+        assert_eq!([0, 3, u32::MAX].map(Status::of), [None; 3]);
     }
 }

@@ -1,51 +1,70 @@
 use std::error::Error;
 use std::fmt;
 
-/// Why a call was refused. Causes are looked for in this order: the first one present is told.
-#[derive(Debug, Clone, Copy, PartialEq, Eq, PartialOrd, Ord)]
-#[repr(u32)]
+/// Why there is no answer: a refusal of document 01, or a number that this crate does not know.
+#[derive(Debug, Clone, Copy, PartialEq, Eq)]
 pub enum Refusal {
-    Length = 1,
-    Mark = 2,
-    Limit = 3,
-    Layout = 4,
-    Edge = 5,
-    Doubled = 6,
-    Cycle = 7,
-    Bytes = 8,
-    NotThere = 9,
-    NoReference = 10,
-    Room = 11,
+    Length,
+    Mark,
+    Limit,
+    Layout,
+    Edge,
+    Doubled,
+    Cycle,
+    Bytes,
+    NotThere,
+    NoReference,
+    Room,
+    /// A refusal number that this crate does not know: the library is another one than it was written for.
+    UnknownNumber(u32),
+    /// Accepted, with an end of simplification that this crate does not know.
+    UnknownEnd(u32),
+    /// Accepted, with a status of cleanup that this crate does not know.
+    UnknownStatus(u32),
 }
 
-const ALL: [(Refusal, &str); 11] = [
-    (Refusal::Length, "under 32 bytes, or not the length it states"),
-    (Refusal::Mark, "mark, kind for this call, or status"),
-    (Refusal::Limit, "a count or k past a limit"),
-    (Refusal::Layout, "offsets, whole length, lengths or byte count disagree"),
-    (Refusal::Edge, "an edge end not below the count of vertices, or a flag other than 0 and 1"),
-    (Refusal::Doubled, "two edges with the same ends, or in a k-mer graph two equal k-mers"),
-    (Refusal::Cycle, "a cycle, a self edge included"),
-    (Refusal::Bytes, "conversion would give over 8,192 bytes"),
-    (Refusal::NotThere, "the start or the vertex wanted is not there, or the list of edges is no path"),
-    (Refusal::NoReference, "there is no reference path"),
-    (Refusal::Room, "the output is shorter than the result"),
+/// Each refusal with its number and its cause.
+const KNOWN: [(Refusal, u32, &str); 11] = [
+    (Refusal::Length, 1, "under 32 bytes, or not the length it states"),
+    (Refusal::Mark, 2, "mark, kind for this call, or status"),
+    (Refusal::Limit, 3, "a count or k past a limit"),
+    (Refusal::Layout, 4, "offsets, whole length, lengths or byte count disagree"),
+    (Refusal::Edge, 5, "an edge end not below the count of vertices, or a flag other than 0 and 1"),
+    (Refusal::Doubled, 6, "two edges with the same ends, or in a k-mer graph two equal k-mers"),
+    (Refusal::Cycle, 7, "a cycle, a self edge included"),
+    (Refusal::Bytes, 8, "conversion would give over 8,192 bytes"),
+    (Refusal::NotThere, 9, "the start or the vertex wanted is not there, or the list of edges is no path"),
+    (Refusal::NoReference, 10, "there is no reference path"),
+    (Refusal::Room, 11, "the output is shorter than the result"),
 ];
 
 impl Refusal {
     /// The refusal of this number; none of 0, which is an answer.
     pub fn of(number: u32) -> Option<Refusal> {
-        ALL.iter().map(|x| x.0).find(|r| r.number() == number)
+        if number == 0 {
+            return None;
+        }
+        let known = KNOWN.iter().find(|k| k.1 == number).map(|k| k.0);
+        Some(known.unwrap_or(Refusal::UnknownNumber(number)))
     }
 
+    /// The number that the call told: 0 where it accepted.
     pub fn number(self) -> u32 {
-        self as u32
+        match self {
+            Refusal::UnknownNumber(number) => number,
+            _ => KNOWN.iter().find(|k| k.0 == self).map_or(0, |k| k.1),
+        }
     }
 }
 
 impl fmt::Display for Refusal {
     fn fmt(&self, f: &mut fmt::Formatter) -> fmt::Result {
-        f.write_str(ALL[self.number() as usize - 1].1)
+        match self {
+            Refusal::UnknownNumber(n) => write!(f, "the unknown refusal {n}"),
+            Refusal::UnknownEnd(n) => write!(f, "the unknown end {n}"),
+            Refusal::UnknownStatus(n) => write!(f, "the unknown status {n}"),
+            known => f.write_str(KNOWN.iter().find(|k| k.0 == *known).map_or("", |k| k.2)),
+        }
     }
 }
 

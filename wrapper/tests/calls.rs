@@ -142,7 +142,12 @@ fn spells_a_path() {
 #[test]
 fn tells_each_refusal() {
     assert_eq!(Refusal::of(0), None);
-    assert_eq!(Refusal::of(12), None);
+    for number in [12, 1000, u32::MAX] {
+        assert_eq!(Refusal::of(number), Some(Refusal::UnknownNumber(number)));
+        assert_eq!(Refusal::UnknownNumber(number).number(), number);
+    }
+    assert_eq!(Refusal::UnknownEnd(4).number(), 0);
+    assert_eq!(Refusal::UnknownStatus(3).to_string(), "the unknown status 3");
     for number in 1..=11 {
         let refusal = Refusal::of(number).unwrap();
         assert_eq!(refusal.number(), number);
