@@ -20,11 +20,20 @@ step() { # NAME COMMAND..
     echo "$name: passed ($((SECONDS - began)) s)"
 }
 
-# rt ci without its last line, which goes to the file $verdict.
+# rt ci, line by line as it comes, without its last line, which goes to the file $verdict.
 verdict=$(mktemp)
 trap 'rm -f "$verdict"' EXIT
+hold_back_last() {
+    local line last
+    IFS= read -r last || return 0
+    while IFS= read -r line; do
+        printf '%s\n' "$last"
+        last=$line
+    done
+    printf '%s\n' "$last" >"$verdict"
+}
 prove() {
-    rt ci | awk -v file="$verdict" 'NR > 1 { print last; fflush() } { last = $0 } END { print last >file }'
+    rt ci | hold_back_last
     local status=$?
     grep -Eqx '[0-9]+ passed, 0 failed' "$verdict" && return $status
     echo "rt ci ended with: $(cat "$verdict")"

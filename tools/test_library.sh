@@ -13,6 +13,12 @@ if command -v gcc >/dev/null 2>&1; then
         gcc -std=c11 -O2 -Wall -Wextra -Werror -o "$made/$name" "tests/c/$name.c" target/staticlib/libsg.a -lpthread
         "$made/$name"
     done
+    # the README's example, on the record that the README names
+    sed -n '/^```c$/,/^```$/p' README.md | sed '/^```/d' >"$made/example.c"
+    gcc -std=c11 -O2 -Wall -Wextra -Werror -Iinclude -o "$made/example" "$made/example.c" target/staticlib/libsg.a
+    told=$("$made/example" <crates/sgshow/stdin 2>&1 >"$made/example.sgr")
+    grep -qF "It tells \`$told\`" README.md
+    tools/sgr.py text "$made/example.sgr" | grep -qx 'v AAC'
 else
     echo "note: no gcc: the tests from C are left out"
 fi
