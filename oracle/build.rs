@@ -34,8 +34,18 @@ fn write_modules(root: &Path) {
         println!("cargo:rerun-if-changed={}", file.display());
         text += &format!("#[allow(warnings)]\n#[path = {file:?}]\npub mod {name};\n");
     }
+    text += &prefix_bytes(&src.join("hc_allele_mapping.rs"));
     let out = Path::new(&env::var("OUT_DIR").unwrap()).join("gatk_rs.rs");
     fs::write(out, text).unwrap();
+}
+
+/// The text of `prefix_bytes` alone: the rest of its file needs modules that are not there.
+fn prefix_bytes(file: &Path) -> String {
+    println!("cargo:rerun-if-changed={}", file.display());
+    let text = fs::read_to_string(file).unwrap();
+    let from = text.find("fn prefix_bytes(").expect("no prefix_bytes");
+    let length = text[from..].find("\n}\n").expect("no end of prefix_bytes") + 3;
+    format!("pub {}", &text[from..from + length])
 }
 
 /// Each call named in calls.txt becomes a cfg of its name; the library is linked if there is one.

@@ -21,7 +21,7 @@ static void check_tally(sg_tally t, uint32_t answered, uint32_t refused, uint32_
     assert(t.answered == answered && t.refused == refused && t.rewrites == rewrites);
 }
 
-/* Document 01's case 1: a diamond. */
+/* Case 1 of docs/METHOD.md, section 10: a diamond. */
 static size_t diamond(uint8_t *at) {
     const char *sequences[] = {"AA", "CTG", "CAG", "TT"};
     const edge edges[] = {{0, 1, 5, 1}, {1, 3, 5, 1}, {0, 2, 2, 0}, {2, 3, 2, 0}};
@@ -80,7 +80,7 @@ static void test_from_assembly_graph(void) {
     check_output(0);
 }
 
-/* Document 01's case 8: one vertex gains an empty second one. */
+/* Case 8 there: one vertex gains an empty second one. */
 static void test_cleanup_seq_graph(void) {
     const char *sequences[] = {"ACGT", ""};
     const edge edges[] = {{0, 1, 0, 1}};

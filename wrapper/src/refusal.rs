@@ -1,7 +1,7 @@
 use std::error::Error;
 use std::fmt;
 
-/// Why there is no answer: a refusal of document 01, or a number that this crate does not know.
+/// Why there is no answer: a refusal of docs/METHOD.md, section 9, or a number that this crate does not know.
 #[derive(Debug, Clone, Copy, PartialEq, Eq)]
 pub enum Refusal {
     Length,

@@ -37,7 +37,7 @@ fn sequence_graph(sequences: &[&[u8]], edges: &[Edge]) -> Vec<u8> {
     record(SEQUENCES, 10, sequences, edges)
 }
 
-/// Document 01's case 1: a diamond.
+/// Case 1 of docs/METHOD.md, section 10: a diamond.
 fn diamond() -> Vec<u8> {
     sequence_graph(&[b"AA", b"CTG", b"CAG", b"TT"], &[(0, 1, 5, 1), (1, 3, 5, 1), (0, 2, 2, 0), (2, 3, 2, 0)])
 }
@@ -87,7 +87,7 @@ fn converts() {
     assert_eq!(tally, Tally { answered: 1, refused: 2, rewrites: 0 });
 }
 
-/// Document 01's case 8, and its case 7, a graph without vertices.
+/// Case 8 there, and case 7, a graph without vertices.
 #[test]
 fn cleans() {
     let mut want = sequence_graph(&[b"ACGT", b""], &[(0, 1, 0, 1)]);
