@@ -5,12 +5,13 @@
 #
 # Ends with "no difference" and status 0, or with the first input on which two of them differ and status 1.
 # COMPARE_ECHO=1 prints each input first: the last one is the input on which a call did not come back.
+# SG_BUILT=1 takes target/staticlib/libsg.a as it is.
 # GATK_RS_SRC: where the Rust's sources are, if not in ../shared/docs/src/gatk-haplotypecaller/src.
 set -euo pipefail
 cd "$(dirname "$0")/.."
 
 if [ $# -lt 1 ] || { [ "$1" != short ] && [ "$1" != long ]; }; then
-    sed -n '2,9s/^# \{0,1\}//p' "$0" >&2
+    sed -n '2,10s/^# \{0,1\}//p' "$0" >&2
     exit 2
 fi
 calls=$(grep -v '^#' oracle/calls.txt | grep . || true)
@@ -21,7 +22,7 @@ for tool in cargo python3 ${calls:+rt}; do
     fi
 done
 
-if [ -n "$calls" ]; then
+if [ -n "$calls" ] && [ -z "${SG_BUILT:-}" ]; then
     rt staticlib sg
 fi
 cargo build --quiet --release --offline --manifest-path oracle/Cargo.toml

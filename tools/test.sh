@@ -46,7 +46,7 @@ compare() {
         echo "note: no cargo, or no Rust to compare with: the comparison at scale is left out"
         return 0
     fi
-    tools/compare.sh short && tools/compare_bytes.py && tools/make_vectors.py target/vectors && diff -r target/vectors crates/replay/data
+    SG_BUILT=1 tools/compare.sh short && tools/compare_bytes.py && tools/make_vectors.py target/vectors && diff -r target/vectors crates/replay/data
 }
 
 pinned=$(sed -n 's/^Kit: `\(.*\)`.*/\1/p' README.md)
