@@ -22,6 +22,9 @@ use Rattle.memory.specs.declared.Held.{Held}
 use Rattle.memory.specs.declared.Work.{Work}
 use Rattle.memory.proofs.RoomLaws.{held-vertices, held-edges, held-ends, holds-kept}
 use Rattle.refs.specs.Refs.{FirstSource, FirstSink}
+use Rattle.refs.specs.declared.OptionVertex.{OptionVertex}
+use Rattle.refs.specs.declared.OptionVertex.the-variants.{Some, None}
+use Rattle.refs.proofs.RefLaws.{source-found, source-missing, sink-found, sink-missing}
 use Rattle.rounds.specs.Rounds.{Full}
 use Rattle.rounds.specs.declared.Simplified.{Simplified}
 use Rattle.orphans.specs.Orphans.{Reduced}
@@ -132,21 +135,21 @@ module _ (w : Work) {es vs p heads nexts : List ℕ} (H : HoldsLean (w .held) es
     holds = lean-holds H;
   }
 
-  pub after-no-source : {s : ℕ} {r : CleanedUp} → FirstSource (w .held .m) (w .held .n) es s → w .held .n ≤ s → r ≡ uncleaned w
+  pub after-no-source : {a : OptionVertex} {r : CleanedUp} → FirstSource (w .held .m) (w .held .n) es a → a ≡ None → r ≡ uncleaned w
       → After w (referenceSourceVertex (graphOf (w .held) es vs p)) (referenceSinkVertex (graphOf (w .held) es vs p)) es vs p heads nexts r es vs p
-  after-no-source F l q = rw (q, F .missing l (w .held .k .0) vs p) (plain-after none _ refl)
+  after-no-source F l q = rw (q, source-missing F l (w .held .k .0) vs p) (plain-after none _ refl)
 
-  pub after-no-sink : {s t : ℕ} {r : CleanedUp} → FirstSource (w .held .m) (w .held .n) es s → s < w .held .n
-      → FirstSink (w .held .m) (w .held .n) es t → w .held .n ≤ t → r ≡ uncleaned w
+  pub after-no-sink : {a b : OptionVertex} {s : ℕ} {r : CleanedUp} → FirstSource (w .held .m) (w .held .n) es a → a ≡ Some s
+      → FirstSink (w .held .m) (w .held .n) es b → b ≡ None → r ≡ uncleaned w
       → After w (referenceSourceVertex (graphOf (w .held) es vs p)) (referenceSinkVertex (graphOf (w .held) es vs p)) es vs p heads nexts r es vs p
   unfolding afterChoice
-  after-no-sink {s} F k T l q = rw (q, F .found k (w .held .k .0) vs p, T .missing l (w .held .k .0) vs p) (plain-after (some s) none refl)
+  after-no-sink {s = s} F k T l q = rw (q, source-found F k (w .held .k .0) vs p, sink-missing T l (w .held .k .0) vs p) (plain-after (some s) none refl)
 
-pub after-chosen : {w : Work} {es vs p heads nexts : List ℕ} {s t : ℕ} {r : CleanedUp} {es′ vs′ p′ : List ℕ}
-    → FirstSource (w .held .m) (w .held .n) es s → s < w .held .n → FirstSink (w .held .m) (w .held .n) es t → t < w .held .n
+pub after-chosen : {w : Work} {es vs p heads nexts : List ℕ} {a b : OptionVertex} {s t : ℕ} {r : CleanedUp} {es′ vs′ p′ : List ℕ}
+    → FirstSource (w .held .m) (w .held .n) es a → a ≡ Some s → FirstSink (w .held .m) (w .held .n) es b → b ≡ Some t
     → After w (some s) (some t) es vs p heads nexts r es′ vs′ p′
     → After w (referenceSourceVertex (graphOf (w .held) es vs p)) (referenceSinkVertex (graphOf (w .held) es vs p)) es vs p heads nexts r es′ vs′ p′
-after-chosen {w} {es} {vs} {p} F k T l A = rw (F .found k (w .held .k .0) vs p, T .found l (w .held .k .0) vs p) A
+after-chosen {w} {es} {vs} {p} F k T l A = rw (source-found F k (w .held .k .0) vs p, sink-found T l (w .held .k .0) vs p) A
 
 -- ---- the whole
 
