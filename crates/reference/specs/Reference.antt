@@ -29,6 +29,7 @@ abbrev pub pathOf : OptionPath → List ℕ → Option (List ℕ)
 pathOf (Some c) nodes = some (numsIn c nodes)
 pathOf None nodes = none
 
+-- the vertices from source to sink
 pub record Walked (m n : ℕ) (es : List ℕ) (source sink : ℕ) (r : OptionPath) (nodes : List ℕ) : Type 0 where
   pub is : (k : ℕ) (vs p : List ℕ) → Sound (graphIn k n m es vs p) → pathOf r nodes ≡ referencePath n (graphIn k n m es vs p) sink source
   pub most : (c : ℕ) → r ≡ Some c → c ≤ n

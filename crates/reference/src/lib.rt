@@ -11,7 +11,7 @@ ghost use Rattle.paths.specs.Paths.{Spellable};
 ghost use Rattle.reference.specs.Reference.{NextOn, Walkable, Walked};
 use memory::Held;
 use refs::OptionVertex;
-use spell::Bytes;
+use spell::OptionBytes;
 
 // The path's vertices, by their number, or no path.
 pub enum OptionPath {
@@ -85,34 +85,22 @@ pub fn reference_path_bytes(
     nexts: &[u32],
     nodes: &mut [u32],
     out: &mut [u8],
-) -> Bytes
+) -> OptionBytes
     requires { ⌜ Spellable held (now es) (now vs) (now p) (now nodes) × Indexed (held .m) (held .n) (now es) (now heads) (now nexts) ⌝ }
     ensures { λ r. ⌜ Told (referencePathBytes (graphOf held (now (es .entry)) (now (vs .entry)) (now (p .entry)))) (now (out .entry)) r (now (out .exit)) ⌝ }
 {
     let n = held.n;
     let m = held.m;
     let OptionVertex::Some(source) = refs::reference_source_vertex(es, m, n, heads, nexts) else {
-        return Bytes {
-            found: false,
-            len: 0,
-        };
+        return OptionBytes::None;
     };
     let OptionVertex::Some(sink) = refs::reference_sink_vertex(es, m, n, heads, nexts) else {
-        return Bytes {
-            found: false,
-            len: 0,
-        };
+        return OptionBytes::None;
     };
     let path = reference_path(es, m, n, heads, nexts, source as u32, sink as u32, nodes);
     let OptionPath::Some(count) = path else {
-        return Bytes {
-            found: false,
-            len: 0,
-        };
+        return OptionBytes::None;
     };
     let len = spell::spell(vs, p, nodes, count, out);
-    Bytes {
-        found: true,
-        len: len,
-    }
+    OptionBytes::Some(len)
 }
