@@ -9,7 +9,7 @@ use lib.ListN.{length}
 use Rattle.defs.specs.SeqGraph.{Graph, nodeCount}
 use Rattle.defs.specs.Zip as Z
 use Rattle.defs.specs.Simplify.{sequenceBytes, emptyVertices, simplifyGraphFull}
-use Rattle.defs.specs.Cleanup.{referenceSourceVertex, referenceSinkVertex, removePathsNotConnectedToRef, withDummyVertex, statusNumber}
+use Rattle.defs.specs.Cleanup.{referenceSourceVertex, referenceSinkVertex, removePathsNotConnectedToRef, withDummyVertex}
 use Rattle.defs.specs.Cleanup.{afterChoice, cleanupSeqGraph}
 use Rattle.laws.proofs.Fuel.{Good}
 use Rattle.laws.proofs.Whole.{byList}
@@ -34,6 +34,7 @@ use Rattle.choice.proofs.LeanLaws.{lean-fit, lean-kept, lean-between, lean-rewr
 use Rattle.choice.proofs.ChoiceLaws.{lean-holds, holds-lean-kept, reduced-lean, full-lean}
 use Rattle.cleanup.specs.CleanUp.{uncleaned, Answers, After, CleanUp}
 use Rattle.cleanup.specs.declared.CleanedUp.{CleanedUp}
+use Rattle.cleanup.specs.declared.SeqGraphCleanupStatus.the-variants.{AssembledSomeVariation}
 
 -- ---- the empty second vertex has room
 
@@ -105,18 +106,18 @@ module _ (w : Work) (s t : ℕ) {es vs p heads nexts : List ℕ} (H : HoldsLean 
     module _ {d : Held} {es₃ vs₃ : List ℕ} (D : DummyAdded (z .held) es₂ vs₂ d es₃ vs₃) where
       between-answers : Answers (afterChoice (workOf w es vs p) (some s) (some t)) record {
         held = d;
-        status = 2;
+        status = AssembledSomeVariation;
         rewrites = w .rewrites
             + z .rewrites;
       } es₃ vs₃ p₂
-      unfolding afterChoice statusNumber
+      unfolding afterChoice
       between-answers = record {
         graph = D .is p₂ ∙ ap withDummyVertex (F .answers .graph ∙ ap (λ (x : Graph). (simplifyGraphFull 10 x) .graph) (R .is p));
         status = refl;
         rewrites = ap (λ (x : ℕ). w .rewrites + x) (F .answers .rewrites ∙ ap (λ (x : Graph). (simplifyGraphFull 10 x) .rewrites) (R .is p));
       }
 
-      pub between-after : {r : CleanedUp} → r ≡ record { held = d; status = 2; rewrites = w .rewrites + z .rewrites } → length heads₁
+      pub between-after : {r : CleanedUp} → r ≡ record { held = d; status = AssembledSomeVariation; rewrites = w .rewrites + z .rewrites } → length heads₁
           ≡ length heads → length nexts₁ ≡ length nexts
           → After w (some s) (some t) es vs p heads nexts r es₃ vs₃ p₂
       between-after q ld le = rw q record {
@@ -129,7 +130,7 @@ module _ (w : Work) (s t : ℕ) {es vs p heads nexts : List ℕ} (H : HoldsLean 
 module _ (w : Work) {es vs p heads nexts : List ℕ} (H : HoldsLean (w .held) es vs p heads nexts) where
   plain-after : (a b : Option ℕ) → afterChoice (workOf w es vs p) a b ≡ afterChoice (workOf w es vs p) none b
       → After w a b es vs p heads nexts (uncleaned w) es vs p
-  unfolding afterChoice statusNumber
+  unfolding afterChoice
   plain-after a b q = record {
     answers = rw q record { graph = refl; status = refl; rewrites = refl };
     holds = lean-holds H;

@@ -13,10 +13,16 @@ use memory::Held;
 use memory::Work;
 use refs::OptionVertex;
 
-// The cleaned graph, its status (1 just reference, 2 some variation), and the rewrites made.
+// How a cleanup ended, as the Rust's enum has it.
+pub enum SeqGraphCleanupStatus {
+    AssembledSomeVariation,
+    JustAssembledReference,
+}
+
+// The cleaned graph, its status, and the rewrites made.
 pub struct CleanedUp {
     pub held: Held,
-    pub status: u32,
+    pub status: SeqGraphCleanupStatus,
     pub rewrites: u32,
 }
 
@@ -25,9 +31,10 @@ fn just_reference(w: Work) -> CleanedUp
     ensures { λ r. ⌜ r ≡ uncleaned w ⌝ }
 {
     let held = w.held;
+    let status = SeqGraphCleanupStatus::JustAssembledReference;
     CleanedUp {
         held: held,
-        status: 1,
+        status: status,
         rewrites: w.rewrites,
     }
 }
@@ -83,10 +90,12 @@ fn keep_between(
     );
     let simplified = z.held;
     let cleaned = dummy_vertex::add_dummy_vertex(simplified, es, vs);
+    let status = SeqGraphCleanupStatus::AssembledSomeVariation;
+    let rewrites = work.rewrites + z.rewrites;
     CleanedUp {
         held: cleaned,
-        status: 2,
-        rewrites: work.rewrites + z.rewrites,
+        status: status,
+        rewrites: rewrites,
     }
 }
 

@@ -1,13 +1,12 @@
 -- The bytes of the reference path are told. Assumes nothing.
 use mathlib.Core.Path.{_≡_, sym, ap, _∙_}
-use mathlib.Core.Bool.{true, false}
-use mathlib.Core.Option.{Option, none, some}
+use mathlib.Core.Option.{Option, some}
 use mathlib.Core.List.{List}
 use Prim.Native.Nat.{ℕ}
 use native.Mathlib.Omega.{arith}
 use lib.ListN.{length}
 use Rattle.defs.specs.SeqGraph.{Graph}
-use Rattle.defs.specs.Cleanup.{referenceSourceVertex, referenceSinkVertex}
+use Rattle.defs.specs.Cleanup.{referenceSinkVertex}
 use Rattle.defs.specs.Paths.{referencePath, referenceBetween, spelledBy, referencePathBytes}
 use Rattle.store.specs.Store.{numsIn}
 use Rattle.compact.proofs.CompactLaws.{order-in}

@@ -1,6 +1,6 @@
 -- The bytes that are told are the call's response. Assumes nothing.
 use mathlib.Core.Path.{_≡_, refl, sym, ap, _∙_, subst}
-use mathlib.Core.Bool.{Bool, true, false, not}
+use mathlib.Core.Bool.{not}
 use mathlib.Core.Option.{Option, none, some}
 use mathlib.Core.List.{List, [], _∷_, _++_}
 use Prim.Native.Nat.{ℕ, _+_, _*_, _≤_, _<_}
@@ -14,7 +14,7 @@ use Rattle.defs.specs.Record.{decode}
 use Rattle.defs.specs.Refusals.{Cause, refusalOf, sequenceOnly, recordCauses, recordRefusal}
 use Rattle.defs.specs.Calls.{Response, refused, accepted, fits, isNothing, bytesOrNone, respond, referencePathBytesResponse, pathBasesBytesResponse}
 use Rattle.laws.proofs.Walks.{byTest}
-use Rattle.laws.proofs.ListLaws.{clash, given-some, byOrder}
+use Rattle.laws.proofs.ListLaws.{given-some, byOrder}
 use Rattle.laws.proofs.Whole.{no-some}
 use Rattle.memory.specs.Memory.{graphOf, vertexRoom, Room, Holds}
 use Rattle.memory.specs.declared.Held.{Held}
