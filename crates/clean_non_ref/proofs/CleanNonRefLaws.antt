@@ -18,6 +18,9 @@ use Rattle.index.specs.Index.{Indexed, Indexable}
 use Rattle.memory.specs.Memory.{graphOf}
 use Rattle.memory.specs.declared.Held.{Held}
 use Rattle.refs.specs.Refs.{FirstSource, FirstSink}
+use Rattle.refs.specs.declared.OptionVertex.{OptionVertex}
+use Rattle.refs.specs.declared.OptionVertex.the-variants.{Some, None}
+use Rattle.refs.proofs.RefLaws.{source-found, source-missing, sink-found, sink-missing}
 use Rattle.reach.specs.Reach.{endAt, stepOf, walkStep, Reached}
 use Rattle.orphans.specs.Orphans.{Reduced}
 use Rattle.clean_non_ref.specs.CleanNonRef.{staysBy, leads, EdgesKept, EdgesDropped}
@@ -196,16 +199,17 @@ pub untouched : (h : Held) {es vs : List ℕ} → EndsBelow (h .n) (h .m) es
     → ((p : List ℕ) → cleanNonRefPaths (graphOf h es vs p) ≡ graphOf h es vs p) → Reduced cleanNonRefPaths h es vs h es vs
 untouched h E same = record { is = λ p. sym (same p); most-n = omega arith; most-m = omega arith; ends = E; within = λ used W. W; used-is = refl }
 
-module _ (h : Held) (es vs : List ℕ) {s : ℕ} (F : FirstSource (h .m) (h .n) es s) where
-  pub no-source : h .n ≤ s → (p : List ℕ) → cleanNonRefPaths (graphOf h es vs p) ≡ graphOf h es vs p
+module _ (h : Held) (es vs : List ℕ) {r : OptionVertex} (F : FirstSource (h .m) (h .n) es r) where
+  pub no-source : r ≡ None → (p : List ℕ) → cleanNonRefPaths (graphOf h es vs p) ≡ graphOf h es vs p
   unfolding cleanNonRefPaths cleanBetween
-  no-source l p = rw (F .missing l (h .k .0) vs p)
+  no-source l p = rw (source-missing F l (h .k .0) vs p)
 
-  module _ (k : s < h .n) {t : ℕ} (T : FirstSink (h .m) (h .n) es t) where
-    pub no-sink : h .n ≤ t → (p : List ℕ) → cleanNonRefPaths (graphOf h es vs p) ≡ graphOf h es vs p
+  module _ {s : ℕ} (k : r ≡ Some s) {r′ : OptionVertex} (T : FirstSink (h .m) (h .n) es r′) where
+    pub no-sink : r′ ≡ None → (p : List ℕ) → cleanNonRefPaths (graphOf h es vs p) ≡ graphOf h es vs p
     unfolding cleanNonRefPaths cleanBetween
-    no-sink l p = rw (F .found k (h .k .0) vs p, T .missing l (h .k .0) vs p)
+    no-sink l p = rw (source-found F k (h .k .0) vs p, sink-missing T l (h .k .0) vs p)
 
-    pub chosen-is : t < h .n → (p : List ℕ) → removeSingletonOrphanVertices (withoutNonRefEdges (graphOf h es vs p) s t) ≡ cleanNonRefPaths (graphOf h es vs p)
+    pub chosen-is : {t : ℕ} → r′ ≡ Some t → (p : List ℕ)
+        → removeSingletonOrphanVertices (withoutNonRefEdges (graphOf h es vs p) s t) ≡ cleanNonRefPaths (graphOf h es vs p)
     unfolding cleanNonRefPaths cleanBetween
-    chosen-is l p = rw (F .found k (h .k .0) vs p, T .found l (h .k .0) vs p)
+    chosen-is l p = rw (source-found F k (h .k .0) vs p, sink-found T l (h .k .0) vs p)

@@ -12,6 +12,7 @@ ghost use Rattle.reach.specs.Reach.{Walkable};
 ghost use Rattle.orphans.specs.Orphans.{Reduced};
 ghost use Rattle.clean_non_ref.specs.CleanNonRef.{staysBy, EdgesKept, EdgesDropped};
 use memory::Held;
+use refs::OptionVertex;
 
 // An edge stays that is a reference edge, or whose end `off` has no mark; off 0 is the end that it leaves, 1 the end that it enters.
 fn edge_stays(es: &[u32], e: usize, off: usize, n: usize, marks: &[u64]) -> bool
@@ -117,13 +118,11 @@ pub fn clean_non_ref_paths(
     let n = held.n;
     let m = held.m;
     index::build_index(es, m, n, heads, nexts);
-    let s = refs::reference_source_vertex(es, m, n, heads, nexts);
-    if n <= s {
+    let OptionVertex::Some(s) = refs::reference_source_vertex(es, m, n, heads, nexts) else {
         return held;
-    }
-    let t = refs::reference_sink_vertex(es, m, n, heads, nexts);
-    if n <= t {
+    };
+    let OptionVertex::Some(t) = refs::reference_sink_vertex(es, m, n, heads, nexts) else {
         return held;
-    }
+    };
     clean_between(held, s, t, es, vs, heads, nexts, nodes, map, tried)
 }

@@ -9,7 +9,7 @@ use lib.ListN.{length}
 use Rattle.defs.specs.SeqGraph.{Graph, nodeCount}
 use Rattle.defs.specs.Zip as Z
 use Rattle.defs.specs.Simplify.{sequenceBytes, emptyVertices, simplifyGraphFull}
-use Rattle.defs.specs.Cleanup.{referenceSourceVertex, referenceSinkVertex, removePathsNotConnectedToRef, withDummyVertex, statusNumber}
+use Rattle.defs.specs.Cleanup.{referenceSourceVertex, referenceSinkVertex, removePathsNotConnectedToRef, withDummyVertex}
 use Rattle.defs.specs.Cleanup.{afterChoice, cleanupSeqGraph}
 use Rattle.laws.proofs.Fuel.{Good}
 use Rattle.laws.proofs.Whole.{byList}
@@ -22,6 +22,9 @@ use Rattle.memory.specs.declared.Held.{Held}
 use Rattle.memory.specs.declared.Work.{Work}
 use Rattle.memory.proofs.RoomLaws.{held-vertices, held-edges, held-ends, holds-kept}
 use Rattle.refs.specs.Refs.{FirstSource, FirstSink}
+use Rattle.refs.specs.declared.OptionVertex.{OptionVertex}
+use Rattle.refs.specs.declared.OptionVertex.the-variants.{Some, None}
+use Rattle.refs.proofs.RefLaws.{source-found, source-missing, sink-found, sink-missing}
 use Rattle.rounds.specs.Rounds.{Full}
 use Rattle.rounds.specs.declared.Simplified.{Simplified}
 use Rattle.orphans.specs.Orphans.{Reduced}
@@ -31,6 +34,7 @@ use Rattle.choice.proofs.LeanLaws.{lean-fit, lean-kept, lean-between, lean-rewr
 use Rattle.choice.proofs.ChoiceLaws.{lean-holds, holds-lean-kept, reduced-lean, full-lean}
 use Rattle.cleanup.specs.CleanUp.{uncleaned, Answers, After, CleanUp}
 use Rattle.cleanup.specs.declared.CleanedUp.{CleanedUp}
+use Rattle.cleanup.specs.declared.SeqGraphCleanupStatus.the-variants.{AssembledSomeVariation}
 
 -- ---- the empty second vertex has room
 
@@ -102,18 +106,18 @@ module _ (w : Work) (s t : ℕ) {es vs p heads nexts : List ℕ} (H : HoldsLean 
     module _ {d : Held} {es₃ vs₃ : List ℕ} (D : DummyAdded (z .held) es₂ vs₂ d es₃ vs₃) where
       between-answers : Answers (afterChoice (workOf w es vs p) (some s) (some t)) record {
         held = d;
-        status = 2;
+        status = AssembledSomeVariation;
         rewrites = w .rewrites
             + z .rewrites;
       } es₃ vs₃ p₂
-      unfolding afterChoice statusNumber
+      unfolding afterChoice
       between-answers = record {
         graph = D .is p₂ ∙ ap withDummyVertex (F .answers .graph ∙ ap (λ (x : Graph). (simplifyGraphFull 10 x) .graph) (R .is p));
         status = refl;
         rewrites = ap (λ (x : ℕ). w .rewrites + x) (F .answers .rewrites ∙ ap (λ (x : Graph). (simplifyGraphFull 10 x) .rewrites) (R .is p));
       }
 
-      pub between-after : {r : CleanedUp} → r ≡ record { held = d; status = 2; rewrites = w .rewrites + z .rewrites } → length heads₁
+      pub between-after : {r : CleanedUp} → r ≡ record { held = d; status = AssembledSomeVariation; rewrites = w .rewrites + z .rewrites } → length heads₁
           ≡ length heads → length nexts₁ ≡ length nexts
           → After w (some s) (some t) es vs p heads nexts r es₃ vs₃ p₂
       between-after q ld le = rw q record {
@@ -126,27 +130,27 @@ module _ (w : Work) (s t : ℕ) {es vs p heads nexts : List ℕ} (H : HoldsLean 
 module _ (w : Work) {es vs p heads nexts : List ℕ} (H : HoldsLean (w .held) es vs p heads nexts) where
   plain-after : (a b : Option ℕ) → afterChoice (workOf w es vs p) a b ≡ afterChoice (workOf w es vs p) none b
       → After w a b es vs p heads nexts (uncleaned w) es vs p
-  unfolding afterChoice statusNumber
+  unfolding afterChoice
   plain-after a b q = record {
     answers = rw q record { graph = refl; status = refl; rewrites = refl };
     holds = lean-holds H;
   }
 
-  pub after-no-source : {s : ℕ} {r : CleanedUp} → FirstSource (w .held .m) (w .held .n) es s → w .held .n ≤ s → r ≡ uncleaned w
+  pub after-no-source : {a : OptionVertex} {r : CleanedUp} → FirstSource (w .held .m) (w .held .n) es a → a ≡ None → r ≡ uncleaned w
       → After w (referenceSourceVertex (graphOf (w .held) es vs p)) (referenceSinkVertex (graphOf (w .held) es vs p)) es vs p heads nexts r es vs p
-  after-no-source F l q = rw (q, F .missing l (w .held .k .0) vs p) (plain-after none _ refl)
+  after-no-source F l q = rw (q, source-missing F l (w .held .k .0) vs p) (plain-after none _ refl)
 
-  pub after-no-sink : {s t : ℕ} {r : CleanedUp} → FirstSource (w .held .m) (w .held .n) es s → s < w .held .n
-      → FirstSink (w .held .m) (w .held .n) es t → w .held .n ≤ t → r ≡ uncleaned w
+  pub after-no-sink : {a b : OptionVertex} {s : ℕ} {r : CleanedUp} → FirstSource (w .held .m) (w .held .n) es a → a ≡ Some s
+      → FirstSink (w .held .m) (w .held .n) es b → b ≡ None → r ≡ uncleaned w
       → After w (referenceSourceVertex (graphOf (w .held) es vs p)) (referenceSinkVertex (graphOf (w .held) es vs p)) es vs p heads nexts r es vs p
   unfolding afterChoice
-  after-no-sink {s} F k T l q = rw (q, F .found k (w .held .k .0) vs p, T .missing l (w .held .k .0) vs p) (plain-after (some s) none refl)
+  after-no-sink {s = s} F k T l q = rw (q, source-found F k (w .held .k .0) vs p, sink-missing T l (w .held .k .0) vs p) (plain-after (some s) none refl)
 
-pub after-chosen : {w : Work} {es vs p heads nexts : List ℕ} {s t : ℕ} {r : CleanedUp} {es′ vs′ p′ : List ℕ}
-    → FirstSource (w .held .m) (w .held .n) es s → s < w .held .n → FirstSink (w .held .m) (w .held .n) es t → t < w .held .n
+pub after-chosen : {w : Work} {es vs p heads nexts : List ℕ} {a b : OptionVertex} {s t : ℕ} {r : CleanedUp} {es′ vs′ p′ : List ℕ}
+    → FirstSource (w .held .m) (w .held .n) es a → a ≡ Some s → FirstSink (w .held .m) (w .held .n) es b → b ≡ Some t
     → After w (some s) (some t) es vs p heads nexts r es′ vs′ p′
     → After w (referenceSourceVertex (graphOf (w .held) es vs p)) (referenceSinkVertex (graphOf (w .held) es vs p)) es vs p heads nexts r es′ vs′ p′
-after-chosen {w} {es} {vs} {p} F k T l A = rw (F .found k (w .held .k .0) vs p, T .found l (w .held .k .0) vs p) A
+after-chosen {w} {es} {vs} {p} F k T l A = rw (source-found F k (w .held .k .0) vs p, sink-found T l (w .held .k .0) vs p) A
 
 -- ---- the whole
 

@@ -3,20 +3,27 @@ use mathlib.Core.Path.{_≡_}
 use mathlib.Core.Option.{Option}
 use mathlib.Core.List.{List}
 use Prim.Native.Nat.{ℕ}
-use Rattle.defs.specs.Cleanup.{Cleaned, statusNumber, afterChoice, cleanupSeqGraph}
+use Rattle.defs.specs.Cleanup.{Status, justReference, someVariation, Cleaned, afterChoice, cleanupSeqGraph}
 use Rattle.memory.specs.Memory.{graphOf, workOf, Holds}
 use Rattle.memory.specs.declared.Held.{Held}
 use Rattle.memory.specs.declared.Work.{Work}
 use Rattle.cleanup.specs.declared.CleanedUp.{CleanedUp}
+use Rattle.cleanup.specs.declared.SeqGraphCleanupStatus.{SeqGraphCleanupStatus}
+use Rattle.cleanup.specs.declared.SeqGraphCleanupStatus.the-variants.{AssembledSomeVariation, JustAssembledReference}
+
+-- how a cleanup ended
+abbrev pub cleanupStatusOf : SeqGraphCleanupStatus → Status
+cleanupStatusOf AssembledSomeVariation = someVariation
+cleanupStatusOf JustAssembledReference = justReference
 
 -- the graph of the choice as the answer
 abbrev pub uncleaned : Work → CleanedUp
-uncleaned w = record { held = w .held; status = 1; rewrites = w .rewrites }
+uncleaned w = record { held = w .held; status = JustAssembledReference; rewrites = w .rewrites }
 
 -- the answer r, with the graph in the slices, is the definition's c
 pub record Answers (c : Cleaned) (r : CleanedUp) (es vs p : List ℕ) : Type 0 where
   pub graph : graphOf (r .held) es vs p ≡ c .graph
-  pub status : r .status ≡ statusNumber (c .status)
+  pub status : cleanupStatusOf (r .status) ≡ c .status
   pub rewrites : r .rewrites ≡ c .rewrites
 
 -- from the graph of the choice and what was chosen

@@ -11,11 +11,18 @@ ghost use Rattle.choice.specs.Choice.{Cleanable};
 ghost use Rattle.cleanup.specs.CleanUp.{uncleaned, After, CleanUp};
 use memory::Held;
 use memory::Work;
+use refs::OptionVertex;
 
-// The cleaned graph, its status (1 just reference, 2 some variation), and the rewrites made.
+// How a cleanup ended, as the Rust's enum has it.
+pub enum SeqGraphCleanupStatus {
+    AssembledSomeVariation,
+    JustAssembledReference,
+}
+
+// The cleaned graph, its status, and the rewrites made.
 pub struct CleanedUp {
     pub held: Held,
-    pub status: u32,
+    pub status: SeqGraphCleanupStatus,
     pub rewrites: u32,
 }
 
@@ -24,9 +31,10 @@ fn just_reference(w: Work) -> CleanedUp
     ensures { λ r. ⌜ r ≡ uncleaned w ⌝ }
 {
     let held = w.held;
+    let status = SeqGraphCleanupStatus::JustAssembledReference;
     CleanedUp {
         held: held,
-        status: 1,
+        status: status,
         rewrites: w.rewrites,
     }
 }
@@ -82,18 +90,20 @@ fn keep_between(
     );
     let simplified = z.held;
     let cleaned = dummy_vertex::add_dummy_vertex(simplified, es, vs);
+    let status = SeqGraphCleanupStatus::AssembledSomeVariation;
+    let rewrites = work.rewrites + z.rewrites;
     CleanedUp {
         held: cleaned,
-        status: 2,
-        rewrites: work.rewrites + z.rewrites,
+        status: status,
+        rewrites: rewrites,
     }
 }
 
-// The source s and the sink t are chosen; the number of vertices stands for none.
+// The source and the sink are chosen.
 fn after_choice(
     work: Work,
-    s: usize,
-    t: usize,
+    source: OptionVertex,
+    sink: OptionVertex,
     es: &mut [u32],
     vs: &mut [u32],
     p: &mut [u8],
@@ -107,20 +117,18 @@ fn after_choice(
 ) -> CleanedUp
     requires { ⌜ Cleanable (work .held) (now es) (now vs) (now p) (now heads) (now nexts) (now nodes) (now map) (now starts) (now tried)
         (now sig) × (Indexed (work .held .m) (work .held .n) (now es) (now heads) (now nexts)
-        × (Countable 202 (work .rewrites) (now heads) × (FirstSource (work .held .m) (work .held .n) (now es) s
-        × FirstSink (work .held .m) (work .held .n) (now es) t))) ⌝ }
+        × (Countable 202 (work .rewrites) (now heads) × (FirstSource (work .held .m) (work .held .n) (now es) source
+        × FirstSink (work .held .m) (work .held .n) (now es) sink))) ⌝ }
     ensures { λ r. ⌜ After work (referenceSourceVertex (graphOf (work .held) (now (es .entry)) (now (vs .entry)) (now (p .entry))))
         (referenceSinkVertex (graphOf (work .held) (now (es .entry)) (now (vs .entry)) (now (p .entry)))) (now (es .entry))
         (now (vs .entry)) (now (p .entry)) (now (heads .entry)) (now (nexts .entry)) r (now (es .exit)) (now (vs .exit)) (now (p .exit)) ⌝ }
 {
-    let held = work.held;
-    let n = held.n;
-    if n <= s {
+    let OptionVertex::Some(s) = source else {
         return just_reference(work);
-    }
-    if n <= t {
+    };
+    let OptionVertex::Some(t) = sink else {
         return just_reference(work);
-    }
+    };
     keep_between(
         work,
         s,
@@ -172,12 +180,12 @@ pub fn cleanup_seq_graph(
     let m = h.m;
     let n = h.n;
     index::build_index(es, m, n, heads, nexts);
-    let s = refs::reference_source_vertex(es, m, n, heads, nexts);
-    let t = refs::reference_sink_vertex(es, m, n, heads, nexts);
+    let source = refs::reference_source_vertex(es, m, n, heads, nexts);
+    let sink = refs::reference_sink_vertex(es, m, n, heads, nexts);
     after_choice(
         w,
-        s,
-        t,
+        source,
+        sink,
         es,
         vs,
         p,

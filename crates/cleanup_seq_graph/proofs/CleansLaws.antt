@@ -23,7 +23,7 @@ use Rattle.accept.specs.declared.Read.{Read}
 use Rattle.choice.specs.Choice.{Cleanable}
 use Rattle.choice.proofs.ChoiceLaws.{holds-lean-kept}
 use Rattle.cleanable.proofs.ReadLean.{read-lean}
-use Rattle.cleanup.specs.CleanUp.{Answers, CleanUp}
+use Rattle.cleanup.specs.CleanUp.{cleanupStatusOf, Answers, CleanUp}
 use Rattle.cleanup.specs.declared.CleanedUp.{CleanedUp}
 use Rattle.arrays.specs.Sized.{Lent}
 use Rattle.arrays.proofs.SizedLaws.{lent-scratch, lent-countable}
@@ -156,29 +156,33 @@ module _ {bs heads nexts : List ℕ} {m : Made} {es vs p : List ℕ} (M : MadeOf
   pub cleans-refused : (out : List ℕ) {a : CleanupAnswer} → (m .number ≡ 0 → ⊥) → RefusesCleanup (m .number) t a → Cleans bs out t a out
   cleans-refused out o R = refused-with bs out t (m .number) o (stopped bs out t (m .number) (sym (M .number)) o) R refl
 
-  pub made-status : m .number ≡ 0 → m .cleaned .status < 256
-  made-status ok = omega (arith, M .answers ok .status, status-small ((cleanupSeqGraph (decode bs)) .status))
+  pub made-status : {n : ℕ} → n ≡ statusNumber (cleanupStatusOf (m .cleaned .status)) → n < 256
+  made-status q = omega (arith, q, status-small (cleanupStatusOf (m .cleaned .status)))
 
   module _ (small : Bytes bs) (ok : m .number ≡ 0) where
     none : recordRefusal sequenceOnly bs ≡ 0
     none = sym (M .number) ∙ ok
 
-    module _ {out out′ : List ℕ} {s : Sent} (S : Sends (encode sequenceGraph (m .cleaned .status) (graphOf (m .cleaned .held) es vs p)) out s out′) where
+    module _ {n : ℕ} (number-is : n ≡ statusNumber (cleanupStatusOf (m .cleaned .status))) {out out′ : List ℕ} {s : Sent}
+        (S : Sends (encode sequenceGraph n (graphOf (m .cleaned .held) es vs p)) out s out′) where
+      status-is : n ≡ statusNumber ((cleanupSeqGraph (decode bs)) .status)
+      status-is = number-is ∙ ap statusNumber (M .answers ok .status)
+
       abbrev made : List ℕ
       made = encode sequenceGraph (statusNumber ((cleanupSeqGraph (decode bs)) .status)) ((cleanupSeqGraph (decode bs)) .graph)
 
       sends : Sends made out s out′
-      sends = subst (λ (l : List ℕ). Sends l out s out′) (λ i. encode sequenceGraph (M .answers ok .status i) (M .answers ok .graph i)) S
+      sends = subst (λ (l : List ℕ). Sends l out s out′) (λ i. encode sequenceGraph (status-is i) (M .answers ok .graph i)) S
 
       pub cleans-short : {a : CleanupAnswer} → (s .number ≡ 0 → ⊥) → RefusesCleanup (s .number) t a → Cleans bs out t a out′
       cleans-short o R =
           let c = sent-short sends o in
           refused-with bs out t (s .number) o (fitting bs out t none ∙ c .0 ∙ ap refused (sym (c .1 .0))) R (c .1 .1)
 
-      pub cleans-accepted : {a : CleanupAnswer} → s .number ≡ 0 → AcceptsCleanup (s .length) (m .cleaned .status) (m .cleaned .rewrites) t a
+      pub cleans-accepted : {a : CleanupAnswer} → s .number ≡ 0 → AcceptsCleanup (s .length) n (m .cleaned .rewrites) t a
           → Cleans bs out t a out′
       cleans-accepted i A =
           let c = sent-whole sends i in
           let Z = M .answers ok in
           accepted-with bs out t small none (fitting bs out t none
-          ∙ c .0) (A .is made (cleanupSeqGraph (decode bs)) (sym (c .1 .0)) (sym (Z .status)) (sym (Z .rewrites))) (c .1 .1)
+          ∙ c .0) (A .is made (cleanupSeqGraph (decode bs)) (sym (c .1 .0)) (sym status-is) (sym (Z .rewrites))) (c .1 .1)

@@ -2,12 +2,15 @@
 ghost use mathlib.Core.Path.{_≡_};
 ghost use Prim.Native.Nat.{_≤_};
 ghost use lib.ListN.{length};
+ghost use Rattle.defs.specs.Cleanup.{statusNumber};
 ghost use Rattle.arrays.specs.Sized.{Lent};
+ghost use Rattle.cleanup.specs.CleanUp.{cleanupStatusOf};
 ghost use Rattle.cleanup_seq_graph.specs.Cleans.{Cleans};
 ghost use Rattle.cleanup_seq_graph.specs.MadeOf.{MadeOf};
 use calls::CleanupAnswer;
 use calls::Tally;
 use cleanup::CleanedUp;
+use cleanup::SeqGraphCleanupStatus;
 use memory::Held;
 
 // A record's refusal number, or 0 and its cleanup, which the slices hold.
@@ -16,12 +19,24 @@ pub struct Made {
     pub cleaned: CleanedUp,
 }
 
+// The number of a status, as a record has it.
+fn status_number(status: SeqGraphCleanupStatus) -> u32
+    ensures { λ r. ⌜ r ≡ statusNumber (cleanupStatusOf status) ⌝ }
+{
+    match status {
+        SeqGraphCleanupStatus::JustAssembledReference => 1,
+        SeqGraphCleanupStatus::AssembledSomeVariation => 2,
+    }
+}
+
+// Nothing was cleaned: the status says nothing.
 fn refuse(number: u32, held: Held) -> Made
     ensures { λ r. ⌜ r .number ≡ number ⌝ }
 {
+    let status = SeqGraphCleanupStatus::JustAssembledReference;
     let none = CleanedUp {
         held: held,
-        status: 0,
+        status: status,
         rewrites: 0,
     };
     Made {
@@ -94,12 +109,14 @@ fn cleanup_seq_graph_in(
         return calls::refuse_cleanup(number, tally);
     }
     let c = made.cleaned;
-    let sent = calls::send_record(out, c.status, c.held, es, vs, p);
+    let end = c.status;
+    let status = status_number(end);
+    let sent = calls::send_record(out, status, c.held, es, vs, p);
     let short = sent.number;
     if short != 0 {
         return calls::refuse_cleanup(short, tally);
     }
-    calls::accept_cleanup(sent.length, c.status, c.rewrites, tally)
+    calls::accept_cleanup(sent.length, status, c.rewrites, tally)
 }
 
 // Whole arrays, whose lengths are known.

@@ -16,6 +16,9 @@ use Rattle.store.specs.Store.{isSet, EndsBelow}
 use Rattle.compact.specs.Compact.{unmarked, Compactable}
 use Rattle.compact.proofs.CompactLaws.{restrict-same, order-in}
 use Rattle.refs.specs.Refs.{FirstSource}
+use Rattle.refs.specs.declared.OptionVertex.{OptionVertex}
+use Rattle.refs.specs.declared.OptionVertex.the-variants.{Some, None}
+use Rattle.refs.proofs.RefLaws.{source-found, source-missing}
 use Rattle.memory.specs.Memory.{graphOf}
 use Rattle.memory.specs.declared.Held.{Held}
 use Rattle.reach.specs.Reach.{stepOf, walkStep, Reached}
@@ -80,10 +83,10 @@ pub reduced-same : {f : Graph → Graph} (h : Held) {es vs : List ℕ} → EndsB
     → ((p : List ℕ) → f (graphOf h es vs p) ≡ graphOf h es vs p) → Reduced f h es vs h es vs
 reduced-same h E same = record { is = λ p. sym (same p); most-n = omega arith; most-m = omega arith; ends = E; within = λ used W. W; used-is = refl }
 
-pub no-source-stays : (h : Held) (es vs : List ℕ) {s : ℕ} → FirstSource (h .m) (h .n) es s → h .n ≤ s → (p : List ℕ)
+pub no-source-stays : (h : Held) (es vs : List ℕ) {r : OptionVertex} → FirstSource (h .m) (h .n) es r → r ≡ None → (p : List ℕ)
     → removeVerticesNotConnectedToRef (graphOf h es vs p) ≡ graphOf h es vs p
 unfolding removeVerticesNotConnectedToRef
-no-source-stays h es vs F l p = rw (F .missing l (h .k .0) vs p, removeVerticesNotConnectedToRef)
+no-source-stays h es vs F l p = rw (source-missing F l (h .k .0) vs p, removeVerticesNotConnectedToRef)
 
 module _ (h : Held) (es vs : List ℕ) (E : EndsBelow (h .n) (h .m) es) (mp : List ℕ) (clear : (v : ℕ) → v < h .n → getD mp v 0 ≡ 0) where
   stays : (v : ℕ) → v < h .n → unmarked mp v ≡ true
@@ -92,15 +95,16 @@ module _ (h : Held) (es vs : List ℕ) (E : EndsBelow (h .n) (h .m) es) (mp : Li
   below : (p : List ℕ) (v : ℕ) → v < nodeCount (graphOf h es vs p) → v < h .n
   below p v l = omega (arith, l, order-in (h .k .0) (h .n) (h .m) es vs p)
 
-  pub connected-stay : {s : ℕ} {mp′ : List ℕ} → FirstSource (h .m) (h .n) es s → s < h .n → Unreached 2 (h .m) (h .n) es s mp mp′
-      → (p : List ℕ) → compactVertices (unmarked mp′) (graphOf h es vs p) ≡ removeVerticesNotConnectedToRef (graphOf h es vs p)
+  pub connected-stay : {r : OptionVertex} {s : ℕ} {mp′ : List ℕ} → FirstSource (h .m) (h .n) es r → r ≡ Some s
+      → Unreached 2 (h .m) (h .n) es s mp mp′ → (p : List ℕ) → compactVertices (unmarked mp′) (graphOf h es vs p)
+      ≡ removeVerticesNotConnectedToRef (graphOf h es vs p)
   unfolding removeVerticesNotConnectedToRef walkStep stepOf
-  connected-stay {s} {mp′} F l U p =
+  connected-stay {s = s} {mp′} F l U p =
       let g = graphOf h es vs p in
       restrict-same (unmarked mp′) (λ (v : ℕ). elemOf v (reached either g s)) g
       (λ v b. U .at (h .k .0) vs p v (below p v b) ∙ ap (λ (x : Bool). x && elemOf v (reached either g s)) (stays v (below p v b)))
       (bounded-in {es = es} E (h .k .0) vs p)
-      ∙ rw (F .found l (h .k .0) vs p, removeVerticesNotConnectedToRef)
+      ∙ rw (source-found F l (h .k .0) vs p, removeVerticesNotConnectedToRef)
 
   pub paths-stay : {s t : ℕ} {mp₁ mp₂ : List ℕ} → Unreached 0 (h .m) (h .n) es s mp mp₁ → Unreached 1 (h .m) (h .n) es t mp₁ mp₂
       → (p : List ℕ) → compactVertices (unmarked mp₂) (graphOf h es vs p) ≡ removePathsNotConnectedToRef (graphOf h es vs p) s t

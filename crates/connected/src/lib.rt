@@ -9,6 +9,7 @@ ghost use Rattle.reach.specs.Reach.{Walkable};
 ghost use Rattle.orphans.specs.Orphans.{Reduced};
 ghost use Rattle.connected.specs.Connected.{Missed, Unreached};
 use memory::Held;
+use refs::OptionVertex;
 
 // Those of n vertices without a mark go: they get 1 in `map`.
 fn mark_missed(marks: &[u64], n: usize, map: &mut [u32])
@@ -62,10 +63,9 @@ pub fn remove_vertices_not_connected_to_ref(
 {
     let n = held.n;
     let m = held.m;
-    let s = refs::reference_source_vertex(es, m, n, heads, nexts);
-    if n <= s {
+    let OptionVertex::Some(s) = refs::reference_source_vertex(es, m, n, heads, nexts) else {
         return held;
-    }
+    };
     compact::fill(map, n, 0);
     mark_unreached(es, m, n, heads, nexts, 2, s, nodes, map, tried);
     orphans::remove_marked(held, es, vs, map)

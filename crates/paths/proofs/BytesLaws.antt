@@ -15,6 +15,7 @@ use Rattle.memory.specs.Memory.{graphOf, Room, Holds}
 use Rattle.memory.proofs.RoomLaws.{held-vertices, fit-bytes}
 use Rattle.memory.specs.declared.Held.{Held}
 use Rattle.spell.specs.Spell.{spelledIn, Answered, Told}
+use Rattle.spell.specs.declared.OptionBytes.the-variants.{Some, None}
 use Rattle.spell.proofs.SpellLaws.{told-none, told-some, answered-as}
 use Rattle.paths.specs.Paths.{EdgePath, PathNodes, Spellable}
 use Rattle.paths.proofs.RouteLaws.{Route, path-of, path-short, route-spelled}
@@ -44,7 +45,7 @@ module _ {h : Held} {es vs p nodes : List ℕ} (S : Spellable h es vs p nodes) {
   abbrev g : Graph
   g = graphOf h es vs p
 
-  pub no-path : (out : List ℕ) → r ≡ false → Told (given (isPathOf g start list) (pathBasesBytes g start list)) out (record { found = false; len = 0 }) out
+  pub no-path : (out : List ℕ) → r ≡ false → Told (given (isPathOf g start list) (pathBasesBytes g start list)) out None out
   no-path out f = told-none out (given-no _ _ (sym (E .is (h .k .0) vs p) ∙ f))
 
   module _ (t : r ≡ true) where
@@ -64,6 +65,6 @@ module _ {h : Held} {es vs p nodes : List ℕ} (S : Spellable h es vs p nodes) {
     path-route N = record { first = start; others = edgeEnds list; path = path-of g (S .sound .bounded) start list is-path; is = N .is; room = N .room }
 
     pub path-told : {nodes′ : List ℕ} {c len : ℕ} {out out′ : List ℕ} → PathNodes start list c nodes′ → Answered (spelledIn vs p nodes′ c) out len out′
-        → Told (given (isPathOf g start list) (pathBasesBytes g start list)) out (record { found = true; len = len }) out′
+        → Told (given (isPathOf g start list) (pathBasesBytes g start list)) out (Some len) out′
     unfolding pathBasesBytes
     path-told N A = told-some (given-yes _ _ is-path) (answered-as (route-spelled S (path-route N) ∙ ap (spelled g) (N .is)) A)

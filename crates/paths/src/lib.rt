@@ -14,7 +14,7 @@ ghost use Rattle.memory.specs.Memory.{graphOf};
 ghost use Rattle.spell.specs.Spell.{Told};
 ghost use Rattle.paths.specs.Paths.{EdgePath, PathNodes, Spellable};
 use memory::Held;
-use spell::Bytes;
+use spell::OptionBytes;
 
 // Whether there is an edge from u to v, along the list of u's edges.
 pub fn has_edge(
@@ -120,7 +120,7 @@ pub fn path_bases_bytes(
     list: &[u32],
     nodes: &mut [u32],
     out: &mut [u8],
-) -> Bytes
+) -> OptionBytes
     requires { ⌜ Spellable held (now es) (now vs) (now p) (now nodes) × Indexed (held .m) (held .n) (now es) (now heads) (now nexts) ⌝ }
     ensures { λ r. ⌜ Told (given (isPathOf (graphOf held (now (es .entry)) (now (vs .entry)) (now (p .entry))) start (now (list .entry)))
         (pathBasesBytes (graphOf held (now (es .entry)) (now (vs .entry)) (now (p .entry))) start (now (list .entry)))) (now (out .entry)) r
@@ -129,15 +129,9 @@ pub fn path_bases_bytes(
     let n = held.n;
     let m = held.m;
     if !is_edge_path(es, m, n, heads, nexts, start, list) {
-        return Bytes {
-            found: false,
-            len: 0,
-        };
+        return OptionBytes::None;
     }
     let c = path_nodes(start, list, nodes);
     let len = spell::spell(vs, p, nodes, c, out);
-    Bytes {
-        found: true,
-        len: len,
-    }
+    OptionBytes::Some(len)
 }

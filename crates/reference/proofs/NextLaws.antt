@@ -1,7 +1,7 @@
 -- The next vertex on the reference path, by the index. Assumes nothing.
 use mathlib.Core.Path.{_≡_, refl, sym, ap, _∙_}
 use mathlib.Core.Bool.{Bool, true, false}
-use mathlib.Core.Option.{Option, none, some}
+use mathlib.Core.Option.{Option, some}
 use mathlib.Core.List.{List, [], _∷_, _++_, map}
 use Prim.Native.Nat.{ℕ, _+_, _*_, _-_, _≤_, _<_}
 use native.Mathlib.Omega.{arith}
@@ -15,6 +15,7 @@ use Rattle.index.specs.Index.{endOf, atFrom, edgesAt, Index, Indexed}
 use Rattle.index.proofs.AdjLaws.{at-head, at-step, at-end}
 use Rattle.index.proofs.IndexLaws.{from-is, at-none, at-first}
 use Rattle.refs.specs.Refs.{refAt}
+use Rattle.refs.specs.declared.OptionVertex.the-variants.{Some, None}
 use Rattle.paths.proofs.StepLaws.{out-index}
 use Rattle.reference.specs.Reference.{NextOn}
 
@@ -53,10 +54,10 @@ module _ {m n : ℕ} {es heads nexts : List ℕ} (I : Indexed m n es heads nexts
         (keepIf-no (λ (e : Edge). e .isRef) (edgeIn es e) (map (edgeIn es) (atFrom (endOf 0 es) m v (getD nexts (2 * e) 0))) f);
   }
 
-  next-by : {x : ℕ} → x < n → chosen m es v (edgesAt (endOf 0 es) m v) ≡ some x → NextOn m n es v x
-  next-by b q = record { found = λ _ k vs p. next-is k n m es vs p v ∙ q; missing = λ z. absurd (omega arith) }
+  next-by : {x : ℕ} → x < n → chosen m es v (edgesAt (endOf 0 es) m v) ≡ some x → NextOn m n es v (Some x)
+  next-by {x} b q = record { is = λ k vs p. sym (next-is k n m es vs p v ∙ q); below = λ w e. let z : w ≡ x = cc in omega arith }
 
-  pub looking-found : {e x : ℕ} → Looking m es v e → e < m → refAt es e ≡ true → x ≡ getD es (4 * e + 1) 0 → NextOn m n es v x
+  pub looking-found : {e x : ℕ} → Looking m es v e → e < m → refAt es e ≡ true → x ≡ getD es (4 * e + 1) 0 → NextOn m n es v (Some x)
   unfolding firstTo
   looking-found {e} {x} L h t q = next-by (omega (arith, (I .ends .at e h) .1)) (L .left ∙ ap (chosen m es v) (step e h (L .hit h))
       ∙ ap (λ (l : List Edge). firstTo (l ++ map (edgeIn es) (edgesAt (endOf 0 es) m v)))
@@ -64,15 +65,15 @@ module _ {m n : ℕ} {es heads nexts : List ℕ} (I : Indexed m n es heads nexts
       ∙ ap some (sym q))
 
   pub looking-end : {e x : ℕ} (first : ℕ) → v < n → Looking m es v e → m ≤ e → first ≡ getD heads (2 * v) 0 → first < m → x
-      ≡ getD es (4 * first + 1) 0 → NextOn m n es v x
+      ≡ getD es (4 * first + 1) 0 → NextOn m n es v (Some x)
   unfolding firstTo keepIf
   looking-end {e} {x} first b L h z f q = next-by (omega (arith, (I .ends .at first f) .1)) (L .left ∙ ap (chosen m es v) (at-end (endOf 0 es) m v e h)
       ∙ ap (λ (l : List ℕ). firstTo (map (edgeIn es) l)) (at-first (out-index I) b first z f) ∙ ap some (sym q))
 
-  pub looking-none : (first : ℕ) → v < n → first ≡ getD heads (2 * v) 0 → m ≤ first → NextOn m n es v n
+  pub looking-none : (first : ℕ) → v < n → first ≡ getD heads (2 * v) 0 → m ≤ first → NextOn m n es v None
   unfolding firstTo keepIf
   looking-none first b z h = record {
-    found = λ c. absurd (omega arith);
-    missing = λ _ k vs p. next-is k n m es vs p v ∙ ap (λ (l : List ℕ).
-        firstTo (keepIf (λ (e : Edge). e .isRef) (map (edgeIn es) l) ++ map (edgeIn es) l)) (at-none (out-index I) b first z h);
+    is = λ k vs p. sym (next-is k n m es vs p v ∙ ap (λ (l : List ℕ).
+        firstTo (keepIf (λ (e : Edge). e .isRef) (map (edgeIn es) l) ++ map (edgeIn es) l)) (at-none (out-index I) b first z h));
+    below = λ w e. absurd (let z : _≡_ {A = ℕ} 0 1 = cc in omega arith);
   }

@@ -23,7 +23,11 @@ use Rattle.store.specs.Store.{graphIn, numsIn}
 use Rattle.compact.proofs.CompactLaws.{order-in}
 use Rattle.index.proofs.IndexLaws.{nums-push}
 use Rattle.paths.proofs.RouteLaws.{path-short}
+use Rattle.refs.specs.Refs.{vertexOf}
+use Rattle.refs.specs.declared.OptionVertex.{OptionVertex}
+use Rattle.refs.specs.declared.OptionVertex.the-variants as O
 use Rattle.reference.specs.Reference.{NextOn, Walked}
+use Rattle.reference.specs.declared.OptionPath.the-variants.{Some, None}
 
 -- ---- the definition, step by step
 
@@ -133,38 +137,41 @@ module _ {m n : ℕ} {es : List ℕ} {source sink : ℕ} {nodes₀ : List ℕ} w
         ≡ prepends (numsIn c nodes) (referencePath (suc (n - (c + 1))) (graphIn k n m es vs p) sink v)
     left-is k vs p = W .is k vs p ∙ ap (λ (x : ℕ). prepends (numsIn c nodes) (referencePath x (graphIn k n m es vs p) sink v)) fuel-is
 
-    pub walking-there : v ≡ sink → Walked m n es source sink (c + 1) (set nodes c v)
+    pub walking-there : v ≡ sink → Walked m n es source sink (Some (c + 1)) (set nodes c v)
     walking-there q = record {
-      most = omega arith;
-      found = λ _ k vs p. left-is k vs p ∙ ap (prepends (numsIn c nodes))
+      is = λ k vs p s. sym (left-is k vs p ∙ ap (prepends (numsIn c nodes))
           (ref-here (n - (c + 1)) (graphIn k n m es vs p) sink v (eq-eqb v sink q)) ∙ prepends-some (numsIn c nodes) (v ∷ [])
-          ∙ ap some (sym pushed);
-      missing = λ z. absurd (omega arith);
+          ∙ ap some (sym pushed));
+      most = λ d e. let z : d ≡ c + 1 = cc in omega arith;
     }
 
-    pub walking-stuck : {w : ℕ} (nodes′ : List ℕ) → (v ≡ sink → ⊥) → NextOn m n es v w → n ≤ w → Walked m n es source sink 0 nodes′
+    pub walking-stuck : {r : OptionVertex} (nodes′ : List ℕ) → (v ≡ sink → ⊥) → NextOn m n es v r → r ≡ O.None → Walked m n es source sink None nodes′
     walking-stuck nodes′ q N b = record {
-      most = omega arith;
-      found = λ z. absurd (z refl);
-      missing = λ _ k vs p s. left-is k vs p ∙ ap (prepends (numsIn c nodes))
-          (ref-none (n - (c + 1)) (graphIn k n m es vs p) sink v (ne-eqb v sink q) (N .missing b k vs p)) ∙ prepends-none (numsIn c nodes);
+      is = λ k vs p s. sym (left-is k vs p ∙ ap (prepends (numsIn c nodes))
+          (ref-none (n - (c + 1)) (graphIn k n m es vs p) sink v (ne-eqb v sink q) (sym (N .is k vs p) ∙ ap vertexOf b))
+          ∙ prepends-none (numsIn c nodes));
+      most = λ d e. absurd (let z : _≡_ {A = ℕ} 0 1 = cc in omega arith);
     }
 
-    pub walking-more : {w : ℕ} → (v ≡ sink → ⊥) → NextOn m n es v w → w < n → Walking m n es source sink nodes₀ (set nodes c v) w (c + 1)
-    walking-more {w} q N b = record {
+    pub walking-more : {r : OptionVertex} {w : ℕ} → (v ≡ sink → ⊥) → NextOn m n es v r → r ≡ O.Some w
+        → Walking m n es source sink nodes₀ (set nodes c v) w (c + 1)
+    walking-more {w = w} q N b = record {
       high = omega arith;
-      below = b;
+      below = N .below w b;
       source-below = W .source-below;
       len = length-set nodes c v ∙ W .len;
       is = λ k vs p. left-is k vs p ∙ ap (prepends (numsIn c nodes))
-          (ref-step (n - (c + 1)) (graphIn k n m es vs p) sink v w (ne-eqb v sink q) (N .found b k vs p))
+          (ref-step (n - (c + 1)) (graphIn k n m es vs p) sink v w (ne-eqb v sink q) (sym (N .is k vs p) ∙ ap vertexOf b))
           ∙ sym (prepends-snoc (numsIn c nodes) v (referencePath (n - (c + 1)) (graphIn k n m es vs p) sink w))
           ∙ ap (λ (l : List ℕ). prepends l (referencePath (n - (c + 1)) (graphIn k n m es vs p) sink w)) (sym pushed);
     }
 
   -- n vertices are passed, and there is none left that the path could end at
-  pub walking-end : {nodes : List ℕ} {v c : ℕ} → Walking m n es source sink nodes₀ nodes v c → n ≤ c → Walked m n es source sink 0 nodes
-  walking-end {nodes} {v} {c} W h = record { most = omega arith; found = λ z. absurd (z refl); missing = λ _ k vs p s. stop k vs p s }
+  pub walking-end : {nodes : List ℕ} {v c : ℕ} → Walking m n es source sink nodes₀ nodes v c → n ≤ c → Walked m n es source sink None nodes
+  walking-end {nodes} {v} {c} W h = record {
+    is = λ k vs p s. sym (stop k vs p s);
+    most = λ d e. absurd (let z : _≡_ {A = ℕ} 0 1 = cc in omega arith);
+  }
     where
       last : (k : ℕ) (vs p : List ℕ) → referencePath n (graphIn k n m es vs p) sink source ≡ prepends (numsIn c nodes) (given (eqb v sink) (v ∷ []))
       last k vs p = let z : n - c ≡ 0 = omega arith in W .is k vs p

@@ -14,12 +14,15 @@ use Rattle.defs.specs.Lists.{tab, keepIf, anyOf, upFrom, firstOf}
 use Rattle.defs.specs.SeqGraph.{Edge, Graph, nodeCount, edgesFrom, edgesInto, isReferenceNode, isRefSource, isRefSink}
 use Rattle.defs.specs.Cleanup.{referenceSourceVertex, referenceSinkVertex}
 use Rattle.laws.proofs.Walks.{byTest}
+use Rattle.laws.proofs.Cleaned.{source-in, sink-in}
 use Rattle.store.specs.Store.{isSet, edgeIn, edgesIn, graphIn}
 use Rattle.compact.proofs.CompactLaws.{order-in}
 use Rattle.index.specs.Index.{endOf, atFrom, edgesAt, Index}
 use Rattle.index.proofs.AdjLaws.{at-head, at-step, at-end}
 use Rattle.index.proofs.IndexLaws.{from-is, into-is}
-use Rattle.refs.specs.Refs.{refAt, RefNode, RefSource, RefSink, FirstSource, FirstSink}
+use Rattle.refs.specs.Refs.{refAt, RefNode, RefSource, RefSink, vertexOf, FirstSource, FirstSink}
+use Rattle.refs.specs.declared.OptionVertex.{OptionVertex}
+use Rattle.refs.specs.declared.OptionVertex.the-variants.{Some, None}
 
 -- ---- a test of some edge at v, by the index: it is what is left from e on
 
@@ -177,39 +180,51 @@ first-no p i zero o = refl
 first-no p i (suc n) o = rw (o i (omega arith) (omega arith), firstOf) (first-no p (suc i) n (λ k a b. o k (omega arith) (omega arith)))
 
 module _ {m n : ℕ} {es : List ℕ} where
-  pub first-source : (v : ℕ) → v < n → ((k : ℕ) → k < v → RefSource m n es k false) → RefSource m n es v true → FirstSource m n es v
+  pub first-source : (v : ℕ) → v < n → ((k : ℕ) → k < v → RefSource m n es k false) → RefSource m n es v true → FirstSource m n es (Some v)
   first-source v h o t = record {
-    found = λ _ k vs p. unfold referenceSourceVertex in (rw (order-in k n m es vs p)
+    is = λ k vs p. sym (unfold referenceSourceVertex in (rw (order-in k n m es vs p)
         (first-yes (isRefSource (graphIn k n m es vs p)) 0 n v (omega arith) (omega arith) (λ j a b. sym (o j b .is k vs p))
-        (sym (t .is k vs p))));
-    missing = λ b. absurd (omega arith);
-    most = omega arith;
+        (sym (t .is k vs p)))));
   }
 
-  pub no-source : (v : ℕ) → n ≤ v → ((k : ℕ) → k < v → RefSource m n es k false) → FirstSource m n es n
+  pub no-source : (v : ℕ) → n ≤ v → ((k : ℕ) → k < v → RefSource m n es k false) → FirstSource m n es None
   no-source v h o = record {
-    found = λ b. absurd (omega arith);
-    missing = λ _ k vs p. unfold referenceSourceVertex in (rw (order-in k n m es vs p)
-        (first-no (isRefSource (graphIn k n m es vs p)) 0 n (λ j a b. sym (o j (omega arith) .is k vs p))));
-    most = omega arith;
+    is = λ k vs p. sym (unfold referenceSourceVertex in (rw (order-in k n m es vs p)
+        (first-no (isRefSource (graphIn k n m es vs p)) 0 n (λ j a b. sym (o j (omega arith) .is k vs p)))));
   }
 
-  pub first-sink : (v : ℕ) → v < n → ((k : ℕ) → k < v → RefSink m n es k false) → RefSink m n es v true → FirstSink m n es v
+  pub first-sink : (v : ℕ) → v < n → ((k : ℕ) → k < v → RefSink m n es k false) → RefSink m n es v true → FirstSink m n es (Some v)
   first-sink v h o t = record {
-    found = λ _ k vs p. unfold referenceSinkVertex in (rw (order-in k n m es vs p)
+    is = λ k vs p. sym (unfold referenceSinkVertex in (rw (order-in k n m es vs p)
         (first-yes (isRefSink (graphIn k n m es vs p)) 0 n v (omega arith) (omega arith) (λ j a b. sym (o j b .is k vs p))
-        (sym (t .is k vs p))));
-    missing = λ b. absurd (omega arith);
-    most = omega arith;
+        (sym (t .is k vs p)))));
   }
 
-  pub no-sink : (v : ℕ) → n ≤ v → ((k : ℕ) → k < v → RefSink m n es k false) → FirstSink m n es n
+  pub no-sink : (v : ℕ) → n ≤ v → ((k : ℕ) → k < v → RefSink m n es k false) → FirstSink m n es None
   no-sink v h o = record {
-    found = λ b. absurd (omega arith);
-    missing = λ _ k vs p. unfold referenceSinkVertex in (rw (order-in k n m es vs p)
-        (first-no (isRefSink (graphIn k n m es vs p)) 0 n (λ j a b. sym (o j (omega arith) .is k vs p))));
-    most = omega arith;
+    is = λ k vs p. sym (unfold referenceSinkVertex in (rw (order-in k n m es vs p)
+        (first-no (isRefSink (graphIn k n m es vs p)) 0 n (λ j a b. sym (o j (omega arith) .is k vs p)))));
   }
+
+-- what an answer says of the definition
+module _ {m n : ℕ} {es : List ℕ} {r : OptionVertex} where
+  pub source-found : FirstSource m n es r → {v : ℕ} → r ≡ Some v → (k : ℕ) (vs p : List ℕ) → referenceSourceVertex (graphIn k n m es vs p) ≡ some v
+  source-found F q k vs p = sym (F .is k vs p) ∙ ap vertexOf q
+
+  pub source-missing : FirstSource m n es r → r ≡ None → (k : ℕ) (vs p : List ℕ) → referenceSourceVertex (graphIn k n m es vs p) ≡ none
+  source-missing F q k vs p = sym (F .is k vs p) ∙ ap vertexOf q
+
+  pub source-below : FirstSource m n es r → {v : ℕ} → r ≡ Some v → v < n
+  source-below F {v} q = omega (arith, source-in (graphIn 0 n m es [] []) v (source-found F q 0 [] []), order-in 0 n m es [] [])
+
+  pub sink-found : FirstSink m n es r → {v : ℕ} → r ≡ Some v → (k : ℕ) (vs p : List ℕ) → referenceSinkVertex (graphIn k n m es vs p) ≡ some v
+  sink-found F q k vs p = sym (F .is k vs p) ∙ ap vertexOf q
+
+  pub sink-missing : FirstSink m n es r → r ≡ None → (k : ℕ) (vs p : List ℕ) → referenceSinkVertex (graphIn k n m es vs p) ≡ none
+  sink-missing F q k vs p = sym (F .is k vs p) ∙ ap vertexOf q
+
+  pub sink-below : FirstSink m n es r → {v : ℕ} → r ≡ Some v → v < n
+  sink-below F {v} q = omega (arith, sink-in (graphIn 0 n m es [] []) v (sink-found F q 0 [] []), order-in 0 n m es [] [])
 
 -- an answer under its value
 pub source-as : {m n : ℕ} {es : List ℕ} {v : ℕ} {r b : Bool} → r ≡ b → RefSource m n es v r → RefSource m n es v b

@@ -1,13 +1,15 @@
 -- The answers of the reference tests, whatever k, the vertices and the pool. Assumes nothing.
 use mathlib.Core.Path.{_≡_}
-use mathlib.Core.Bool.{Bool, false}
-use mathlib.Core.Option.{none, some}
+use mathlib.Core.Bool.{Bool}
+use mathlib.Core.Option.{Option, none, some}
 use mathlib.Core.List.{List}
-use Prim.Native.Nat.{ℕ, _+_, _*_, _≤_, _<_}
+use Prim.Native.Nat.{ℕ, _+_, _*_}
 use lib.ListN.{getD}
 use Rattle.defs.specs.SeqGraph.{isReferenceNode, isRefSource, isRefSink}
 use Rattle.defs.specs.Cleanup.{referenceSourceVertex, referenceSinkVertex}
 use Rattle.store.specs.Store.{isSet, graphIn}
+use Rattle.refs.specs.declared.OptionVertex.{OptionVertex}
+use Rattle.refs.specs.declared.OptionVertex.the-variants.{Some, None}
 
 -- whether edge e is a reference edge
 abbrev pub refAt : List ℕ → ℕ → Bool
@@ -22,13 +24,14 @@ pub record RefSource (m n : ℕ) (es : List ℕ) (v : ℕ) (r : Bool) : Type 0 w
 pub record RefSink (m n : ℕ) (es : List ℕ) (v : ℕ) (r : Bool) : Type 0 where
   pub is : (k : ℕ) (vs p : List ℕ) → r ≡ isRefSink (graphIn k n m es vs p) v
 
--- a vertex below n is the first source; n says that there is none
-pub record FirstSource (m n : ℕ) (es : List ℕ) (r : ℕ) : Type 0 where
-  pub found : r < n → (k : ℕ) (vs p : List ℕ) → referenceSourceVertex (graphIn k n m es vs p) ≡ some r
-  pub missing : n ≤ r → (k : ℕ) (vs p : List ℕ) → referenceSourceVertex (graphIn k n m es vs p) ≡ none
-  pub most : r ≤ n
+-- a vertex, or none
+abbrev pub vertexOf : OptionVertex → Option ℕ
+vertexOf (Some v) = some v
+vertexOf None = none
 
-pub record FirstSink (m n : ℕ) (es : List ℕ) (r : ℕ) : Type 0 where
-  pub found : r < n → (k : ℕ) (vs p : List ℕ) → referenceSinkVertex (graphIn k n m es vs p) ≡ some r
-  pub missing : n ≤ r → (k : ℕ) (vs p : List ℕ) → referenceSinkVertex (graphIn k n m es vs p) ≡ none
-  pub most : r ≤ n
+-- the first reference source, and the first reference sink
+pub record FirstSource (m n : ℕ) (es : List ℕ) (r : OptionVertex) : Type 0 where
+  pub is : (k : ℕ) (vs p : List ℕ) → vertexOf r ≡ referenceSourceVertex (graphIn k n m es vs p)
+
+pub record FirstSink (m n : ℕ) (es : List ℕ) (r : OptionVertex) : Type 0 where
+  pub is : (k : ℕ) (vs p : List ℕ) → vertexOf r ≡ referenceSinkVertex (graphIn k n m es vs p)

@@ -6,6 +6,12 @@ ghost use Rattle.defs.specs.Lists.{anyOf};
 ghost use Rattle.index.specs.Index.{Indexed, endOf, edgesAt};
 ghost use Rattle.refs.specs.Refs.{refAt, RefNode, RefSource, RefSink, FirstSource, FirstSink};
 
+// A vertex, or none: the Rust's `Option<usize>`.
+pub enum OptionVertex {
+    Some(usize),
+    None,
+}
+
 // Whether one of v's edges is a reference edge; off 0 outgoing, 1 incoming.
 pub fn any_ref(
     es: &[u32],
@@ -72,38 +78,44 @@ pub fn is_ref_sink(es: &[u32], m: usize, n: usize, heads: &[u32], nexts: &[u32],
     any_ref(es, m, n, heads, nexts, 1, v)
 }
 
-// The first reference source, or n.
+// The first reference source.
 pub fn reference_source_vertex(
     es: &[u32],
     m: usize,
     n: usize,
     heads: &[u32],
     nexts: &[u32],
-) -> usize
+) -> OptionVertex
     requires { ⌜ Indexed m n (now es) (now heads) (now nexts) ⌝ }
     ensures { λ r. ⌜ FirstSource m n (now (es .entry)) r ⌝ }
 {
     let mut v = 0;
     while v < n {
         if is_ref_source(es, m, n, heads, nexts, v) {
-            return v;
+            return OptionVertex::Some(v);
         }
         v += 1;
     }
-    n
+    OptionVertex::None
 }
 
-// The first reference sink, or n.
-pub fn reference_sink_vertex(es: &[u32], m: usize, n: usize, heads: &[u32], nexts: &[u32]) -> usize
+// The first reference sink.
+pub fn reference_sink_vertex(
+    es: &[u32],
+    m: usize,
+    n: usize,
+    heads: &[u32],
+    nexts: &[u32],
+) -> OptionVertex
     requires { ⌜ Indexed m n (now es) (now heads) (now nexts) ⌝ }
     ensures { λ r. ⌜ FirstSink m n (now (es .entry)) r ⌝ }
 {
     let mut v = 0;
     while v < n {
         if is_ref_sink(es, m, n, heads, nexts, v) {
-            return v;
+            return OptionVertex::Some(v);
         }
         v += 1;
     }
-    n
+    OptionVertex::None
 }

@@ -7,11 +7,11 @@ use lib.ListN.{length}
 use Rattle.defs.specs.Zip as Z
 use Rattle.defs.specs.Zip.{zipLinearChains}
 use Rattle.defs.specs.Rewrites.{tryMergeDiamond, tryMergeTails, tryMergeCommonSuffices}
-use Rattle.defs.specs.Simplify.{transformUntilComplete, splitUntilComplete, fuelFor, simplifyGraphOnce}
+use Rattle.defs.specs.Simplify.{diamond, tails, merge, rewriteKindNumber, transformUntilComplete, splitUntilComplete, fuelFor, simplifyGraphOnce}
 use Rattle.memory.specs.Memory.{graphOf, workOf, vertexRoom, Ready, Counted, Scratch, Countable}
 use Rattle.memory.specs.declared.Work.{Work}
 use Rattle.memory.proofs.RoomLaws.{held-vertices}
-use Rattle.until.specs.Until.{rewriteOf, Completed}
+use Rattle.until.specs.Until.{Completed}
 use Rattle.splits.specs.Splits.{SplitAll}
 use Rattle.zips.specs.Zips as Y
 use Rattle.zips.specs.Zips.{ZippedAll}
@@ -40,8 +40,11 @@ unfolding simplifyGraphOnce
 once {least} {w} {a} {b} {c} {d} {r} {es} {vs} {p} {es₁} {vs₁} {p₁} {h₁} {n₁} {o₁} {m₁} {es₂} {vs₂} {p₂} {h₂} {n₂} {o₂} {m₂} {es₃} {vs₃}
     {h₃} {n₃} {o₃} {m₃} {es₄} {vs₄} {p₄} {h₄} A B C D E l₂ l₃ l₄ l₅ = record {
       ready = record { least-is = A .ready .least-is; room = E .ready .room; holds = E .ready .holds; indexed = E .ready .indexed };
-      is = E .is ∙ ap zipLinearChains (D .is ∙ ap (λ (x : Z.Work). transformUntilComplete tryMergeCommonSuffices (fuelFor (x .graph)) x) (C .is
+      is = E .is ∙ ap zipLinearChains (D .is merge (unfold rewriteKindNumber in refl)
+          ∙ ap (λ (x : Z.Work). transformUntilComplete tryMergeCommonSuffices (fuelFor (x .graph)) x) (C .is
           ∙ ap (λ (x : Z.Work). splitUntilComplete (fuelFor (x .graph)) [] x)
-          (B .is ∙ ap (λ (x : Z.Work). transformUntilComplete (tryMergeTails least) (fuelFor (x .graph)) x) (A .is))));
+          (B .is tails (unfold rewriteKindNumber in refl)
+          ∙ ap (λ (x : Z.Work). transformUntilComplete (tryMergeTails least) (fuelFor (x .graph)) x)
+          (A .is diamond (unfold rewriteKindNumber in refl)))));
       most = omega (arith, E .less, D .most, C .most, B .most, A .most, held-vertices (D .ready .holds), l₂, l₃, l₄, l₅);
     }

@@ -1,20 +1,22 @@
 -- Sequences written one behind the other. Assumes nothing.
 use mathlib.Core.Path.{_≡_, refl, sym, ap, _∙_}
-use mathlib.Core.Bool.{true, false}
 use mathlib.Core.Option.{Option, none, some}
 use mathlib.Core.List.{List, [], _∷_, _++_, map, map-append}
 use Prim.Native.Nat.{ℕ, zero, suc, _+_, _*_, _-_, _≤_, _<_}
 use native.Mathlib.Numerals.{add-one}
 use native.Mathlib.Omega.{arith}
 use lib.ListN.{length, getD, set, take, drop, length-append, length-drop, length-set}
+use borrow.Author.Tests.{le-leb, lt-leb}
 use lib.Seq.{paste, paste-zero, paste-suc, length-paste, take-at, drop-append-add, drop-drop, getD-drop}
 use Rattle.defs.specs.Lists.{tab, concat, sum}
-use Rattle.laws.proofs.ListLaws.{clash}
+use Rattle.laws.proofs.ListLaws.{byOrder}
 use Rattle.tabs.proofs.Tabs.{tab-snoc, tab-zero}
 use Rattle.tabs.proofs.SumTabs.{sum-none, sum-more, sum-below, concat-snoc}
 use Rattle.store.specs.Store.{part, seqIn, numsIn}
 use Rattle.pool.proofs.PoolLaws.{part-long}
-use Rattle.spell.specs.Spell.{Fits, Puttable, Put, bytesAt, spelledIn, Listed, Written, Answered, Told}
+use Rattle.spell.specs.Spell.{Fits, Puttable, Put, bytesAt, spelledIn, Listed, Written, Answered, countOf, countIn, withFront, Told}
+use Rattle.spell.specs.declared.OptionBytes.{OptionBytes}
+use Rattle.spell.specs.declared.OptionBytes.the-variants.{Some, None}
 
 -- ---- copying
 
@@ -157,12 +159,64 @@ listed-long {c = c} L q = q ∙ spelled-long L c (omega arith)
 
 -- ---- bytes that are there or not
 
-pub told-none : {o : Option (List ℕ)} (out : List ℕ) → o ≡ none → Told o out (record { found = false; len = 0 }) out
-told-none out q = record { no = λ f. q; same = λ f. refl; yes = λ t. clash t refl }
+no-count : (o : Option (List ℕ)) → countIn o ≡ none → o ≡ none
+unfolding countIn
+no-count none q = refl
+no-count (some s) q = absurd (let z : _≡_ {A = ℕ} 0 1 = cc in omega arith)
+
+count-of : (o : Option (List ℕ)) (n : ℕ) → countIn o ≡ some n → (s : List ℕ) × (o ≡ some s) × (n ≡ length s)
+unfolding countIn
+count-of none n q = absurd (let z : _≡_ {A = ℕ} 0 1 = cc in omega arith)
+count-of (some s) n q = (s, refl, cc)
+
+front-none : (out : List ℕ) → withFront none out ≡ out
+unfolding withFront
+front-none out = refl
+
+front-fits : (s out : List ℕ) → length s ≤ length out → withFront (some s) out ≡ s ++ drop (length s) out
+unfolding withFront
+front-fits s out l = rw (le-leb (length s) (length out) l)
+
+front-short : (s out : List ℕ) → length out < length s → withFront (some s) out ≡ out
+unfolding withFront
+front-short s out l = rw (lt-leb (length s) (length out) l)
+
+pub told-none : {o : Option (List ℕ)} (out : List ℕ) → o ≡ none → Told o out None out
+unfolding countIn
+told-none out q = record { is = sym (ap countIn q); written = sym (ap (λ (x : Option (List ℕ)). withFront x out) q ∙ front-none out) }
 
 pub told-some : {o : Option (List ℕ)} {s out : List ℕ} {len : ℕ} {out′ : List ℕ} → o ≡ some s → Answered s out len out′
-    → Told o out (record { found = true; len = len }) out′
-told-some {s = s} q A = record { no = λ f. clash refl f; same = λ f. clash refl f; yes = λ t. (s, q, A) }
+    → Told o out (Some len) out′
+unfolding countIn
+told-some {s = s} {out} {len} {out′} q A = record {
+  is = ap some (A .size) ∙ sym (ap countIn q);
+  written = front ∙ sym (ap (λ (x : Option (List ℕ)). withFront x out) q);
+}
+  where
+    front : out′ ≡ withFront (some s) out
+    front = byOrder len (length out)
+        (λ l. A .is l ∙ ap (λ (n : ℕ). s ++ drop n out) (A .size) ∙ sym (front-fits s out (omega (arith, A .size))))
+        (λ l. A .kept l ∙ sym (front-short s out (omega (arith, A .size))))
+
+-- what an answer says of the definition
+module _ {o : Option (List ℕ)} {out : List ℕ} {r : OptionBytes} {out′ : List ℕ} (T : Told o out r out′) where
+  pub none-told : r ≡ None → (o ≡ none) × (out′ ≡ out)
+  none-told q =
+      let z = no-count o (sym (T .is) ∙ ap countOf q) in
+      (z, T .written ∙ ap (λ (x : Option (List ℕ)). withFront x out) z ∙ front-none out)
+
+  pub some-told : {n : ℕ} → r ≡ Some n → (s : List ℕ) × (o ≡ some s) × Answered s out n out′
+  some-told {n} q =
+      let z = count-of o n (sym (T .is) ∙ ap countOf q) in
+      let front : out′ ≡ withFront (some (z .0)) out = T .written ∙ ap (λ (x : Option (List ℕ)). withFront x out) (z .1) in (
+        z .0,
+        z .1,
+        record {
+          size = z .2;
+          is = λ l. front ∙ front-fits (z .0) out (omega (arith, z .2)) ∙ ap (λ (k : ℕ). z .0 ++ drop k out) (sym (z .2));
+          kept = λ l. front ∙ front-short (z .0) out (omega (arith, z .2));
+        },
+      )
 
 pub answered-as : {s t out : List ℕ} {len : ℕ} {out′ : List ℕ} → s ≡ t → Answered s out len out′ → Answered t out len out′
 answered-as q A = rw q at A

@@ -1,14 +1,16 @@
 -- What a list of vertices spells, and writing it. Assumes nothing.
 use mathlib.Core.Path.{_≡_}
-use mathlib.Core.Bool.{true, false}
+use mathlib.Core.Bool.{cond}
 use mathlib.Core.Option.{Option, none, some}
 use mathlib.Core.List.{List, _++_, map}
 use Prim.Native.Nat.{ℕ, _+_, _*_, _≤_, _<_}
 use lib.ListN.{length, getD, drop}
+use lib.Dec.{leb}
 use lib.Seq.{paste}
 use Rattle.defs.specs.Lists.{tab, concat, sum}
 use Rattle.store.specs.Store.{seqIn, numsIn}
-use Rattle.spell.specs.declared.Bytes.{Bytes}
+use Rattle.spell.specs.declared.OptionBytes.{OptionBytes}
+use Rattle.spell.specs.declared.OptionBytes.the-variants.{Some, None}
 
 -- n bytes from `from` on are there, and there is room for them at `to`
 pub record Fits (p : List ℕ) (from n : ℕ) (out : List ℕ) (to : ℕ) : Type 0 where
@@ -52,8 +54,22 @@ pub record Answered (s out : List ℕ) (r : ℕ) (out′ : List ℕ) : Type 0 wh
   pub is : r ≤ length out → out′ ≡ s ++ drop r out
   pub kept : length out < r → out′ ≡ out
 
--- the bytes that the definition makes are told, and written where they fit; where it makes none, nothing is
-pub record Told (o : Option (List ℕ)) (out : List ℕ) (r : Bytes) (out′ : List ℕ) : Type 0 where
-  pub no : r .found ≡ false → o ≡ none
-  pub same : r .found ≡ false → out′ ≡ out
-  pub yes : r .found ≡ true → (s : List ℕ) × (o ≡ some s) × Answered s out (r .len) out′
+-- how many bytes an answer tells of
+abbrev pub countOf : OptionBytes → Option ℕ
+countOf (Some n) = some n
+countOf None = none
+
+-- how many bytes there are
+unfoldable pub countIn : Option (List ℕ) → Option ℕ
+countIn none = none
+countIn (some s) = some (length s)
+
+-- the output with the bytes at its front, where there are any and they fit
+unfoldable pub withFront : Option (List ℕ) → List ℕ → List ℕ
+withFront none out = out
+withFront (some s) out = cond (leb (length s) (length out)) (s ++ drop (length s) out) out
+
+-- the bytes that the definition makes, if it makes any, are counted, and written where they fit
+pub record Told (o : Option (List ℕ)) (out : List ℕ) (r : OptionBytes) (out′ : List ℕ) : Type 0 where
+  pub is : countOf r ≡ countIn o
+  pub written : out′ ≡ withFront o out

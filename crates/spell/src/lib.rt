@@ -5,10 +5,10 @@ ghost use lib.ListN.{length, getD, drop};
 ghost use lib.Seq.{paste};
 ghost use Rattle.spell.specs.Spell.{Fits, Puttable, Put, bytesAt, spelledIn, Listed, Written, Answered};
 
-// The bytes that were asked for: whether there are any, and how many they are.
-pub struct Bytes {
-    pub found: bool,
-    pub len: usize,
+// The bytes that were asked for, by their number, or none: the Rust's `Option<Vec<u8>>`, whose bytes go to a lent slice.
+pub enum OptionBytes {
+    Some(usize),
+    None,
 }
 
 // Copies n bytes of p from `from` on to `to` on.

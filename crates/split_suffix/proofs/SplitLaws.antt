@@ -1,7 +1,7 @@
 -- The steps of a split make `splitChange`, there is room for them, and what a try leaves. Assumes nothing.
 use mathlib.Core.Path.{_≡_, refl, sym, ap, _∙_, subst}
 use mathlib.Core.Bool.{Bool, true, false}
-use mathlib.Core.Option.{some}
+use mathlib.Core.Option.{Option, none, some}
 use mathlib.Core.List.{List, _++_, map, List·Memᴰ}
 use Prim.Native.Nat.{ℕ, _+_, _*_, _-_, _≤_, _<_}
 use native.Mathlib.Nat.{add-zero}
@@ -13,7 +13,7 @@ use Rattle.defs.specs.SeqGraph.{Edge, Graph, Change, nodeCount, vertexSequence,
 use Rattle.defs.specs.SeqGraph.{withAdditions, applyChange, addOrUpdateEdges}
 use Rattle.defs.specs.Rewrites.{isSplit, splitSuffix, splitsSuffix, splitChange, splitVertices, splitEdges, trySplitCommonSuffix}
 use Rattle.laws.proofs.Walks.{byTest}
-use Rattle.laws.proofs.ListLaws.{byOrder, clash}
+use Rattle.laws.proofs.ListLaws.{byOrder, clash, given-some}
 use Rattle.laws.proofs.Edges.{elemOf-true, of-mem-ins, order-grown}
 use Rattle.laws.proofs.Diamonds.{of-mem-outs}
 use Rattle.laws.proofs.Changes.{Local, edges-local, verts-local, bounded-grown}
@@ -32,11 +32,18 @@ use Rattle.memory.specs.declared.Held.{Held}
 use Rattle.memory.proofs.RoomLaws.{fit-vertices, fit-edges, fit-tame, held-vertices}
 use Rattle.shared.specs.Shared.{startAt, lenAt, Suffix}
 use Rattle.merge_suffices.proofs.TryLaws.{prevs-are, prevs-below}
-use Rattle.split_tests.specs.SplitTests.{Testable, suffixOf, Before, Splits}
+use Rattle.split_tests.specs.SplitTests.{Testable, suffixOf, Before, suffixBy, Splits}
+use Rattle.split_tests.specs.declared.OptionSuffix.{OptionSuffix}
+use Rattle.split_tests.specs.declared.OptionSuffix.the-variants.{Some, None}
 use Rattle.split_tests.proofs.TestLaws as T
 use Rattle.split_suffix.specs.Split.{numberOf, newEdges, newVerts, EdgesReady, EdgesDone, VertsReady, VertsDone, Ending, SplitTried}
 use Rattle.split_suffix.proofs.EdgeLoops.{number-low}
 use Rattle.split_suffix.proofs.ListForms as F
+
+given-none : {A : Type 0} (b : Bool) (a : A) → given b a ≡ none → b ≡ false
+unfolding given
+given-none true a e = absurd (let z : _≡_ {A = ℕ} 0 1 = cc in omega arith)
+given-none false a e = refl
 
 module _ {h : Held} {es vs p heads nexts nodes mp : List ℕ} (R : Room es vs p heads nexts nodes mp) (H : Holds h es vs p heads nexts) (I :
     Indexed (h .m) (h .n) es heads nexts)
@@ -85,10 +92,14 @@ module _ {h : Held} {es vs p heads nexts nodes mp : List ℕ} (R : Room es vs p 
   split-to : {t : Bool} → isSplit g bottom (numsIn c prevs) (suffixOf g (numsIn c prevs)) ≡ t → isSplit g bottom before-bottom suffix ≡ t
   split-to e = ap (λ (l : List ℕ). isSplit g bottom l (suffixOf g l)) (sym are) ∙ e
 
-  module _ {s : ℕ} (S : Splits (h .n) (h .m) es vs p prevs c s) where
-    pub left-not : {mp′ : List ℕ} → s ≡ 0 → SplitTried h es vs p heads nexts bottom record { done = false; held = h } es vs mp′
+  module _ {by : OptionSuffix} (S : Splits (h .n) (h .m) es vs p prevs c by) where
+    splits-as : {o : Option ℕ} → suffixBy by ≡ o
+        → given (isSplit g bottom (numsIn c prevs) (suffixOf g (numsIn c prevs))) (length (suffixOf g (numsIn c prevs))) ≡ o
+    splits-as q = sym (S .is (h .k .0) bottom before) ∙ q
+
+    pub left-not : {mp′ : List ℕ} → by ≡ None → SplitTried h es vs p heads nexts bottom record { done = false; held = h } es vs mp′
     unfolding trySplitCommonSuffix splitsSuffix splitSuffix given
-    left-not z = let e = split-to (S .no z (h .k .0) bottom) in record {
+    left-not z = let e = split-to (given-none _ _ (splits-as (ap suffixBy z))) in record {
       left = record {
         no = λ _. rw e;
         same = λ _. refl;
@@ -102,13 +113,10 @@ module _ {h : Held} {es vs p heads nexts nodes mp : List ℕ} (R : Room es vs p 
       kept = λ x. clash x refl;
     }
 
-    module _ (ne : s ≡ 0 → ⊥) where
-      pos : 0 < s
-      pos = byOrder s 0 (λ a. absurd (ne (omega arith))) (λ a. a)
-
+    module _ {s : ℕ} (found : by ≡ Some s) where
       did : trySplitCommonSuffix g bottom ≡ some (applyChange g change)
       unfolding trySplitCommonSuffix splitsSuffix splitSuffix splitChange given
-      did = let e = split-to (S .yes pos (h .k .0) bottom before) in rw e
+      did = let e = split-to ((given-some _ _ s (splits-as (ap suffixBy found))) .0) in rw e
 
       tame : Tame g (applyChange g change) × (nodeCount g < nodeCount (applyChange g change))
       tame = split-tame g (applyChange g change) bottom good did
@@ -136,10 +144,10 @@ module _ {h : Held} {es vs p heads nexts nodes mp : List ℕ} (R : Room es vs p 
       -- ---- by index
 
       two : 2 ≤ c
-      two = S .several pos
+      two = S .by s found .several
 
       shared : Suffix vs p prevs 0 c s
-      shared = S .suffix pos
+      shared = S .by s found .suffix
 
       abbrev start : ℕ
       start = startAt vs prevs 0 + lenAt vs prevs 0 - s
@@ -157,7 +165,7 @@ module _ {h : Held} {es vs p heads nexts nodes mp : List ℕ} (R : Room es vs p 
       outs i b = byOrder (h .m) (getD heads (2 * getD prevs i 0) 0)
           (λ a. absurd (omega (
             arith,
-            eqb-true (length (edgesAt (endOf 0 es) (h .m) (getD prevs i 0))) 1 (S .single pos i b),
+            eqb-true (length (edgesAt (endOf 0 es) (h .m) (getD prevs i 0))) 1 (S .by s found .single i b),
             ap length (at-none (I .index 0 (omega arith)) (below .at i b) (getD heads (2 * getD prevs i 0) 0)
                 (ap (λ (x : ℕ). getD heads x 0) (sym (add-zero (2 * getD prevs i 0)))) a),
           )))

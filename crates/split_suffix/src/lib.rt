@@ -7,6 +7,7 @@ ghost use Rattle.memory.specs.Memory.{Room, Holds};
 ghost use Rattle.split_suffix.specs.Split.{entry, Linkable, LinksDone, BlockReady, BlockDone, EdgesReady, EdgesDone, Cuttable, CutDone, VertsReady, VertsDone, Ending, SplitTried};
 use memory::Held;
 use memory::Tried;
+use split_tests::OptionSuffix;
 
 // The vertex that takes over the edges into a predecessor, where y is its suffix vertex.
 fn entry_of(prefix: bool, y: u32) -> u32
@@ -145,13 +146,13 @@ pub fn try_split_common_suffix(
     let n = held.n;
     let m = held.m;
     let c = index::collect(es, m, n, heads, nexts, 1, bottom, nodes);
-    let s = split_tests::safe_to_split(es, m, n, heads, nexts, vs, p, nodes, c);
-    if s == 0 {
+    let suffix = split_tests::safe_to_split(es, m, n, heads, nexts, vs, p, nodes, c);
+    let OptionSuffix::Some(s) = suffix else {
         return Tried {
             done: false,
             held: held,
         };
-    }
+    };
     let from = suffix_start(vs, nodes[0], s);
     let k = add_edges(es, m, n, heads, nexts, vs, nodes, c, s, bottom as u32, map);
     let j = add_vertices(vs, n, nodes, c, from, s);

@@ -1,6 +1,7 @@
 -- The tests over the index and the pool are the definition's. Assumes nothing.
-use mathlib.Core.Path.{_≡_, refl, sym, ap, _∙_}
+use mathlib.Core.Path.{_≡_, refl, sym, ap, _∙_, subst}
 use mathlib.Core.Bool.{Bool, true, false, not, _&&_}
+use mathlib.Core.Option.{some}
 use mathlib.Core.List.{List, [], _∷_, map, List·Memᴰ}
 use Prim.Native.Nat.{ℕ, zero, suc, _+_, _*_, _-_, _≤_, _<_}
 use native.Mathlib.Nat.{add-zero, zero-add, suc-add, add-suc, not-suc-le-zero}
@@ -8,7 +9,7 @@ use native.Mathlib.Omega.{arith}
 use lib.ListN.{length, getD, drop}
 use lib.Dec.{eqb, ltb}
 use borrow.Author.Tests.{ne-eqb, lt-ltb, le-ltb}
-use Rattle.defs.specs.Lists.{tabFrom, allOf, elemOf, commonSuffix}
+use Rattle.defs.specs.Lists.{tabFrom, allOf, elemOf, commonSuffix, given}
 use Rattle.defs.specs.SeqGraph.{Graph, vertexSequence, outDegree, outgoingNodes, isRefSource}
 use Rattle.defs.specs.Rewrites.{isSplit, nonEmpty, wouldEliminateRefSource}
 use Rattle.laws.proofs.Walks.{byTest}
@@ -24,7 +25,8 @@ use Rattle.shared.specs.Shared.{Parts, startAt, lenAt, seqsAt, Suffix}
 use Rattle.pool.proofs.PoolLaws.{part-long}
 use Rattle.diamond.proofs.TestLaws.{allOf-no}
 use Rattle.merge_suffices.proofs.TestLaws.{allOf-same, seq-at}
-use Rattle.split_tests.specs.SplitTests.{oneOut, isLong, Testable, Eliminates, suffixOf, Before, Splits}
+use Rattle.split_tests.specs.SplitTests.{oneOut, isLong, Testable, Eliminates, suffixOf, Before, SplitBy, Splits}
+use Rattle.split_tests.specs.declared.OptionSuffix.the-variants.{Some, None}
 
 -- ---- the first reference source
 
@@ -199,34 +201,38 @@ module _ {n m : ℕ} {es vs p heads nexts nodes : List ℕ} {c : ℕ} (T : Testa
             each v d = rw (ne-eqb v bottom (B .other v d), B .not-behind v d, out-degree-is k n m es vs p v) (and-one (oneOut m es v))
 
   none-split : ((k bottom : ℕ) → isSplit (graphIn k n m es vs p) bottom (numsIn c nodes) (suffixOf (graphIn k n m es vs p) (numsIn c nodes))
-      ≡ false) → Splits n m es vs p nodes c 0
+      ≡ false) → Splits n m es vs p nodes c None
+  unfolding given
   none-split h = record {
-    no = λ z. h;
-    yes = λ z. absurd (omega arith);
-    suffix = λ z. absurd (omega arith);
-    several = λ z.
-        absurd (omega arith);
-    single = λ z. absurd (omega arith);
+    is = λ k bottom before. rw (h k bottom);
+    by = λ s e. absurd (let z : _≡_ {A = ℕ} 0 1 = cc in omega arith);
   }
 
-  pub split-few : c < 2 → Splits n m es vs p nodes c 0
+  pub split-few : c < 2 → Splits n m es vs p nodes c None
   split-few h = none-split (λ k b. few k b h)
 
-  pub split-branching : allOf (oneOut m es) (numsIn c nodes) ≡ false → Splits n m es vs p nodes c 0
+  pub split-branching : allOf (oneOut m es) (numsIn c nodes) ≡ false → Splits n m es vs p nodes c None
   split-branching t = none-split (λ k b. branching k b t)
 
-  module _ (two : 2 ≤ c) {s : ℕ} (S : Suffix vs p nodes 0 c s) {e : Bool} (E : Eliminates n m es vs nodes c s e) where
-    pub split-eliminates : e ≡ true → Splits n m es vs p nodes c 0
-    split-eliminates t = none-split (λ k b. eliminates k b S two E t)
+  module _ (two : 2 ≤ c) {s : ℕ} (S : Suffix vs p nodes 0 c s) where
+    pub split-empty : s ≡ 0 → Splits n m es vs p nodes c None
+    split-empty z = none-split (λ k b. empty k b S two z)
 
-    pub split-just : allOf (isLong vs s) (numsIn c nodes) ≡ true → Splits n m es vs p nodes c 0
-    split-just t = none-split (λ k b. just k b S two E t)
+    module _ {e : Bool} (E : Eliminates n m es vs nodes c s e) where
+      pub split-eliminates : e ≡ true → Splits n m es vs p nodes c None
+      split-eliminates t = none-split (λ k b. eliminates k b S two E t)
 
-    pub split-by : allOf (oneOut m es) (numsIn c nodes) ≡ true → e ≡ false → allOf (isLong vs s) (numsIn c nodes) ≡ false → Splits n m es vs p nodes c s
-    split-by o t l = record {
-      no = λ z k b. empty k b S two z;
-      yes = λ z k b before. passes k b S two E before o z t l;
-      suffix = λ z. S;
-      several = λ z. two;
-      single = λ z i b. byTest (oneOut m es (getD nodes i 0)) (λ u. u) (λ u. clash o (allOf-no (oneOut m es) c (λ (j : ℕ). getD nodes j 0) i b u));
-    }
+      pub split-just : allOf (isLong vs s) (numsIn c nodes) ≡ true → Splits n m es vs p nodes c None
+      split-just t = none-split (λ k b. just k b S two E t)
+
+      pub split-by : (s ≡ 0 → ⊥) → allOf (oneOut m es) (numsIn c nodes) ≡ true → e ≡ false → allOf (isLong vs s) (numsIn c nodes) ≡ false
+          → Splits n m es vs p nodes c (Some s)
+      unfolding given
+      split-by z o t l = record {
+        is = λ k b before. rw (passes k b S two E before o (omega (arith, z)) t l) (ap some (sym (suffix-long k b S two)));
+        by = λ s′ q. subst (λ (x : ℕ). SplitBy m es vs p nodes c x) (cc) record {
+          suffix = S;
+          several = two;
+          single = λ i b. byTest (oneOut m es (getD nodes i 0)) (λ u. u) (λ u. clash o (allOf-no (oneOut m es) c (λ (j : ℕ). getD nodes j 0) i b u));
+        };
+      }

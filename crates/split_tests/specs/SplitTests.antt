@@ -1,17 +1,20 @@
 -- When the predecessors of a vertex are split. Assumes nothing.
 use mathlib.Core.Path.{_≡_}
 use mathlib.Core.Bool.{Bool, true, false}
+use mathlib.Core.Option.{Option, none, some}
 use mathlib.Core.List.{List, map, List·Memᴰ}
 use Prim.Native.Nat.{ℕ, _+_, _*_, _≤_, _<_}
 use lib.ListN.{length, getD}
 use lib.Dec.{eqb}
-use Rattle.defs.specs.Lists.{elemOf, commonSuffix}
+use Rattle.defs.specs.Lists.{elemOf, commonSuffix, given}
 use Rattle.defs.specs.SeqGraph.{Graph, vertexSequence, outgoingNodes}
 use Rattle.defs.specs.Rewrites.{isSplit, wouldEliminateRefSource}
 use Rattle.store.specs.Store.{graphIn, numsIn, Within}
 use Rattle.compact.specs.Compact.{Below}
 use Rattle.index.specs.Index.{endOf, edgesAt, Indexed}
 use Rattle.shared.specs.Shared.{Suffix}
+use Rattle.split_tests.specs.declared.OptionSuffix.{OptionSuffix}
+use Rattle.split_tests.specs.declared.OptionSuffix.the-variants.{Some, None}
 
 -- v has one follower
 abbrev pub oneOut : ℕ → List ℕ → ℕ → Bool
@@ -41,11 +44,20 @@ pub record Before (g : Graph) (bottom : ℕ) (l : List ℕ) : Type 0 where
   pub other : (v : ℕ) → List·Memᴰ v l → v ≡ bottom → ⊥
   pub not-behind : (v : ℕ) → List·Memᴰ v l → elemOf v (outgoingNodes g bottom) ≡ false
 
--- s is the length of the suffix that they are split by, or 0 where they are not split
-pub record Splits (n m : ℕ) (es vs p nodes : List ℕ) (c s : ℕ) : Type 0 where
-  pub no : s ≡ 0 → (k bottom : ℕ) → isSplit (graphIn k n m es vs p) bottom (numsIn c nodes) (suffixOf (graphIn k n m es vs p) (numsIn c nodes)) ≡ false
-  pub yes : 0 < s → (k bottom : ℕ) → Before (graphIn k n m es vs p) bottom (numsIn c nodes)
-      → isSplit (graphIn k n m es vs p) bottom (numsIn c nodes) (suffixOf (graphIn k n m es vs p) (numsIn c nodes)) ≡ true
-  pub suffix : 0 < s → Suffix vs p nodes 0 c s
-  pub several : 0 < s → 1 < c
-  pub single : 0 < s → (i : ℕ) → i < c → oneOut m es (getD nodes i 0) ≡ true
+-- the length of the suffix that they are split by, or none
+abbrev pub suffixBy : OptionSuffix → Option ℕ
+suffixBy (Some s) = some s
+suffixBy None = none
+
+-- s bytes are what they share; they are several, and each has one follower
+pub record SplitBy (m : ℕ) (es vs p nodes : List ℕ) (c s : ℕ) : Type 0 where
+  pub suffix : Suffix vs p nodes 0 c s
+  pub several : 1 < c
+  pub single : (i : ℕ) → i < c → oneOut m es (getD nodes i 0) ≡ true
+
+-- the answer is the definition's, whatever k and the bottom that the nodes stand before
+pub record Splits (n m : ℕ) (es vs p nodes : List ℕ) (c : ℕ) (r : OptionSuffix) : Type 0 where
+  pub is : (k bottom : ℕ) → Before (graphIn k n m es vs p) bottom (numsIn c nodes)
+      → suffixBy r ≡ given (isSplit (graphIn k n m es vs p) bottom (numsIn c nodes) (suffixOf (graphIn k n m es vs p) (numsIn c nodes)))
+      (length (suffixOf (graphIn k n m es vs p) (numsIn c nodes)))
+  pub by : (s : ℕ) → r ≡ Some s → SplitBy m es vs p nodes c s

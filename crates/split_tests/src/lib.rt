@@ -8,6 +8,12 @@ ghost use Rattle.compact.specs.Compact.{Below};
 ghost use Rattle.index.specs.Index.{Indexed};
 ghost use Rattle.split_tests.specs.SplitTests.{oneOut, isLong, Testable, Eliminates, Splits};
 
+// The suffix that the predecessors of a vertex are split by, as its length, or none.
+pub enum OptionSuffix {
+    Some(usize),
+    None,
+}
+
 // Whether each of the first c of `nodes` has one follower.
 fn all_one_out(
     es: &[u32],
@@ -72,7 +78,7 @@ fn all_long(vs: &[u32], n: usize, nodes: &[u32], c: usize, s: usize) -> bool
     true
 }
 
-// How many bytes the first c of `nodes`, predecessors of a vertex, are split by; 0 where they are not split.
+// The suffix that the first c of `nodes`, predecessors of a vertex, are split by.
 // That none of them is that vertex or follows it needs no test: there is no cycle.
 pub fn safe_to_split(
     es: &[u32],
@@ -84,22 +90,25 @@ pub fn safe_to_split(
     p: &[u8],
     nodes: &[u32],
     c: usize,
-) -> usize
+) -> OptionSuffix
     requires { ⌜ Testable n m (now es) (now vs) (now p) (now heads) (now nexts) (now nodes) c ⌝ }
     ensures { λ r. ⌜ Splits n m (now (es .entry)) (now (vs .entry)) (now (p .entry)) (now (nodes .entry)) c r ⌝ }
 {
     if c < 2 {
-        return 0;
+        return OptionSuffix::None;
     }
     if !all_one_out(es, m, n, heads, nexts, nodes, c) {
-        return 0;
+        return OptionSuffix::None;
     }
     let s = shared::shared_suffix(vs, p, n, nodes, c, 0);
+    if s == 0 {
+        return OptionSuffix::None;
+    }
     if would_eliminate_ref_source(es, m, n, heads, nexts, vs, nodes, c, s) {
-        return 0;
+        return OptionSuffix::None;
     }
     if all_long(vs, n, nodes, c, s) {
-        return 0;
+        return OptionSuffix::None;
     }
-    s
+    OptionSuffix::Some(s)
 }

@@ -16,7 +16,7 @@ use Rattle.index.specs.Index.{pairAt}
 use Rattle.shared.proofs.PartLaws.{length-part}
 use Rattle.split_update.specs.Pushed.{EdgesPushed, VertsPushed, filled, PartPushed, startOf, lenOf, leftNodes, restOf, Restables, RestsPushed}
 use Rattle.split_update.specs.Ends.{endSupport, endFlag, endData, planOf, plansOf, goneNodes, midData, anyRef, midEdges, nothing}
-use Rattle.split_update.proofs.PushLaws.{pushed-none, pushed-one, pushed-then, verts-none, verts-then, nonEmpty-yes, nonEmpty-no}
+use Rattle.split_update.proofs.PushLaws.{pushed-none, pushed-one, pushed-then, verts-none, verts-then, nonEmpty-yes, nonEmpty-no, part-own}
 use Rattle.split_update.proofs.NodeLaws.{left-more, left-same, left-none, left-room, gone-more, gone-same, gone-none, set-max}
 use Rattle.split_update.proofs.NodeLaws.{any-snoc, join-snoc, mid-none, mid-snoc, midEdge, mid-data, length-mid, support-same}
 use Rattle.split_update.proofs.NodeLaws.{flag-same}
@@ -66,15 +66,17 @@ module _ {k : ℕ} {vs₀ p nodes : List ℕ} {c x y : ℕ} (F : Restables k vs�
   )
 
   pub rests-next : {s l j′ : ℕ} {vs′ : List ℕ} → s ≡ startOf vs (getD nodes i 0) → l ≡ lenOf vs (getD nodes i 0)
-      → PartPushed j vs (s + x) (l - y - x) j′ vs′ → RestsPushed k vs₀ p nodes (i + 1) x y j′ vs′
+      → PartPushed j vs (s + x) (part p (s + x) (l - y - x)) j′ vs′ → RestsPushed k vs₀ p nodes (i + 1) x y j′ vs′
   rests-next {s} {l} {j′} {vs′} es el Q =
       let a : s ≡ startOf vs₀ (getD nodes i 0) = es ∙ start-same in
       let b : l ≡ lenOf vs₀ (getD nodes i 0) = el ∙ len-same in
-      let q : VertsPushed j vs p (filled (part p (s + x) (l - y - x))) j′ vs′ = Q .is p (omega (arith, F .inside i h, F .long i h)) in
+      let fits : s + x + (l - y - x) ≤ length p = omega (arith, F .inside i h, F .long i h) in
+      let q : VertsPushed j vs p (filled (part p (s + x) (l - y - x))) j′ vs′ = Q .is p (part-own p (s + x) (l - y - x) fits) in
       record {
         is = subst (λ (new : List (List ℕ)). VertsPushed k vs₀ p new j′ vs′) (sym (rests-more vs₀ p nodes x y i (F .inside i h) (F .long i h)))
             (verts-then (R .is) (subst (λ (z : List ℕ). VertsPushed j vs p (filled z) j′ vs′) (λ t. part p (a t + x) (b t - y - x)) q));
-        within = λ used w. Q .within used (omega (arith, w .at (getD nodes i 0) (F .below i h), F .long i h)) (R .within used w);
+        within = λ used w. Q .within used
+            (omega (arith, w .at (getD nodes i 0) (F .below i h), F .long i h, length-part p (s + x) (l - y - x) fits)) (R .within used w);
       }
 
 -- ---- the flag of the middles that remain

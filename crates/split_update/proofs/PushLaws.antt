@@ -1,12 +1,12 @@
 -- Vertices and edges that are pushed behind the old ones. Assumes nothing.
-use mathlib.Core.Path.{_≡_, refl, sym, ap, _∙_}
+use mathlib.Core.Path.{_≡_, refl, sym, ap, _∙_, subst}
 use mathlib.Core.Bool.{Bool, true, false, not}
 use mathlib.Core.List.{List, [], _∷_, _++_, append-assoc, append-nil}
 use Prim.Native.Nat.{ℕ, _+_, _*_, _-_, _≤_, _<_}
 use native.Mathlib.Omega.{arith}
 use native.Mathlib.Decide.{ℕ-discrete}
-use lib.ListN.{length, getD, set, length-set, length-append, take, drop, length-drop}
-use lib.Seq.{getD-set-same, getD-set-other, length-take-le}
+use lib.ListN.{length, getD, set, length-set, length-append, take, drop}
+use lib.Seq.{getD-set-same, getD-set-other}
 use borrow.Author.Tests.{not-true, not-false}
 use Rattle.defs.specs.Lists.{bit}
 use Rattle.defs.specs.SeqGraph.{Edge}
@@ -14,7 +14,7 @@ use Rattle.defs.specs.Rewrites.{nonEmpty, onlyIf}
 use Rattle.tabs.proofs.Tabs.{tab-snoc, tab-ext}
 use Rattle.store.specs.Store.{edge, edgesIn, putEdge, putVertex, part, seqIn, seqsIn}
 use Rattle.store.proofs.EdgeLaws.{length-put, put-at, put-push}
-use Rattle.shared.proofs.PartLaws.{length-part}
+use Rattle.shared.proofs.PartLaws.{length-part, drop-part, take-part}
 use Rattle.split_update.specs.Pushed.{EdgesPushed, edgeIf, VertsPushed, PartPushed}
 
 -- ---- edges
@@ -107,29 +107,37 @@ unfolding nonEmpty
 nonEmpty-no [] h = refl
 nonEmpty-no (x ∷ l) h = absurd (omega arith)
 
-pub part-none : {k n : ℕ} {vs : List ℕ} {start : ℕ} → n ≡ 0 → PartPushed k vs start n k vs
+pub part-none : {k : ℕ} {vs : List ℕ} {start : ℕ} {q : List ℕ} → length q ≡ 0 → PartPushed k vs start q k vs
 unfolding onlyIf
-part-none {k} {n} {vs} {start} z = record {
-  is = λ p b. rw (nonEmpty-no (part p start n) (length-part p start n b ∙ z)) (verts-none k vs p);
-  within = λ used b w. w;
-}
+part-none {k} {vs} {start} {q} z = record { is = λ p b. rw (nonEmpty-no q z) (verts-none k vs p); within = λ used b w. w }
 
-pub part-put : {k n : ℕ} {vs vs′ : List ℕ} {start : ℕ} → 0 < n → 2 * k + 2 ≤ length vs → vs′ ≡ putVertex vs k start n → PartPushed k vs start n (k + 1) vs′
+pub part-put : {k : ℕ} {vs vs′ : List ℕ} {start : ℕ} {q : List ℕ} → 0 < length q → 2 * k + 2 ≤ length vs
+    → vs′ ≡ putVertex vs k start (length q) → PartPushed k vs start q (k + 1) vs′
 unfolding onlyIf
-part-put {k} {n} {vs} {vs′} {start} z h q = record {
-  is = λ p b. rw (nonEmpty-yes (part p start n) (omega (arith, length-part p start n b))) (verts-one start n p h q);
+part-put {k} {vs} {vs′} {start} {q} z h e = record {
+  is = λ p b. rw (nonEmpty-yes q z)
+      (subst (λ (l : List ℕ). VertsPushed k vs p (l ∷ []) (k + 1) vs′) b (verts-one start (length q) p h e));
   within = λ used b w. record {
     at = λ v c. elim (ℕ-discrete v k) [
-      | yes e ↦ rw (e, q, put-start vs k start n h, put-len vs k start n h) b
-      | no ne ↦ rw (q, put-before vs k start n (2 * v) (omega arith), put-before vs k start n (2 * v + 1) (omega arith)) (w .at v (omega arith))
+      | yes d ↦ rw (d, e, put-start vs k start (length q) h, put-len vs k start (length q) h) b
+      | no ne ↦ rw (e, put-before vs k start (length q) (2 * v) (omega arith), put-before vs k start (length q) (2 * v + 1) (omega arith))
+          (w .at v (omega arith))
     ];
   };
 }
 
+-- a part of the pool stands where it was taken
+pub part-own : (p : List ℕ) (at n : ℕ) → at + n ≤ length p → part p at (length (part p at n)) ≡ part p at n
+part-own p at n b = ap (part p at) (length-part p at n b)
+
 -- the part of a sequence that is handed on
-pub rest-length : (p : List ℕ) (start len x y : ℕ) → x + y ≤ len → start + len ≤ length p
-    → length (take (len - y - x) (drop x (take (start + len - start) (drop start p)))) ≡ len - y - x
-rest-length p start len x y h b =
-    let z : start + len - start ≡ len = omega arith in
-    ap (λ (n : ℕ). length (take (len - y - x) (drop x (take n (drop start p))))) z
-    ∙ length-take-le (len - y - x) (drop x (part p start len)) (omega (arith, length-drop x (part p start len), length-part p start len b))
+module _ (p : List ℕ) (start len x y : ℕ) (h : x + y ≤ len) (b : start + len ≤ length p) where
+  pub rest-is : take (len - y - x) (drop x (take (start + len - start) (drop start p))) ≡ part p (start + x) (len - y - x)
+  rest-is =
+      let z : start + len - start ≡ len = omega arith in
+      ap (λ (n : ℕ). take (len - y - x) (drop x (take n (drop start p)))) z
+      ∙ ap (take (len - y - x)) (drop-part p start len x (omega arith) b)
+      ∙ take-part p (start + x) (len - x) (len - y - x) (omega arith) (omega arith)
+
+  pub rest-length : length (take (len - y - x) (drop x (take (start + len - start) (drop start p)))) ≡ len - y - x
+  rest-length = ap length rest-is ∙ length-part p (start + x) (len - y - x) (omega arith)

@@ -17,7 +17,7 @@ use Rattle.shared.proofs.PartLaws.{length-part}
 use Rattle.shared.proofs.SharedLoops.{in-pool}
 use Rattle.split_update.specs.Pushed.{VertsPushed, filled, PartPushed, startOf, lenOf, leaves, leftNodes, restOf, Restables, RestsPushed}
 use Rattle.split_update.specs.Split.{prefixAt, suffixAt, newVerts, Vertable, VertsAdded}
-use Rattle.split_update.proofs.PushLaws.{verts-then, nonEmpty-yes, nonEmpty-no}
+use Rattle.split_update.proofs.PushLaws.{verts-then, nonEmpty-yes, nonEmpty-no, part-own}
 use Rattle.split_update.proofs.NodeLaws.{left-kept, map-same}
 
 cut-length : (p : List ℕ) (a b : ℕ) → a ≤ b → b ≤ length p → length (take (b - a) (drop a p)) ≡ b - a
@@ -92,12 +92,16 @@ module _ {n : ℕ} {vs p nodes : List ℕ} {c x y : ℕ} (F : Vertable n vs p no
   pub ask₁ : {s l : ℕ} → s ≡ s₀ → l ≡ x → (s + l < 4294967296) × (0 < l → 2 * n + 2 ≤ length vs)
   ask₁ {s} {l} es el = (omega (arith, small₀, long₀), λ (h : 0 < l). omega (arith, room, bit-one x (omega arith)))
 
-  pub part₁ : {s l k₁ : ℕ} {vs₁ : List ℕ} → s ≡ s₀ → l ≡ x → PartPushed n vs s l k₁ vs₁ → PartPushed n vs s₀ x k₁ vs₁
-  part₁ {k₁ = k₁} {vs₁ = vs₁} es el A = rw (← es, ← el) A
+  pub part₁ : {s k₁ : ℕ} {vs₁ : List ℕ} → s ≡ s₀ → PartPushed n vs s (take (s + x - s) (drop s p)) k₁ vs₁
+      → PartPushed n vs s₀ (prefixAt vs p nodes x) k₁ vs₁
+  part₁ {s} {k₁} {vs₁} es A =
+      let z : s + x - s ≡ x = omega arith in
+      subst (λ (q : List ℕ). PartPushed n vs s₀ q k₁ vs₁) (λ i. take (z i) (drop (es i) p))
+      (subst (λ (t : ℕ). PartPushed n vs t (take (s + x - s) (drop s p)) k₁ vs₁) es A)
 
-  module _ {k₁ : ℕ} {vs₁ : List ℕ} (A₁ : PartPushed n vs s₀ x k₁ vs₁) where
+  module _ {k₁ : ℕ} {vs₁ : List ℕ} (A₁ : PartPushed n vs s₀ (prefixAt vs p nodes x) k₁ vs₁) where
     V₁ : VertsPushed n vs p (filled (prefixAt vs p nodes x)) k₁ vs₁
-    V₁ = A₁ .is p at₁
+    V₁ = A₁ .is p (part-own p s₀ x at₁)
 
     k₁-is : k₁ ≡ n + bit (ltb 0 x)
     k₁-is = V₁ .count ∙ ap (λ (z : ℕ). n + z) (length-filled p s₀ x at₁)
@@ -105,12 +109,17 @@ module _ {n : ℕ} {vs p nodes : List ℕ} {c x y : ℕ} (F : Vertable n vs p no
     pub ask₂ : {s l : ℕ} → s ≡ s₀ + l₀ - y → l ≡ y → (s + l < 4294967296) × (0 < l → 2 * k₁ + 2 ≤ length vs₁)
     ask₂ {s} {l} es el = (omega (arith, small₀, long₀), λ (h : 0 < l). omega (arith, room, k₁-is, V₁ .len, bit-one y (omega arith)))
 
-    pub part₂ : {s l k₂ : ℕ} {vs₂ : List ℕ} → s ≡ s₀ + l₀ - y → l ≡ y → PartPushed k₁ vs₁ s l k₂ vs₂ → PartPushed k₁ vs₁ (s₀ + l₀ - y) y k₂ vs₂
-    part₂ es el A = rw (← es, ← el) A
+    pub part₂ : {s l k₂ : ℕ} {vs₂ : List ℕ} → s ≡ s₀ → l ≡ l₀
+        → PartPushed k₁ vs₁ (s + l - y) (take (s + l - (s + l - y)) (drop (s + l - y) p)) k₂ vs₂
+        → PartPushed k₁ vs₁ (s₀ + l₀ - y) (suffixAt vs p nodes y) k₂ vs₂
+    part₂ {s} {l} {k₂} {vs₂} es el A =
+        let z : s + l - (s + l - y) ≡ y = omega (arith, long₀) in
+        subst (λ (q : List ℕ). PartPushed k₁ vs₁ (s₀ + l₀ - y) q k₂ vs₂) (λ i. take (z i) (drop (es i + el i - y) p))
+        (subst (λ (t : ℕ). PartPushed k₁ vs₁ t (take (s + l - (s + l - y)) (drop (s + l - y) p)) k₂ vs₂) (from-is es el) A)
 
-    module _ {k₂ : ℕ} {vs₂ : List ℕ} (A₂ : PartPushed k₁ vs₁ (s₀ + l₀ - y) y k₂ vs₂) where
+    module _ {k₂ : ℕ} {vs₂ : List ℕ} (A₂ : PartPushed k₁ vs₁ (s₀ + l₀ - y) (suffixAt vs p nodes y) k₂ vs₂) where
       V₂ : VertsPushed k₁ vs₁ p (filled (suffixAt vs p nodes y)) k₂ vs₂
-      V₂ = A₂ .is p at₂
+      V₂ = A₂ .is p (part-own p (s₀ + l₀ - y) y at₂)
 
       k₂-is : k₂ ≡ k₁ + bit (ltb 0 y)
       k₂-is = V₂ .count ∙ ap (λ (z : ℕ). k₁ + z) (length-filled p (s₀ + l₀ - y) y at₂)
@@ -150,5 +159,6 @@ module _ {n : ℕ} {vs p nodes : List ℕ} {c x y : ℕ} (F : Vertable n vs p no
         is = verts-then V₁ (verts-then V₂ (subst (λ (z : List (List ℕ)). VertsPushed k₂ vs₂ p z k₃ vs₃) rests-same (A₃ .is)));
         within = λ used w.
             let b = w .at (getD nodes 0 0) (F .parts .below 0 some) in
-            A₃ .within used (A₂ .within used (omega (arith, b, long₀)) (A₁ .within used (omega (arith, b, long₀)) w));
+            A₃ .within used (A₂ .within used (omega (arith, b, long₀, length-part p (s₀ + l₀ - y) y at₂))
+            (A₁ .within used (omega (arith, b, long₀, length-part p s₀ x at₁)) w));
       }

@@ -32,10 +32,10 @@ pub record VertsPushed (k : ℕ) (vs p : List ℕ) (new : List (List ℕ)) (k′
 abbrev pub filled : List ℕ → List (List ℕ)
 filled q = onlyIf (nonEmpty q) (q ∷ [])
 
--- the part of n bytes from `start` on, unless it is empty, whatever the pool
-pub record PartPushed (k : ℕ) (vs : List ℕ) (start n k′ : ℕ) (vs′ : List ℕ) : Type 0 where
-  pub is : (p : List ℕ) → start + n ≤ length p → VertsPushed k vs p (filled (part p start n)) k′ vs′
-  pub within : (used : ℕ) → start + n ≤ used → Within used k vs → Within used k′ vs′
+-- the bytes q as the sequence of vertex k, unless there are none, whatever the pool in which they stand from `start` on
+pub record PartPushed (k : ℕ) (vs : List ℕ) (start : ℕ) (q : List ℕ) (k′ : ℕ) (vs′ : List ℕ) : Type 0 where
+  pub is : (p : List ℕ) → part p start (length q) ≡ q → VertsPushed k vs p (filled q) k′ vs′
+  pub within : (used : ℕ) → start + length q ≤ used → Within used k vs → Within used k′ vs′
 
 -- where a vertex's sequence starts, and how long it is
 abbrev pub startOf : List ℕ → ℕ → ℕ

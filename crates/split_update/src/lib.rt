@@ -6,7 +6,7 @@ ghost use Prim.Native.Nat.{_+_, _*_, _-_, _<_, _≤_};
 ghost use lib.Dec.{eqb};
 ghost use lib.ListN.{length};
 ghost use Rattle.defs.specs.Lists.{bit};
-ghost use Rattle.store.specs.Store.{isSet, putEdge};
+ghost use Rattle.store.specs.Store.{isSet, putEdge, part};
 ghost use Rattle.split_update.specs.Pushed.{PartPushed, Restables, RestsPushed, leftNodes};
 ghost use Rattle.split_update.specs.Ends.{Entered, endSupport, endFlag, Mids, DirectIs, anyRef, plansOf, EdgeIfPushed, MidsPushed, Edgeable, EdgesAdded};
 ghost use Rattle.split_update.specs.Split.{Vertable, VertsAdded, placesOf, Splittable, SplitDone};
@@ -74,10 +74,10 @@ pub fn end_flag(es: &[u32], m: usize, heads: &[u32], off: usize, v: u32) -> u32
     store::edge_flag(es, heads[2 * (v as usize) + 1] as usize)
 }
 
-// A part of the pool that starts at `start` becomes vertex k, unless it is empty; the number of vertices.
+// A part of the pool that starts at `start` becomes the sequence of vertex k, unless it is empty; the number of vertices.
 pub fn push_part(vs: &mut [u32], k: usize, start: usize, part: &[u8]) -> usize
     requires { ⌜ (start + length (now part) < 4294967296) × (0 < length (now part) → 2 * k + 2 ≤ length (now vs)) ⌝ }
-    ensures { λ r. ⌜ PartPushed k (now (vs .entry)) start (length (now (part .entry))) r (now (vs .exit)) ⌝ }
+    ensures { λ r. ⌜ PartPushed k (now (vs .entry)) start (now (part .entry)) r (now (vs .exit)) ⌝ }
 {
     if part.len() == 0 {
         return k;
@@ -98,7 +98,7 @@ pub fn push_rest(
 ) -> usize
     requires { ⌜ (x + y ≤ len) × ((start + len ≤ length (now p)) × (start + len < 4294967296)) ⌝ }
     requires { ⌜ (x + y < len → 2 * k + 2 ≤ length (now vs)) ⌝ }
-    ensures { λ r. ⌜ PartPushed k (now (vs .entry)) (start + x) (len - y - x) r (now (vs .exit)) ⌝ }
+    ensures { λ r. ⌜ PartPushed k (now (vs .entry)) (start + x) (part (now (p .entry)) (start + x) (len - y - x)) r (now (vs .exit)) ⌝ }
 {
     let seq = &p[start..start + len];
     let end = len - y;

@@ -1,6 +1,6 @@
 -- The bytes that are told are the call's response. Assumes nothing.
 use mathlib.Core.Path.{_≡_, refl, sym, ap, _∙_, subst}
-use mathlib.Core.Bool.{Bool, true, false, not}
+use mathlib.Core.Bool.{not}
 use mathlib.Core.Option.{Option, none, some}
 use mathlib.Core.List.{List, [], _∷_, _++_}
 use Prim.Native.Nat.{ℕ, _+_, _*_, _≤_, _<_}
@@ -14,7 +14,7 @@ use Rattle.defs.specs.Record.{decode}
 use Rattle.defs.specs.Refusals.{Cause, refusalOf, sequenceOnly, recordCauses, recordRefusal}
 use Rattle.defs.specs.Calls.{Response, refused, accepted, fits, isNothing, bytesOrNone, respond, referencePathBytesResponse, pathBasesBytesResponse}
 use Rattle.laws.proofs.Walks.{byTest}
-use Rattle.laws.proofs.ListLaws.{clash, given-some, byOrder}
+use Rattle.laws.proofs.ListLaws.{given-some, byOrder}
 use Rattle.laws.proofs.Whole.{no-some}
 use Rattle.memory.specs.Memory.{graphOf, vertexRoom, Room, Holds}
 use Rattle.memory.specs.declared.Held.{Held}
@@ -22,8 +22,10 @@ use Rattle.memory.proofs.RoomLaws.{held-vertices, held-edges, held-ends, fit-by
 use Rattle.index.specs.Index.{Indexable, Indexed}
 use Rattle.accept.specs.Accept.{ReadAs}
 use Rattle.accept.specs.declared.Read.{Read}
-use Rattle.spell.specs.Spell.{Answered, Told}
-use Rattle.spell.specs.declared.Bytes.{Bytes}
+use Rattle.spell.specs.Spell.{Told}
+use Rattle.spell.specs.declared.OptionBytes.{OptionBytes}
+use Rattle.spell.specs.declared.OptionBytes.the-variants.{Some, None}
+use Rattle.spell.proofs.SpellLaws.{none-told, some-told}
 use Rattle.paths.specs.Paths.{Spellable}
 use Rattle.paths.proofs.BytesLaws.{held-spellable, given-yes}
 use Rattle.calls.specs.Answers.{Refuses, Accepts, Responds}
@@ -65,34 +67,41 @@ module _ {bs heads nexts : List ℕ} {r : Read} {es vs p : List ℕ} (A : ReadAs
   -- what is told can be counted in 32 bits
   module _ (ok : r .number ≡ 0) (room : vertexRoom heads < 4294967296) where
     most : {o : Option (List ℕ)} → ((s : List ℕ) → o ≡ some s → length s ≤ sequenceBytes (graphOf (r .held) es vs p .verts))
-        → {out out′ : List ℕ} {b : Bytes} → Told o out b out′ → b .found ≡ true → b .len < 4294967296
-    most h T t = let y = T .yes t in omega (arith, y .2 .size, h (y .0) (y .1), fit-bytes (A .holds ok .fit), room)
+        → {out out′ : List ℕ} {b : OptionBytes} → Told o out b out′ → (n : ℕ) → b ≡ Some n → n < 4294967296
+    most h T n e = let y = some-told T e in omega (arith, y .2 .size, h (y .0) (y .1), fit-bytes (A .holds ok .fit), room)
 
-    pub reference-counted : {out out′ : List ℕ} {b : Bytes} → Told (referencePathBytes (graphOf (r .held) es vs p)) out b out′ → b .found
-        ≡ true → b .len < 4294967296
+    pub reference-counted : {out out′ : List ℕ} {b : OptionBytes} → Told (referencePathBytes (graphOf (r .held) es vs p)) out b out′ → (n : ℕ)
+        → b ≡ Some n → n < 4294967296
     reference-counted T = most (reference-most (graphOf (r .held) es vs p) (A .holds ok .fit .good .0)) T
 
-    pub path-counted : (start : ℕ) (list : List ℕ) {out out′ : List ℕ} {b : Bytes}
+    pub path-counted : (start : ℕ) (list : List ℕ) {out out′ : List ℕ} {b : OptionBytes}
         → Told (given (isPathOf (graphOf (r .held) es vs p) start list) (pathBasesBytes (graphOf (r .held) es vs p) start list)) out b out′
-        → b .found ≡ true → b .len < 4294967296
+        → (n : ℕ) → b ≡ Some n → n < 4294967296
     path-counted start list T =
         let g = graphOf (r .held) es vs p in
         most (λ s e. let y = given-some (isPathOf g start list) (pathBasesBytes g start list) s e in
         omega (arith, ap length (y .1), path-most g (A .holds ok .fit .good .0) start list (y .0))) T
 
+byBytes : {A : Type 0} (b : OptionBytes) → ((n : ℕ) → b ≡ Some n → A) → (b ≡ None → A) → A
+byBytes (Some n) f g = f n refl
+byBytes None f g = g refl
+
+not-both : {A : Type 0} {b : OptionBytes} {n : ℕ} → b ≡ None → b ≡ Some n → A
+not-both p q = absurd (let z : _≡_ {A = ℕ} 0 1 = cc in omega arith)
+
 -- a call that tells o, or the number n where there is none
-module _ {o : Option (List ℕ)} {out out′ : List ℕ} {b : Bytes} (T : Told o out b out′) {x : Response} {n : ℕ} (none-is : o ≡ none → x
+module _ {o : Option (List ℕ)} {out out′ : List ℕ} {b : OptionBytes} (T : Told o out b out′) {x : Response} {n : ℕ} (none-is : o ≡ none → x
     ≡ refused n) (some-is : (s : List ℕ) → o ≡ some s → x ≡ fits (length out) s)
     {t : Tally} {a : Answer} (e : length out′ ≡ length out) (A : Tells b (length out′) n t a) where
-  whole : b .found ≡ true → Responds x out t a out′
-  whole f = let y = T .yes f in byOrder (b .len) (length out′)
-      (λ l. responds-accepted (some-is (y .0) (y .1) ∙ fits-enough (length out) (y .0) (omega (arith, e, y .2 .size))) (y .2 .size) (A .whole f l)
-      (y .2 .is (omega (arith, e)) ∙ ap (λ (k : ℕ). y .0 ++ drop k out) (y .2 .size)))
-      (λ l. responds-refused (some-is (y .0) (y .1) ∙ fits-short (length out) (y .0) (omega (arith, e, y .2 .size))) (A .short f l)
+  whole : (k : ℕ) → b ≡ Some k → Responds x out t a out′
+  whole k f = let y = some-told T f in byOrder k (length out′)
+      (λ l. responds-accepted (some-is (y .0) (y .1) ∙ fits-enough (length out) (y .0) (omega (arith, e, y .2 .size))) (y .2 .size) (A .whole k f l)
+      (y .2 .is (omega (arith, e)) ∙ ap (λ (i : ℕ). y .0 ++ drop i out) (y .2 .size)))
+      (λ l. responds-refused (some-is (y .0) (y .1) ∙ fits-short (length out) (y .0) (omega (arith, e, y .2 .size))) (A .short k f l)
       (y .2 .kept (omega (arith, e))))
 
   pub tells : Responds x out t a out′
-  tells = byTest (b .found) whole (λ f. responds-refused (none-is (T .no f)) (A .none f) (T .same f))
+  tells = byBytes b whole (λ f. let y = none-told T f in responds-refused (none-is (y .0)) (A .none f) (y .1))
 
 -- the responses
 module _ (bs : List ℕ) (room : ℕ) where
@@ -132,15 +141,23 @@ module _ (bs : List ℕ) (start : ℕ) (list : List ℕ) (room : ℕ) where
         respond-fits _ room _ (behind-absent sequenceOnly bs 9 _ z (ap not (y .0))) ∙ ap (fits room) (y .1)
 
 -- the answer that tells
-module _ {b : Bytes} {room missing : ℕ} {t : Tally} {a : Answer} where
-  pub tell-none : b .found ≡ false → Refuses missing t a → Tells b room missing t a
-  tell-none f R = record { none = λ _. R; short = λ t. clash t f; whole = λ t. clash t f }
+module _ {b : OptionBytes} {room missing : ℕ} {t : Tally} {a : Answer} where
+  pub tell-none : b ≡ None → Refuses missing t a → Tells b room missing t a
+  tell-none f R = record { none = λ _. R; short = λ n e. not-both f e; whole = λ n e. not-both f e }
 
-  pub tell-short : b .found ≡ true → room < b .len → Refuses 11 t a → Tells b room missing t a
-  tell-short t l R = record { none = λ f. clash t f; short = λ _ _. R; whole = λ _ k. absurd (omega (arith, l, k)) }
+  pub tell-short : {k : ℕ} → b ≡ Some k → room < k → Refuses 11 t a → Tells b room missing t a
+  tell-short {k} f l R = record {
+    none = λ e. not-both e f;
+    short = λ _ _ _. R;
+    whole = λ n e h. absurd (let z : n ≡ k = cc in omega arith);
+  }
 
-  pub tell-whole : b .found ≡ true → b .len ≤ room → Accepts (b .len) t a → Tells b room missing t a
-  tell-whole t l A = record { none = λ f. clash t f; short = λ _ k. absurd (omega (arith, l, k)); whole = λ _ _. A }
+  pub tell-whole : {k : ℕ} → b ≡ Some k → k ≤ room → Accepts k t a → Tells b room missing t a
+  tell-whole {k} f l A = record {
+    none = λ e. not-both e f;
+    short = λ n e h. absurd (let z : n ≡ k = cc in omega arith);
+    whole = λ n e _. let z : k ≡ n = cc in subst (λ (x : ℕ). Accepts x t a) z A;
+  }
 
 -- the two calls
 module _ {bs heads nexts : List ℕ} {r : Read} {es vs p : List ℕ} (A : ReadAs bs heads nexts r es vs p) {t : Tally} {a : Answer} where
@@ -152,13 +169,13 @@ module _ {bs heads nexts : List ℕ} {r : Read} {es vs p : List ℕ} (A : ReadAs
   path-stopped start list out o R = responds-refused (path-refused bs start list (length out) (sym (A .number)) o) R refl
 
   module _ (ok : r .number ≡ 0) where
-    pub reference-told : {out out′ : List ℕ} {b : Bytes} → Told (referencePathBytes (graphOf (r .held) es vs p)) out b out′ → length out′
+    pub reference-told : {out out′ : List ℕ} {b : OptionBytes} → Told (referencePathBytes (graphOf (r .held) es vs p)) out b out′ → length out′
         ≡ length out → Tells b (length out′) 10 t a → Responds (referencePathBytesResponse bs (length out)) out t a out′
     reference-told {out} {out′} {b} T e S =
         tells (subst (λ (g : Graph). Told (referencePathBytes g) out b out′) (A .is ok) T)
         (reference-none bs (length out) (sym (A .number) ∙ ok)) (reference-some bs (length out) (sym (A .number) ∙ ok)) e S
 
-    pub path-told : (start : ℕ) (list : List ℕ) {out out′ : List ℕ} {b : Bytes}
+    pub path-told : (start : ℕ) (list : List ℕ) {out out′ : List ℕ} {b : OptionBytes}
         → Told (given (isPathOf (graphOf (r .held) es vs p) start list) (pathBasesBytes (graphOf (r .held) es vs p) start list)) out b out′
         → length out′ ≡ length out → Tells b (length out′) 9 t a
         → Responds (pathBasesBytesResponse bs start list (length out)) out t a out′

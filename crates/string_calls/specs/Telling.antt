@@ -1,12 +1,12 @@
 -- A record that is read and indexed; an answer that tells bytes. Assumes nothing.
 use mathlib.Core.Path.{_≡_}
-use mathlib.Core.Bool.{true, false}
 use mathlib.Core.List.{List}
 use Prim.Native.Nat.{ℕ, _≤_, _<_}
 use Rattle.index.specs.Index.{Indexed}
 use Rattle.accept.specs.Accept.{ReadAs}
 use Rattle.accept.specs.declared.Read.{Read}
-use Rattle.spell.specs.declared.Bytes.{Bytes}
+use Rattle.spell.specs.declared.OptionBytes.{OptionBytes}
+use Rattle.spell.specs.declared.OptionBytes.the-variants.{Some, None}
 use Rattle.calls.specs.Answers.{Refuses, Accepts}
 use Rattle.calls.specs.declared.Tally.{Tally}
 use Rattle.calls.specs.declared.Answer.{Answer}
@@ -16,7 +16,7 @@ pub record ReadIndexed (bs heads nexts : List ℕ) (r : Read) (es vs p heads′ 
   pub indexed : r .number ≡ 0 → Indexed (r .held .m) (r .held .n) es heads′ nexts′
 
 -- the number for none; 11 for bytes that the room is too short for; else their length
-pub record Tells (told : Bytes) (room missing : ℕ) (t : Tally) (r : Answer) : Type 0 where
-  pub none : told .found ≡ false → Refuses missing t r
-  pub short : told .found ≡ true → room < told .len → Refuses 11 t r
-  pub whole : told .found ≡ true → told .len ≤ room → Accepts (told .len) t r
+pub record Tells (told : OptionBytes) (room missing : ℕ) (t : Tally) (r : Answer) : Type 0 where
+  pub none : told ≡ None → Refuses missing t r
+  pub short : (n : ℕ) → told ≡ Some n → room < n → Refuses 11 t r
+  pub whole : (n : ℕ) → told ≡ Some n → n ≤ room → Accepts n t r

@@ -1,7 +1,6 @@
 // The string calls: the bytes of the reference path, and of a path along a list of edges. Nothing is asked of the caller.
 ghost use mathlib.Core.Path.{_≡_};
-ghost use mathlib.Core.Bool.{true};
-ghost use Prim.Native.Nat.{_≤_, _<_};
+ghost use Prim.Native.Nat.{ℕ, _≤_, _<_};
 ghost use lib.ListN.{length};
 ghost use Rattle.defs.specs.Calls.{referencePathBytesResponse, pathBasesBytesResponse};
 ghost use Rattle.arrays.specs.Sized.{LentGraph};
@@ -10,7 +9,7 @@ ghost use Rattle.string_calls.specs.Telling.{ReadIndexed, Tells};
 use accept::Read;
 use calls::Answer;
 use calls::Tally;
-use spell::Bytes;
+use spell::OptionBytes;
 
 // Reads a record of kind 1 and indexes its graph.
 fn read_indexed(
@@ -35,15 +34,13 @@ fn read_indexed(
 }
 
 // The answer of a call that told bytes, or none; `missing` is the number for none.
-fn tell(told: Bytes, room: usize, missing: u32, tally: Tally) -> Answer
-    requires { ⌜ (told .found ≡ true → told .len < 4294967296) ⌝ }
+fn tell(told: OptionBytes, room: usize, missing: u32, tally: Tally) -> Answer
+    requires { ⌜ ((n : ℕ) → told ≡ OptionBytes.Some n → n < 4294967296) ⌝ }
     ensures { λ r. ⌜ Tells told room missing tally r ⌝ }
 {
-    let found = told.found;
-    if !found {
+    let OptionBytes::Some(len) = told else {
         return calls::refuse(missing, tally);
-    }
-    let len = told.len;
+    };
     if room < len {
         return calls::refuse(11, tally);
     }

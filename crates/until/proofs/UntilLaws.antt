@@ -8,10 +8,12 @@ use native.Mathlib.Numerals.{add-one}
 use native.Mathlib.Omega.{arith}
 use lib.ListN.{length, getD}
 use lib.Dec.{eqb}
+use borrow.Author.Tests.{eqb-true, eq-eqb, ne-eqb}
+use Rattle.defs.specs.Lists.{anyOf}
 use Rattle.defs.specs.SeqGraph.{Graph, nodeCount}
 use Rattle.defs.specs.Zip as Z
 use Rattle.defs.specs.Rewrites.{tryMergeDiamond, tryMergeTails, tryMergeCommonSuffices}
-use Rattle.defs.specs.Simplify.{firstAt, transformUntilComplete, fuelFor}
+use Rattle.defs.specs.Simplify.{RewriteKind, zip, diamond, tails, split, merge, rewriteKindNumber, firstAt, transformUntilComplete, fuelFor}
 use Rattle.laws.proofs.Walks.{byTest}
 use Rattle.laws.proofs.ListLaws.{clash}
 use Rattle.laws.proofs.Fuel.{Good}
@@ -24,24 +26,86 @@ use Rattle.memory.specs.declared.Held.{Held}
 use Rattle.memory.specs.declared.Tried.{Tried}
 use Rattle.memory.specs.declared.Work.{Work}
 use Rattle.memory.proofs.RoomLaws.{held-vertices, held-edges, held-ends, room-kept, holds-kept}
-use Rattle.until.specs.Until.{rewriteOf, Completed}
+use Rattle.until.specs.Until.{rewriteOf, isTransform, Completed}
+
+-- ---- the kinds and their numbers
+
+-- the kind that has a number
+pub kindOf : ℕ → RewriteKind
+kindOf n =
+    cond (eqb n (rewriteKindNumber diamond)) diamond
+    (cond (eqb n (rewriteKindNumber tails)) tails
+    (cond (eqb n (rewriteKindNumber merge)) merge
+    (cond (eqb n (rewriteKindNumber split)) split zip)))
+
+kind-back : (rewrite : RewriteKind) → kindOf (rewriteKindNumber rewrite) ≡ rewrite
+unfolding kindOf rewriteKindNumber
+kind-back zip = refl
+kind-back diamond = refl
+kind-back tails = refl
+kind-back split = refl
+kind-back merge = refl
+
+-- a transform's number is one of three
+pub one-of-three : (n : ℕ) → isTransform n ≡ true → (n ≡ rewriteKindNumber diamond → ⊥) → (n ≡ rewriteKindNumber tails → ⊥)
+    → (n ≡ rewriteKindNumber merge → ⊥) → ⊥
+unfolding isTransform anyOf
+one-of-three n t a b c =
+    clash t (rw (ne-eqb n (rewriteKindNumber diamond) a, ne-eqb n (rewriteKindNumber tails) b, ne-eqb n (rewriteKindNumber merge) c, anyOf))
+
+pub kind-number : (n : ℕ) → isTransform n ≡ true → rewriteKindNumber (kindOf n) ≡ n
+unfolding kindOf
+kind-number n t = byTest (eqb n (rewriteKindNumber diamond))
+    (λ a. rw a (sym (eqb-true n (rewriteKindNumber diamond) a)))
+    (λ a. byTest (eqb n (rewriteKindNumber tails))
+    (λ b. rw (a, b) (sym (eqb-true n (rewriteKindNumber tails) b)))
+    (λ b. byTest (eqb n (rewriteKindNumber merge))
+    (λ c. rw (a, b, c) (sym (eqb-true n (rewriteKindNumber merge) c)))
+    (λ c. absurd (one-of-three n t (λ q. clash (eq-eqb n (rewriteKindNumber diamond) q) a) (λ q. clash (eq-eqb n (rewriteKindNumber tails) q) b)
+    (λ q. clash (eq-eqb n (rewriteKindNumber merge) q) c)))))
+
+-- what holds of the kind that has the number n
+pub of-kind : {n : ℕ} (P : RewriteKind → Type 0) → P (kindOf n) → (rewrite : RewriteKind) → rewriteKindNumber rewrite ≡ n → P rewrite
+of-kind P h rewrite q = subst P (sym (ap kindOf q) ∙ kind-back rewrite) h
+
+-- what was left by the rewrite of that kind
+module _ {n : ℕ} (f : RewriteKind → Option Graph) {k : Held} {es vs p heads nexts : List ℕ} {r : Tried} {es′ vs′ p′ : List ℕ} where
+  pub left-of-kind : Left (f (kindOf n)) k es vs p heads nexts r es′ vs′ p′ → (rewrite : RewriteKind) → rewriteKindNumber rewrite ≡ n
+      → Left (f rewrite) k es vs p heads nexts r es′ vs′ p′
+  left-of-kind = of-kind (λ (x : RewriteKind). Left (f x) k es vs p heads nexts r es′ vs′ p′)
+
+  pub left-as-kind : (kind : RewriteKind) → n ≡ rewriteKindNumber kind → Left (f kind) k es vs p heads nexts r es′ vs′ p′
+      → (rewrite : RewriteKind) → rewriteKindNumber rewrite ≡ n → Left (f rewrite) k es vs p heads nexts r es′ vs′ p′
+  left-as-kind kind q L = left-of-kind
+      (subst (λ (x : RewriteKind). Left (f x) k es vs p heads nexts r es′ vs′ p′) (sym (ap kindOf q ∙ kind-back kind)) L)
 
 -- ---- what each kind takes away: a merge a vertex, the others a byte
-pub measureOf : ℕ → Graph → ℕ
-measureOf kind g = cond (eqb kind 1) (weight g) (cond (eqb kind 2) (weight g) (nodeCount g))
+pub measureOf : RewriteKind → Graph → ℕ
+measureOf zip g = weight g
+measureOf diamond g = weight g
+measureOf tails g = weight g
+measureOf split g = weight g
+measureOf merge g = nodeCount g
 
-pub falls : (kind least : ℕ) → 3 < least → (g g′ : Graph) (v : ℕ) → Good g → rewriteOf kind least g v ≡ some g′ → Tame g g′
+never : {A : Type 0} (g : Graph) → none ≡ some g → A
+never g q = absurd (let z : _≡_ {A = ℕ} 0 1 = cc in omega arith)
+
+pub falls : (kind : RewriteKind) (least : ℕ) → 3 < least → (g g′ : Graph) (v : ℕ) → Good g → rewriteOf kind least g v ≡ some g′ → Tame g g′
     × (measureOf kind g′ < measureOf kind g)
 unfolding measureOf
-falls kind least pos g g′ v h = byTest (eqb kind 1)
-    (λ t. rw t (λ d. let z = diamond-tame g g′ v h d in (z .0, z .2)))
-    (λ t. rw t (byTest (eqb kind 2)
-    (λ s. rw s (λ d. let z = tails-tame least pos g g′ v h d in (z .0, z .2)))
-    (λ s. rw s (λ d. merge-tame g g′ v h d))))
+falls zip least pos g g′ v h d = never g′ d
+falls diamond least pos g g′ v h d = let z = diamond-tame g g′ v h d in (z .0, z .2)
+falls tails least pos g g′ v h d = let z = tails-tame least pos g g′ v h d in (z .0, z .2)
+falls split least pos g g′ v h d = never g′ d
+falls merge least pos g g′ v h d = merge-tame g g′ v h d
 
-pub measure-most : (kind : ℕ) (g : Graph) → measureOf kind g ≤ weight g
+pub measure-most : (kind : RewriteKind) (g : Graph) → measureOf kind g ≤ weight g
 unfolding measureOf
-measure-most kind g = byTest (eqb kind 1) (λ t. rw t (omega arith)) (λ t. rw t (byTest (eqb kind 2) (λ s. rw s (omega arith)) (λ s. rw s (order-weight g))))
+measure-most zip g = omega arith
+measure-most diamond g = omega arith
+measure-most tails g = omega arith
+measure-most split g = omega arith
+measure-most merge g = order-weight g
 
 -- ---- the first vertex
 
@@ -125,7 +189,7 @@ module _ {f : ℕ → Option Graph} {n : ℕ} {es₀ vs₀ p₀ nodes₀ mp₀ :
 
 -- ---- until complete
 
-pub record Doing (kind least : ℕ) (w₀ : Work) (es₀ vs₀ p₀ heads₀ : List ℕ) (w : Work) (es vs p heads nexts nodes mp : List ℕ) : Type 0 where
+pub record Doing (kind : RewriteKind) (least : ℕ) (w₀ : Work) (es₀ vs₀ p₀ heads₀ : List ℕ) (w : Work) (es vs p heads nexts nodes mp : List ℕ) : Type 0 where
   pub ready : Ready least (w .held) es vs p heads nexts nodes mp
   pub heads-len : length heads ≡ length heads₀
   pub fuel : ℕ
@@ -134,7 +198,7 @@ pub record Doing (kind least : ℕ) (w₀ : Work) (es₀ vs₀ p₀ heads₀ : L
       ≡ transformUntilComplete (rewriteOf kind least) (fuelFor (graphOf (w₀ .held) es₀ vs₀ p₀)) (workOf w₀ es₀ vs₀ p₀)
   pub count : w .rewrites + measureOf kind (graphOf (w .held) es vs p) ≤ w₀ .rewrites + vertexRoom heads₀
 
-module _ {kind least : ℕ} {w₀ : Work} {es₀ vs₀ p₀ heads₀ : List ℕ} where
+module _ {kind : RewriteKind} {least : ℕ} {w₀ : Work} {es₀ vs₀ p₀ heads₀ : List ℕ} where
   pub doing-start : {nexts nodes mp : List ℕ} → Ready least (w₀ .held) es₀ vs₀ p₀ heads₀ nexts nodes mp
       → Doing kind least w₀ es₀ vs₀ p₀ heads₀ w₀ es₀ vs₀ p₀ heads₀ nexts nodes mp
   doing-start R = record {
@@ -158,19 +222,23 @@ module _ {kind least : ℕ} {w₀ : Work} {es₀ vs₀ p₀ heads₀ : List ℕ}
     order-is : nodeCount g ≡ w .held .n
     order-is = order-in (w .held .k .0) (w .held .n) (w .held .m) es vs p
 
-    pub doing-end : {nodes′ mp′ : List ℕ} → r .done ≡ false → length nodes′ ≡ length nodes → length mp′ ≡ length mp
-        → Completed kind least w₀ es₀ vs₀ p₀ w es′ vs′ p′ heads nexts nodes′ mp′
-    doing-end {nodes′} {mp′} t a b = record {
+    pub doing-end : {nodes′ mp′ : List ℕ} (number : ℕ) → kindOf number ≡ kind → r .done ≡ false → length nodes′ ≡ length nodes
+        → length mp′ ≡ length mp → Completed number least w₀ es₀ vs₀ p₀ w es′ vs′ p′ heads nexts nodes′ mp′
+    doing-end {nodes′} {mp′} number q t a b = record {
       ready = record {
         least-is = D .ready .least-is;
         room = room-kept (D .ready .room) (ap length (L .same-es t)) (ap length (L .same-vs t)) (ap length (L .same-p t)) refl refl a b;
         holds = rw (L .same-es t, L .same-vs t, L .same-p t) (D .ready .holds);
         indexed = rw (L .same-es t) (D .ready .indexed);
       };
-      is = (λ j. workOf w (L .same-es t j) (L .same-vs t j) (L .same-p t j)) ∙ sym (stop (D .fuel) (D .enough)) ∙ D .is;
+      is = of-kind claim (subst claim (sym q)
+          ((λ j. workOf w (L .same-es t j) (L .same-vs t j) (L .same-p t j)) ∙ sym (stop (D .fuel) (D .enough)) ∙ D .is));
       most = rw (D .heads-len) (omega (arith, D .count));
     }
       where
+        claim : RewriteKind → Type 0
+        claim x = workOf w es′ vs′ p′ ≡ transformUntilComplete (rewriteOf x least) (fuelFor (graphOf (w₀ .held) es₀ vs₀ p₀)) (workOf w₀ es₀ vs₀ p₀)
+
         stop : (fuel : ℕ) → measureOf kind g < fuel → transformUntilComplete (rewriteOf kind least) fuel (workOf w es vs p) ≡ workOf w es vs p
         stop zero h = absurd (omega arith)
         stop (suc fuel) h = until-none (rewriteOf kind least) fuel (workOf w es vs p) (ap (firstAt (rewriteOf kind least g) 0) order-is ∙ L .no t)
@@ -217,7 +285,7 @@ module _ {kind least : ℕ} {w₀ : Work} {es₀ vs₀ p₀ heads₀ : List ℕ}
           }
 
 -- the slices that were scanned are those at the start
-module _ (kind least : ℕ) {n : ℕ} {h : Held} {es₀ vs₀ p₀ nodes₀ mp₀ es vs p nodes mp : List ℕ} {v : ℕ}
+module _ (kind : RewriteKind) (least : ℕ) {n : ℕ} {h : Held} {es₀ vs₀ p₀ nodes₀ mp₀ es vs p nodes mp : List ℕ} {v : ℕ}
     (S : Scanning (rewriteOf kind least (graphOf h es₀ vs₀ p₀)) n es₀ vs₀ p₀ nodes₀ mp₀ es vs p nodes mp v) where
   pub scan-ready : {heads nexts : List ℕ} → Ready least h es₀ vs₀ p₀ heads nexts nodes₀ mp₀ → Ready least h es vs p heads nexts nodes mp
   scan-ready R = record {

@@ -1,16 +1,17 @@
 // A rewrite at the first vertex that allows it, and until no vertex allows it.
 ghost use mathlib.Core.Path.{_≡_};
+ghost use mathlib.Core.Bool.{true};
 ghost use Prim.Native.Nat.{ℕ, _+_, _*_, _<_, _≤_};
 ghost use lib.ListN.{length};
 ghost use Rattle.defs.specs.SeqGraph.{nodeCount};
-ghost use Rattle.defs.specs.Simplify.{firstAt};
+ghost use Rattle.defs.specs.Simplify.{RewriteKind, rewriteKindNumber, firstAt};
 ghost use Rattle.memory.specs.Memory.{graphOf, Ready, Counted, Left};
-ghost use Rattle.until.specs.Until.{rewriteOf, Completed};
+ghost use Rattle.until.specs.Until.{rewriteOf, isTransform, Completed};
 use memory::Held;
 use memory::Tried;
 use memory::Work;
 
-// The rewrite of a kind at v: 1 diamond, 2 tails, 4 merge.
+// The rewrite at v of the kind that has the number `kind`: diamond, tails or merge. Zips take whole chains, and splits have marks.
 pub fn try_rewrite(
     kind: u32,
     least: usize,
@@ -24,10 +25,11 @@ pub fn try_rewrite(
     map: &mut [u32],
     v: usize,
 ) -> Tried
-    requires { ⌜ Ready least held (now es) (now vs) (now p) (now heads) (now nexts) (now nodes) (now map) × (v < held .n) ⌝ }
-    ensures { λ r. ⌜ Left (rewriteOf kind least (graphOf held (now (es .entry)) (now (vs .entry)) (now (p .entry))) v) held
-        (now (es .entry)) (now (vs .entry)) (now (p .entry)) (now (heads .entry)) (now (nexts .entry)) r (now (es .exit)) (now (vs .exit))
-        (now (p .exit)) ⌝ }
+    requires { ⌜ (isTransform kind ≡ true) × (Ready least held (now es) (now vs) (now p) (now heads) (now nexts) (now nodes) (now map)
+        × (v < held .n)) ⌝ }
+    ensures { λ r. ⌜ ((rewrite : RewriteKind) → rewriteKindNumber rewrite ≡ kind
+        → Left (rewriteOf rewrite least (graphOf held (now (es .entry)) (now (vs .entry)) (now (p .entry))) v) held (now (es .entry))
+        (now (vs .entry)) (now (p .entry)) (now (heads .entry)) (now (nexts .entry)) r (now (es .exit)) (now (vs .exit)) (now (p .exit))) ⌝ }
 {
     match kind {
         1 => merge_diamond::try_merge_diamond(held, es, vs, p, heads, nexts, nodes, map, v as u32),
@@ -43,7 +45,7 @@ pub fn try_rewrite(
             v as u32,
             least,
         ),
-        _ => merge_suffices::try_merge_common_suffices(
+        4 => merge_suffices::try_merge_common_suffices(
             held,
             es,
             vs,
@@ -54,6 +56,11 @@ pub fn try_rewrite(
             map,
             v,
         ),
+        // The contract rules every other number out.
+        _ => Tried {
+            done: false,
+            held: held,
+        },
     }
 }
 
@@ -70,10 +77,11 @@ pub fn first_at(
     nodes: &mut [u32],
     map: &mut [u32],
 ) -> Tried
-    requires { ⌜ Ready least held (now es) (now vs) (now p) (now heads) (now nexts) (now nodes) (now map) ⌝ }
-    ensures { λ r. ⌜ Left (firstAt (rewriteOf kind least (graphOf held (now (es .entry)) (now (vs .entry)) (now (p .entry)))) 0 (held .n))
-        held (now (es .entry)) (now (vs .entry)) (now (p .entry)) (now (heads .entry)) (now (nexts .entry)) r (now (es .exit))
-        (now (vs .exit)) (now (p .exit)) ⌝ }
+    requires { ⌜ (isTransform kind ≡ true) × Ready least held (now es) (now vs) (now p) (now heads) (now nexts) (now nodes) (now map) ⌝ }
+    ensures { λ r. ⌜ ((rewrite : RewriteKind) → rewriteKindNumber rewrite ≡ kind
+        → Left (firstAt (rewriteOf rewrite least (graphOf held (now (es .entry)) (now (vs .entry)) (now (p .entry)))) 0 (held .n)) held
+        (now (es .entry)) (now (vs .entry)) (now (p .entry)) (now (heads .entry)) (now (nexts .entry)) r (now (es .exit)) (now (vs .exit))
+        (now (p .exit))) ⌝ }
 {
     let n = held.n;
     let mut v = 0;
@@ -104,7 +112,8 @@ pub fn transform_until_complete(
     nodes: &mut [u32],
     map: &mut [u32],
 ) -> Work
-    requires { ⌜ Ready least (work .held) (now es) (now vs) (now p) (now heads) (now nexts) (now nodes) (now map) × Counted (work .rewrites) (now heads) ⌝ }
+    requires { ⌜ (isTransform kind ≡ true) × (Ready least (work .held) (now es) (now vs) (now p) (now heads) (now nexts) (now nodes) (now map)
+        × Counted (work .rewrites) (now heads)) ⌝ }
     ensures { λ r. ⌜ Completed kind least work (now (es .entry)) (now (vs .entry)) (now (p .entry)) r (now (es .exit)) (now (vs .exit))
         (now (p .exit)) (now (heads .exit)) (now (nexts .exit)) (now (nodes .exit)) (now (map .exit)) ⌝ }
 {

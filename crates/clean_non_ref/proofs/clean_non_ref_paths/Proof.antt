@@ -1,5 +1,6 @@
 -- `clean_non_ref::clean_non_ref_paths` meets its contract. Assumes nothing.
 use mathlib.Core.Path.{_∙_}
+use Rattle.refs.proofs.RefLaws.{source-below, sink-below}
 use Rattle.orphans.proofs.OrphanLaws.{reduced-as}
 use Rattle.clean_non_ref.proofs.CleanNonRefLaws.{untouched, no-source, no-sink, chosen-is}
 use borrow.Author.Needs.{needs}
@@ -12,7 +13,7 @@ returns c =
     (start .args .held)
     (start .pre .0 .ends)
     (no-source (start .args .held) (start .args .es .now) (start .args .vs .now)
-    (at-rsv .reference-source-vertex .ensures) (c .if1 .taken))
+    (at-rsv .reference-source-vertex .ensures) (c .enum-told .given .1))
   where
     at-rsv : tie.After-reference-source-vertex
     at-rsv = search
@@ -26,38 +27,44 @@ returns-2 c =
     (start .args .held)
     (start .pre .0 .ends)
     (no-sink (start .args .held) (start .args .es .now) (start .args .vs .now)
-    (at-rsv-2 .reference-source-vertex .ensures) (at-if1 .if1 .left) (at-rsv .reference-sink-vertex .ensures)
-    (c .if2 .taken))
+    (at-rsv-2 .reference-source-vertex .ensures) (at-s .s .given .1) (at-rsv .reference-sink-vertex .ensures)
+    (c .enum-told2 .given .1))
   where
     at-rsv : tie.After-reference-sink-vertex
     at-rsv = search
 
-    at-if1 : tie.Else1
-    at-if1 = let c = at-rsv in search
+    at-s : tie.After-s
+    at-s = let c = at-rsv in search
 
     at-rsv-2 : tie.After-reference-source-vertex
-    at-rsv-2 = let c = at-if1 in search
+    at-rsv-2 = let c = at-s in search
 
     start : tie.Start
     start = let c = at-rsv-2 in let c : tie.After-build-index = search in search
 
 clean-between-requires : tie.Need-clean-between-requires
 clean-between-requires c κs = (
-  at-if1 .if1 .left,
+  source-below (at-rsv-2 .reference-source-vertex .ensures) (at-s .s .given .1),
   (
-    at-if2 .if2 .left,
+    sink-below (at-rsv .reference-sink-vertex .ensures) (at-t .t .given .1),
     (start .pre .1 .0 .small, (start .pre .0, (at-build-index .build-index .ensures, start .pre .1 .1))),
   ),
 )
   where
-    at-if2 : tie.Else2
-    at-if2 = search
+    at-t : tie.After-t
+    at-t = search
 
-    at-if1 : tie.Else1
-    at-if1 = let c = at-if2 in search
+    at-rsv : tie.After-reference-sink-vertex
+    at-rsv = let c = at-t in search
+
+    at-s : tie.After-s
+    at-s = let c = at-rsv in search
+
+    at-rsv-2 : tie.After-reference-source-vertex
+    at-rsv-2 = let c = at-s in search
 
     at-build-index : tie.After-build-index
-    at-build-index = let c = at-if1 in search
+    at-build-index = let c = at-rsv-2 in search
 
     start : tie.Start
     start = let c = at-build-index in search
@@ -94,24 +101,24 @@ returns-3 : tie.Need-returns-3
 returns-3 c =
     reduced-as
     (chosen-is (start .args .held) (start .args .es .now) (start .args .vs .now)
-    (at-rsv-2 .reference-source-vertex .ensures) (at-if1 .if1 .left) (at-rsv .reference-sink-vertex .ensures)
-    (at-if2 .if2 .left))
+    (at-rsv-2 .reference-source-vertex .ensures) (at-s .s .given .1) (at-rsv .reference-sink-vertex .ensures)
+    (at-t .t .given .1))
     (at-clean-between .clean-between .ensures)
   where
     at-clean-between : tie.After-clean-between
     at-clean-between = let c : tie.After-vs = search in search
 
-    at-if2 : tie.Else2
-    at-if2 = let c = at-clean-between in search
+    at-t : tie.After-t
+    at-t = let c = at-clean-between in search
 
     at-rsv : tie.After-reference-sink-vertex
-    at-rsv = let c = at-if2 in search
+    at-rsv = let c = at-t in search
 
-    at-if1 : tie.Else1
-    at-if1 = let c = at-rsv in search
+    at-s : tie.After-s
+    at-s = let c = at-rsv in search
 
     at-rsv-2 : tie.After-reference-source-vertex
-    at-rsv-2 = let c = at-if1 in search
+    at-rsv-2 = let c = at-s in search
 
     start : tie.Start
     start = let c = at-rsv-2 in let c : tie.After-build-index = search in search
@@ -150,8 +157,12 @@ clean-non-ref-paths-spec =
     (λ c. search needs)
     (λ c. search needs)
     (λ c. search needs)
+    (λ c. search needs)
+    (λ c. search needs)
     returns
     (λ c κs. let at-build-index : tie.After-build-index = search in at-build-index .build-index .ensures)
+    (λ c. search needs)
+    (λ c. search needs)
     (λ c. search needs)
     (λ c. search needs)
     (λ c. search needs)

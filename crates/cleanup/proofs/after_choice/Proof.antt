@@ -1,4 +1,5 @@
 -- `cleanup::after_choice` meets its contract. Assumes nothing.
+use Rattle.refs.proofs.RefLaws.{source-below, sink-below}
 use Rattle.cleanup.proofs.CleanUpLaws.{after-no-source, after-no-sink, after-chosen}
 use borrow.Author.Needs.{needs}
 use Rattle.cleanup.proofs.after_choice.Statement.{statement}
@@ -10,14 +11,14 @@ returns c =
     (start .args .work)
     (start .pre .0 .holds)
     (start .pre .1 .1 .1 .0)
-    (at-if1 .if1 .taken)
+    (at-enum-told .enum-told .given .1)
     (c .just-reference .ensures)
   where
-    at-if1 : tie.Then1
-    at-if1 = search
+    at-enum-told : tie.After-enum-told
+    at-enum-told = search
 
     start : tie.Start
-    start = let c = at-if1 in search
+    start = let c = at-enum-told in search
 
 returns-2 : tie.Need-returns-2
 returns-2 c =
@@ -25,32 +26,40 @@ returns-2 c =
     (start .args .work)
     (start .pre .0 .holds)
     (start .pre .1 .1 .1 .0)
-    (at-if1 .if1 .left)
+    (at-source .source .given .1)
     (start .pre .1 .1 .1 .1)
-    (at-if2 .if2 .taken)
+    (at-enum-told2 .enum-told2 .given .1)
     (c .just-reference2 .ensures)
   where
-    at-if2 : tie.Then2
-    at-if2 = search
+    at-enum-told2 : tie.After-enum-told2
+    at-enum-told2 = search
 
-    at-if1 : tie.Else1
-    at-if1 = let c = at-if2 in search
+    at-source : tie.After-source
+    at-source = let c = at-enum-told2 in search
 
     start : tie.Start
-    start = let c = at-if1 in search
+    start = let c = at-source in search
 
 keep-between-requires : tie.Need-keep-between-requires
-keep-between-requires c κs =
-    (start .pre .0, (start .pre .1 .0, (start .pre .1 .1 .0, (at-if1 .if1 .left, at-if2 .if2 .left))))
+keep-between-requires c κs = (
+  start .pre .0,
+  (
+    start .pre .1 .0,
+    (
+      start .pre .1 .1 .0,
+      (source-below (start .pre .1 .1 .1 .0) (at-source .source .given .1), sink-below (start .pre .1 .1 .1 .1) (at-sink .sink .given .1)),
+    ),
+  ),
+)
   where
-    at-if2 : tie.Else2
-    at-if2 = search
+    at-sink : tie.After-sink
+    at-sink = search
 
-    at-if1 : tie.Else1
-    at-if1 = let c = at-if2 in search
+    at-source : tie.After-source
+    at-source = let c = at-sink in search
 
     start : tie.Start
-    start = let c = at-if1 in search
+    start = let c = at-source in search
 
 same-length : tie.Need-same-length
 same-length c =
@@ -106,29 +115,33 @@ returns-3 : tie.Need-returns-3
 returns-3 c =
     after-chosen
     (start .pre .1 .1 .1 .0)
-    (at-if1 .if1 .left)
+    (at-source .source .given .1)
     (start .pre .1 .1 .1 .1)
-    (at-if2 .if2 .left)
+    (at-sink .sink .given .1)
     (at-keep-between .keep-between .ensures)
   where
     at-keep-between : tie.After-keep-between
     at-keep-between = let c : tie.After-nexts = search in search
 
-    at-if2 : tie.Else2
-    at-if2 = let c = at-keep-between in search
+    at-sink : tie.After-sink
+    at-sink = let c = at-keep-between in search
 
-    at-if1 : tie.Else1
-    at-if1 = let c = at-if2 in search
+    at-source : tie.After-source
+    at-source = let c = at-sink in search
 
     start : tie.Start
-    start = let c = at-if1 in search
+    start = let c = at-source in search
 
 pub after-choice-spec : {M : Type 1} → statement M
 after-choice-spec =
     tie.close
     (tie.spec
+    (λ c. search needs)
+    (λ c. search needs)
     (λ c κs. search needs)
     returns
+    (λ c. search needs)
+    (λ c. search needs)
     (λ c κs. search needs)
     returns-2
     keep-between-requires

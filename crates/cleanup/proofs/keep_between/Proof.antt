@@ -52,8 +52,8 @@ add-dummy-vertex-requires c κs =
     start : tie.Start
     start = let c = at-rpnctr in let c : tie.After-held = search in search
 
-add-t57 : tie.Need-add-t57
-add-t57 c =
+add-rewrites : tie.Need-add-rewrites
+add-rewrites c =
     omega (
       arith,
       between-counted (start .args .work) (start .args .s) (start .args .t) (start .pre .0 .holds)
@@ -193,7 +193,7 @@ keep-between-spec =
     remove-paths-not-connected-to-ref-requires
     simplify-graph-full-requires
     add-dummy-vertex-requires
-    add-t57
+    add-rewrites
     same-length
     same-length-2
     same-length-3

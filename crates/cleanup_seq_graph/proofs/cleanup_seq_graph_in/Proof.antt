@@ -62,14 +62,17 @@ send-record-requires : tie.Need-send-record-requires
 send-record-requires c κs =
     lent-sendable
     (start .pre .graph) _
-    (made-status (at-read-and-clean .read-and-clean .ensures) (start .args .tally) (at-if1 .if1 .left))
+    (made-status (at-read-and-clean .read-and-clean .ensures) (start .args .tally) (at-status-number .status-number .ensures))
     (at-read-and-clean .read-and-clean .ensures .holds (at-if1 .if1 .left))
     (at-read-and-clean .read-and-clean .kept .1 .0)
     (at-read-and-clean .read-and-clean .kept .1 .1 .0)
     (at-read-and-clean .read-and-clean .kept .1 .1 .1 .0)
   where
+    at-status-number : tie.After-status-number
+    at-status-number = search
+
     at-if1 : tie.Else1
-    at-if1 = search
+    at-if1 = let c = at-status-number in search
 
     at-read-and-clean : tie.After-read-and-clean
     at-read-and-clean = let c = at-if1 in let c : tie.After-nexts = search in search
@@ -119,6 +122,7 @@ returns-2 c =
     (at-read-and-clean .read-and-clean .ensures) _
     (λ i. omega (arith, at-ssk .shared-slice-known .given i))
     (at-if1 .if1 .left)
+    (at-status-number .status-number .ensures)
     (at-send-record .send-record .ensures)
     (at-if2 .if2 .taken)
     (c .refuse-cleanup2 .ensures)
@@ -129,8 +133,11 @@ returns-2 c =
     at-send-record : tie.After-send-record
     at-send-record = let c = at-if2 in search
 
+    at-status-number : tie.After-status-number
+    at-status-number = let c = at-send-record in search
+
     at-if1 : tie.Else1
-    at-if1 = let c = at-send-record in search
+    at-if1 = let c = at-status-number in search
 
     at-read-and-clean : tie.After-read-and-clean
     at-read-and-clean = let c = at-if1 in let c : tie.After-nexts = search in search
@@ -180,6 +187,7 @@ returns-3 c =
     (at-read-and-clean .read-and-clean .ensures) _
     (λ i. omega (arith, at-ssk .shared-slice-known .given i))
     (at-if1 .if1 .left)
+    (at-status-number .status-number .ensures)
     (at-send-record .send-record .ensures)
     (at-if2 .if2 .left)
     (c .accept-cleanup .ensures)
@@ -190,8 +198,11 @@ returns-3 c =
     at-send-record : tie.After-send-record
     at-send-record = let c = at-if2 in search
 
+    at-status-number : tie.After-status-number
+    at-status-number = let c = at-send-record in search
+
     at-if1 : tie.Else1
-    at-if1 = let c = at-send-record in search
+    at-if1 = let c = at-status-number in search
 
     at-read-and-clean : tie.After-read-and-clean
     at-read-and-clean = let c = at-if1 in let c : tie.After-nexts = search in search
@@ -216,6 +227,7 @@ cleanup-seq-graph-in-spec =
     same-length-9
     same-length-10
     returns
+    (λ c κs. search needs)
     send-record-requires
     refuse-cleanup-requires-2
     same-length-11

@@ -1,6 +1,7 @@
 -- `connected::remove_vertices_not_connected_to_ref` meets its contract. Assumes nothing.
 use native.Mathlib.Omega.{arith}
 use mathlib.Core.Path.{_∙_}
+use Rattle.refs.proofs.RefLaws.{source-below}
 use Rattle.orphans.proofs.OrphanLaws.{reduced-as}
 use Rattle.connected.proofs.ConnectedLaws.{reduced-same, no-source-stays, connected-stay, compactable-kept}
 use borrow.Author.Needs.{needs}
@@ -13,7 +14,7 @@ returns c =
     (start .args .held)
     (start .pre .0 .ends)
     (no-source-stays (start .args .held) (start .args .es .now) (start .args .vs .now)
-    (at-rsv .reference-source-vertex .ensures) (c .if1 .taken))
+    (at-rsv .reference-source-vertex .ensures) (c .enum-told .given .1))
   where
     at-rsv : tie.After-reference-source-vertex
     at-rsv = search
@@ -23,18 +24,21 @@ returns c =
 
 mark-unreached-requires : tie.Need-mark-unreached-requires
 mark-unreached-requires c κs = (
-  at-if1 .if1 .left,
+  source-below (at-rsv .reference-source-vertex .ensures) (at-s .s .given .1),
   (omega (arith, at-fill .fill .kept .0, start .pre .0 .mp-room), (start .pre .1 .0, start .pre .1 .1)),
 )
   where
     at-fill : tie.After-fill
     at-fill = search
 
-    at-if1 : tie.Else1
-    at-if1 = let c = at-fill in search
+    at-s : tie.After-s
+    at-s = let c = at-fill in search
+
+    at-rsv : tie.After-reference-source-vertex
+    at-rsv = let c = at-s in search
 
     start : tie.Start
-    start = let c = at-if1 in search
+    start = let c = at-rsv in search
 
 remove-marked-requires : tie.Need-remove-marked-requires
 remove-marked-requires c κs =
@@ -70,7 +74,7 @@ returns-2 : tie.Need-returns-2
 returns-2 c =
     reduced-as
     (connected-stay (start .args .held) (start .args .es .now) (start .args .vs .now) (start .pre .0 .ends) _
-    (at-fill .fill .ensures) (at-rsv .reference-source-vertex .ensures) (at-if1 .if1 .left)
+    (at-fill .fill .ensures) (at-rsv .reference-source-vertex .ensures) (at-s .s .given .1)
     (at-mark-unreached .mark-unreached .ensures))
     (at-remove-marked .remove-marked .ensures)
   where
@@ -83,11 +87,11 @@ returns-2 c =
     at-fill : tie.After-fill
     at-fill = let c = at-mark-unreached in search
 
-    at-if1 : tie.Else1
-    at-if1 = let c = at-fill in search
+    at-s : tie.After-s
+    at-s = let c = at-fill in search
 
     at-rsv : tie.After-reference-source-vertex
-    at-rsv = let c = at-if1 in search
+    at-rsv = let c = at-s in search
 
     start : tie.Start
     start = let c = at-rsv in search
@@ -107,6 +111,8 @@ remove-vertices-not-connected-to-ref-spec =
     tie.close
     (tie.spec
     (λ c κs. search needs)
+    (λ c. search needs)
+    (λ c. search needs)
     (λ c. search needs)
     returns
     (λ c κs. search needs)

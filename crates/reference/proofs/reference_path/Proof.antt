@@ -1,6 +1,7 @@
 -- `reference::reference_path` meets its contract. Assumes nothing.
 use native.Mathlib.Omega.{arith}
 use Prim.Native.Nat.{_-_}
+use borrow.Author.Needs.{needs}
 use lib.ListN.{length, length-set}
 use mathlib.Core.Path.{_∙_}
 use Rattle.reference.proofs.WalkLaws.{
@@ -33,7 +34,7 @@ returns-2 c =
     (at-loop-test .loop-test .taken) _
     (at-if1 .if1 .left)
     (at-nor .next-on-reference .ensures)
-    (c .if2 .taken)
+    (c .enum-told .given .1)
 
 loop-again : tie.Need-loop-again Inv-loop μ-loop
 loop-again c =
@@ -42,13 +43,14 @@ loop-again c =
     let at-loop-test : tie.In-loop Inv-loop μ-loop = search in
     let at-loop : tie.At-loop Inv-loop μ-loop = search in
     let start : tie.Start Inv-loop μ-loop = search in
+    let at-w : tie.After-w Inv-loop μ-loop = search in
     walking-more
     (at-loop .loop .inv)
     (start .pre .0 .room)
     (at-loop-test .loop-test .taken)
     (at-if1 .if1 .left)
     (at-nor .next-on-reference .ensures)
-    (c .if2 .left)
+    (at-w .w .given .1)
 
 slice-write-nodes : tie.Need-slice-write-nodes Inv-loop μ-loop
 slice-write-nodes c = omega (arith, start .pre .0 .room, at-loop .loop .inv .len)
@@ -82,6 +84,18 @@ same-length-2 c =
     let at-loop : tie.At-loop Inv-loop μ-loop = search in
     length-set (at-loop .loop .nodes) _ _ ∙ at-loop .loop .inv .len
 
+cast-v : tie.Need-cast-v Inv-loop μ-loop
+cast-v c = omega (arith, start .pre .0 .small, at-nor .next-on-reference .ensures .below _ (at-w .w .given .1))
+  where
+    at-w : tie.After-w Inv-loop μ-loop
+    at-w = search
+
+    at-nor : tie.After-next-on-reference Inv-loop μ-loop
+    at-nor = let c = at-w in search
+
+    start : tie.Start Inv-loop μ-loop
+    start = let c = at-nor in search
+
 pub reference-path-spec : {M : Type 1} → statement M
 reference-path-spec =
     tie.close
@@ -95,9 +109,11 @@ reference-path-spec =
     same-length
     returns
     next-on-reference-requires
+    (λ c. search needs)
+    (λ c. search needs)
     same-length-2
     returns-2
-    (λ c. let start : tie.Start Inv-loop μ-loop = search in omega (arith, start .pre .0 .small))
+    cast-v
     (λ c. omega arith)
     loop-again
     (λ c. let at-loop : tie.At-loop Inv-loop μ-loop = search in at-loop .loop .inv .len)

@@ -1,6 +1,9 @@
 -- `rounds::simplify_graph_once` meets its contract. Assumes nothing.
 use native.Mathlib.Omega.{arith}
 use mathlib.Core.Path.{refl, sym, _∙_}
+use Rattle.defs.specs.Lists.{anyOf}
+use Rattle.defs.specs.Simplify.{rewriteKindNumber}
+use Rattle.until.specs.Until.{isTransform}
 use Rattle.rounds.proofs.OnceLaws.{with-least, any-least, zip-ready, once}
 use Rattle.memory.proofs.RoomLaws.{held-vertices}
 use borrow.Author.Needs.{needs}
@@ -13,19 +16,28 @@ use Rattle.until.proofs.transform_until_complete.Reads as transform-until-compl
 use Rattle.zips.proofs.zip_linear_chains.Reads as zip-linear-chains-reads
 
 transform-until-complete-requires : tie.Need-transform-until-complete-requires
-transform-until-complete-requires c κs = search needs
+transform-until-complete-requires c κs = (
+  unfold isTransform anyOf rewriteKindNumber in refl,
+  (start .pre .0, record { small = omega (arith, start .pre .1 .0 .small) }),
+)
+  where
+    start : tie.Start
+    start = let c : tie.After-slice-known5 = search in search
 
 transform-until-complete-requires-2 : tie.Need-transform-until-complete-requires-2
 transform-until-complete-requires-2 c κs = (
-  at-tuc .transform-until-complete .ensures .ready,
-  record {
-    small = omega (
-      arith,
-      at-tuc .transform-until-complete .ensures .most,
-      start .pre .1 .0 .small,
-      at-tuc .transform-until-complete .kept .1 .1 .1 .1 .1 .1 .0,
-    );
-  },
+  unfold isTransform anyOf rewriteKindNumber in refl,
+  (
+    at-tuc .transform-until-complete .ensures .ready,
+    record {
+      small = omega (
+        arith,
+        at-tuc .transform-until-complete .ensures .most,
+        start .pre .1 .0 .small,
+        at-tuc .transform-until-complete .kept .1 .1 .1 .1 .1 .1 .0,
+      );
+    },
+  ),
 )
   where
     at-tuc : tie.After-transform-until-complete
@@ -69,22 +81,25 @@ split-until-complete-requires c κs = (
 
 transform-until-complete-requires-3 : tie.Need-transform-until-complete-requires-3
 transform-until-complete-requires-3 c κs = (
-  with-least (start .pre .0 .least-is) (at-suc .split-until-complete .ensures .ready),
-  record {
-    small = omega (
-      arith,
-      at-tuc .transform-until-complete .ensures .most,
-      at-tuc2 .transform-until-complete2 .ensures .most,
-      at-suc .split-until-complete .ensures .most,
-      start .pre .1 .0 .small,
-      at-tuc .transform-until-complete .kept .1 .1 .1 .1 .1 .1 .0,
-      at-tuc2 .transform-until-complete2 .kept .1 .1 .1 .1 .1 .1 .0
-          ∙ at-tuc .transform-until-complete .kept .1 .1 .1 .1 .1 .1 .0,
-      at-suc .split-until-complete .kept .1 .1 .1 .1 .0
-          ∙ at-tuc2 .transform-until-complete2 .kept .1 .1 .1 .1 .1 .1 .0
-          ∙ at-tuc .transform-until-complete .kept .1 .1 .1 .1 .1 .1 .0,
-    );
-  },
+  unfold isTransform anyOf rewriteKindNumber in refl,
+  (
+    with-least (start .pre .0 .least-is) (at-suc .split-until-complete .ensures .ready),
+    record {
+      small = omega (
+        arith,
+        at-tuc .transform-until-complete .ensures .most,
+        at-tuc2 .transform-until-complete2 .ensures .most,
+        at-suc .split-until-complete .ensures .most,
+        start .pre .1 .0 .small,
+        at-tuc .transform-until-complete .kept .1 .1 .1 .1 .1 .1 .0,
+        at-tuc2 .transform-until-complete2 .kept .1 .1 .1 .1 .1 .1 .0
+            ∙ at-tuc .transform-until-complete .kept .1 .1 .1 .1 .1 .1 .0,
+        at-suc .split-until-complete .kept .1 .1 .1 .1 .0
+            ∙ at-tuc2 .transform-until-complete2 .kept .1 .1 .1 .1 .1 .1 .0
+            ∙ at-tuc .transform-until-complete .kept .1 .1 .1 .1 .1 .1 .0,
+      );
+    },
+  ),
 )
   where
     at-suc : tie.After-split-until-complete

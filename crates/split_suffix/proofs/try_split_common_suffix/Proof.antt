@@ -48,7 +48,7 @@ returns c =
     (at-collect .collect .ensures)
     (at-collect .collect .kept .1 .1 .1 .1 .1 .1 .1 .0)
     (at-safe-to-split .safe-to-split .ensures)
-    (c .if1 .taken)
+    (c .enum-told .given .1)
   where
     at-safe-to-split : tie.After-safe-to-split
     at-safe-to-split = search
@@ -68,13 +68,13 @@ slice-read-suffix-start c =
     (at-collect .collect .ensures)
     (at-collect .collect .kept .1 .1 .1 .1 .1 .1 .1 .0)
     (at-safe-to-split .safe-to-split .ensures)
-    (at-if1 .if1 .left)
+    (at-suffix .suffix .given .1)
   where
-    at-if1 : tie.Else1
-    at-if1 = search
+    at-suffix : tie.After-suffix
+    at-suffix = search
 
     at-safe-to-split : tie.After-safe-to-split
-    at-safe-to-split = let c = at-if1 in search
+    at-safe-to-split = let c = at-suffix in search
 
     at-collect : tie.After-collect
     at-collect = let c = at-safe-to-split in search
@@ -91,13 +91,13 @@ suffix-start-requires c κs =
     (at-collect .collect .ensures)
     (at-collect .collect .kept .1 .1 .1 .1 .1 .1 .1 .0)
     (at-safe-to-split .safe-to-split .ensures)
-    (at-if1 .if1 .left)
+    (at-suffix .suffix .given .1)
   where
-    at-if1 : tie.Else1
-    at-if1 = search
+    at-suffix : tie.After-suffix
+    at-suffix = search
 
     at-safe-to-split : tie.After-safe-to-split
-    at-safe-to-split = let c = at-if1 in search
+    at-safe-to-split = let c = at-suffix in search
 
     at-collect : tie.After-collect
     at-collect = let c = at-safe-to-split in search
@@ -122,14 +122,14 @@ add-edges-requires c κs =
     (at-collect .collect .ensures)
     (at-collect .collect .kept .1 .1 .1 .1 .1 .1 .1 .0)
     (at-safe-to-split .safe-to-split .ensures)
-    (at-if1 .if1 .left)
+    (at-suffix .suffix .given .1)
     (start .pre .1 .1 .1)
   where
-    at-if1 : tie.Else1
-    at-if1 = search
+    at-suffix : tie.After-suffix
+    at-suffix = search
 
     at-safe-to-split : tie.After-safe-to-split
-    at-safe-to-split = let c = at-if1 in search
+    at-safe-to-split = let c = at-suffix in search
 
     at-collect : tie.After-collect
     at-collect = let c = at-safe-to-split in search
@@ -146,13 +146,13 @@ add-vertices-requires c κs =
     (at-collect .collect .ensures)
     (at-collect .collect .kept .1 .1 .1 .1 .1 .1 .1 .0)
     (at-safe-to-split .safe-to-split .ensures)
-    (at-if1 .if1 .left)
+    (at-suffix .suffix .given .1)
   where
-    at-if1 : tie.Else1
-    at-if1 = let c : tie.After-suffix-start = search in search
+    at-suffix : tie.After-suffix
+    at-suffix = let c : tie.After-suffix-start = search in search
 
     at-safe-to-split : tie.After-safe-to-split
-    at-safe-to-split = let c = at-if1 in search
+    at-safe-to-split = let c = at-suffix in search
 
     at-collect : tie.After-collect
     at-collect = let c = at-safe-to-split in search
@@ -163,12 +163,12 @@ add-vertices-requires c κs =
 remove-vertices-by-id-requires : tie.Need-remove-vertices-by-id-requires
 remove-vertices-by-id-requires c κs = (
   split-compactable (start .pre .0) (start .pre .1 .0) (start .pre .1 .1 .0) (at-collect .collect .ensures)
-      (at-collect .collect .kept .1 .1 .1 .1 .1 .1 .1 .0) (at-safe-to-split .safe-to-split .ensures) (at-if1 .if1 .left)
+      (at-collect .collect .kept .1 .1 .1 .1 .1 .1 .1 .0) (at-safe-to-split .safe-to-split .ensures) (at-suffix .suffix .given .1)
       (at-add-edges .add-edges .ensures) (at-add-vertices .add-vertices .ensures) (at-suffix-start .suffix-start .ensures)
       (at-add-edges .add-edges .kept .0) (at-add-vertices .add-vertices .kept .0)
       (at-add-edges .add-edges .kept .1 .1 .1 .1 .1 .1 .1 .1 .1 .1 .0),
   split-below (start .pre .0) (start .pre .1 .0) (start .pre .1 .1 .0) (at-collect .collect .ensures)
-      (at-collect .collect .kept .1 .1 .1 .1 .1 .1 .1 .0) (at-safe-to-split .safe-to-split .ensures) (at-if1 .if1 .left)
+      (at-collect .collect .kept .1 .1 .1 .1 .1 .1 .1 .0) (at-safe-to-split .safe-to-split .ensures) (at-suffix .suffix .given .1)
       (at-add-edges .add-edges .ensures) (at-add-vertices .add-vertices .ensures) (at-suffix-start .suffix-start .ensures),
 )
   where
@@ -181,11 +181,11 @@ remove-vertices-by-id-requires c κs = (
     at-suffix-start : tie.After-suffix-start
     at-suffix-start = let c = at-add-edges in search
 
-    at-if1 : tie.Else1
-    at-if1 = let c = at-suffix-start in search
+    at-suffix : tie.After-suffix
+    at-suffix = let c = at-suffix-start in search
 
     at-safe-to-split : tie.After-safe-to-split
-    at-safe-to-split = let c = at-if1 in search
+    at-safe-to-split = let c = at-suffix in search
 
     at-collect : tie.After-collect
     at-collect = let c = at-safe-to-split in search
@@ -212,7 +212,7 @@ returns-2 c =
     (at-collect .collect .ensures)
     (at-collect .collect .kept .1 .1 .1 .1 .1 .1 .1 .0)
     (at-safe-to-split .safe-to-split .ensures)
-    (at-if1 .if1 .left)
+    (at-suffix .suffix .given .1)
     (at-add-edges .add-edges .ensures)
     (at-add-vertices .add-vertices .ensures)
     (at-suffix-start .suffix-start .ensures)
@@ -230,11 +230,11 @@ returns-2 c =
     at-suffix-start : tie.After-suffix-start
     at-suffix-start = let c = at-add-edges in search
 
-    at-if1 : tie.Else1
-    at-if1 = let c = at-suffix-start in search
+    at-suffix : tie.After-suffix
+    at-suffix = let c = at-suffix-start in search
 
     at-safe-to-split : tie.After-safe-to-split
-    at-safe-to-split = let c = at-if1 in search
+    at-safe-to-split = let c = at-suffix in search
 
     at-collect : tie.After-collect
     at-collect = let c = at-safe-to-split in search
@@ -248,6 +248,8 @@ try-split-common-suffix-spec =
     (tie.spec
     collect-requires
     safe-to-split-requires
+    (λ c. search needs)
+    (λ c. search needs)
     (λ c. search needs)
     (λ c. search needs)
     (λ c. search needs)

@@ -6,6 +6,7 @@ use Rattle.split_tests.proofs.TestLaws.{
   parts,
   split-few,
   split-branching,
+  split-empty,
   split-eliminates,
   split-just,
   split-by,
@@ -18,14 +19,14 @@ would-eliminate-ref-source-requires c κs =
     let start : tie.Start = search in
     (start .pre .vs-room, (start .pre .below, start .pre .indexed))
 
-returns-3 : tie.Need-returns-3
-returns-3 c =
+returns-4 : tie.Need-returns-4
+returns-4 c =
     split-eliminates
     (start .pre)
     (at-if1 .if1 .left)
     (at-shared-suffix .shared-suffix .ensures)
     (at-wers .would-eliminate-ref-source .ensures)
-    (c .if3 .taken)
+    (c .if4 .taken)
   where
     at-wers : tie.After-would-eliminate-ref-source
     at-wers = search
@@ -44,14 +45,14 @@ all-long-requires c κs =
     let start : tie.Start = search in
     (start .pre .vs-room, start .pre .below)
 
-returns-4 : tie.Need-returns-4
-returns-4 c =
+returns-5 : tie.Need-returns-5
+returns-5 c =
     split-just
     (start .pre)
     (at-if1 .if1 .left)
     (at-shared-suffix .shared-suffix .ensures)
     (at-wers .would-eliminate-ref-source .ensures)
-    (sym (at-all-long .all-long .ensures) ∙ c .if4 .taken)
+    (sym (at-all-long .all-long .ensures) ∙ c .if5 .taken)
   where
     at-all-long : tie.After-all-long
     at-all-long = search
@@ -68,28 +69,32 @@ returns-4 c =
     start : tie.Start
     start = let c = at-if1 in search
 
-returns-5 : tie.Need-returns-5
-returns-5 c =
+returns-6 : tie.Need-returns-6
+returns-6 c =
     split-by
     (start .pre)
     (at-if1 .if1 .left)
     (at-shared-suffix .shared-suffix .ensures)
     (at-wers .would-eliminate-ref-source .ensures)
-    (sym (at-all-one-out .all-one-out .ensures) ∙ not-false _ (at-if2 .if2 .left))
     (at-if3 .if3 .left)
-    (sym (at-all-long .all-long .ensures) ∙ c .if4 .left)
+    (sym (at-all-one-out .all-one-out .ensures) ∙ not-false _ (at-if2 .if2 .left))
+    (at-if4 .if4 .left)
+    (sym (at-all-long .all-long .ensures) ∙ c .if5 .left)
   where
     at-all-long : tie.After-all-long
     at-all-long = search
 
-    at-if3 : tie.Else3
-    at-if3 = let c = at-all-long in search
+    at-if4 : tie.Else4
+    at-if4 = let c = at-all-long in search
 
     at-wers : tie.After-would-eliminate-ref-source
-    at-wers = let c = at-if3 in search
+    at-wers = let c = at-if4 in search
+
+    at-if3 : tie.Else3
+    at-if3 = let c = at-wers in search
 
     at-shared-suffix : tie.After-shared-suffix
-    at-shared-suffix = let c = at-wers in search
+    at-shared-suffix = let c = at-if3 in search
 
     at-if2 : tie.Else2
     at-if2 = let c = at-shared-suffix in search
@@ -102,6 +107,13 @@ returns-5 c =
 
     start : tie.Start
     start = let c = at-if1 in search
+
+returns-3 : tie.Need-returns-3
+returns-3 c =
+    let at-shared-suffix : tie.After-shared-suffix = search in
+    let at-if1 : tie.Else1 = search in
+    let start : tie.Start = search in
+    split-empty (start .pre) (at-if1 .if1 .left) (at-shared-suffix .shared-suffix .ensures) (c .if3 .taken)
 
 returns-2 : tie.Need-returns-2
 returns-2 c =
@@ -126,8 +138,9 @@ safe-to-split-spec =
     (λ c κs. let start : tie.Start = search in (start .pre .below, start .pre .indexed))
     returns-2
     shared-suffix-requires
-    would-eliminate-ref-source-requires
     returns-3
-    all-long-requires
+    would-eliminate-ref-source-requires
     returns-4
-    returns-5)
+    all-long-requires
+    returns-5
+    returns-6)

@@ -82,8 +82,7 @@ push-part-requires-2 : tie.Need-push-part-requires-2
 push-part-requires-2 c κs =
     ask₂
     (start .pre)
-    (part₁ (start .pre) (at-vertex-start .vertex-start .ensures)
-    (first-part (start .pre) (at-vertex-start .vertex-start .ensures)) (at-push-part .push-part .ensures))
+    (part₁ (start .pre) (at-vertex-start .vertex-start .ensures) (at-push-part .push-part .ensures))
     (from-is (start .pre) (at-vertex-start .vertex-start .ensures) (at-vertex-len .vertex-len .ensures))
     (last-part (start .pre) (at-vertex-start .vertex-start .ensures) (at-vertex-len .vertex-len .ensures))
   where
@@ -103,13 +102,9 @@ push-rests-requires : tie.Need-push-rests-requires
 push-rests-requires c κs =
     rests
     (start .pre)
-    (part₁ (start .pre) (at-vertex-start .vertex-start .ensures)
-    (first-part (start .pre) (at-vertex-start .vertex-start .ensures)) (at-push-part .push-part .ensures))
-    (part₂ (start .pre) (part₁ (start .pre) (at-vertex-start .vertex-start .ensures)
-    (first-part (start .pre) (at-vertex-start .vertex-start .ensures)) (at-push-part .push-part .ensures))
-    (from-is (start .pre) (at-vertex-start .vertex-start .ensures) (at-vertex-len .vertex-len .ensures))
-    (last-part (start .pre) (at-vertex-start .vertex-start .ensures) (at-vertex-len .vertex-len .ensures))
-    (at-push-part2 .push-part2 .ensures))
+    (part₁ (start .pre) (at-vertex-start .vertex-start .ensures) (at-push-part .push-part .ensures))
+    (part₂ (start .pre) (part₁ (start .pre) (at-vertex-start .vertex-start .ensures) (at-push-part .push-part .ensures))
+    (at-vertex-start .vertex-start .ensures) (at-vertex-len .vertex-len .ensures) (at-push-part2 .push-part2 .ensures))
   where
     at-push-part2 : tie.After-push-part2
     at-push-part2 = search
@@ -130,13 +125,9 @@ returns : tie.Need-returns
 returns c =
     verts-added
     (start .pre)
-    (part₁ (start .pre) (at-vertex-start .vertex-start .ensures)
-    (first-part (start .pre) (at-vertex-start .vertex-start .ensures)) (at-push-part .push-part .ensures))
-    (part₂ (start .pre) (part₁ (start .pre) (at-vertex-start .vertex-start .ensures)
-    (first-part (start .pre) (at-vertex-start .vertex-start .ensures)) (at-push-part .push-part .ensures))
-    (from-is (start .pre) (at-vertex-start .vertex-start .ensures) (at-vertex-len .vertex-len .ensures))
-    (last-part (start .pre) (at-vertex-start .vertex-start .ensures) (at-vertex-len .vertex-len .ensures))
-    (at-push-part2 .push-part2 .ensures))
+    (part₁ (start .pre) (at-vertex-start .vertex-start .ensures) (at-push-part .push-part .ensures))
+    (part₂ (start .pre) (part₁ (start .pre) (at-vertex-start .vertex-start .ensures) (at-push-part .push-part .ensures))
+    (at-vertex-start .vertex-start .ensures) (at-vertex-len .vertex-len .ensures) (at-push-part2 .push-part2 .ensures))
     (at-push-rests .push-rests .ensures)
   where
     at-push-rests : tie.After-push-rests

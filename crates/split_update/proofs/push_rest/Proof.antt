@@ -1,9 +1,10 @@
 -- `split_update::push_rest` meets its contract. Assumes nothing.
 use native.Mathlib.Omega.{arith}
 use mathlib.Core.Path.{subst}
+use mathlib.Core.List.{List}
 use Prim.Native.Nat.{ℕ, _+_}
 use Rattle.split_update.specs.Pushed.{PartPushed}
-use Rattle.split_update.proofs.PushLaws.{rest-length}
+use Rattle.split_update.proofs.PushLaws.{rest-is, rest-length}
 use borrow.Author.Needs.{needs}
 use Rattle.split_update.proofs.push_rest.Statement.{statement}
 use Rattle.split_update.proofs.push_rest.Tie as tie
@@ -28,9 +29,9 @@ returns c =
     let at-push-part : tie.After-push-part = search in
     let start : tie.Start = search in
     subst
-    (λ (n : ℕ). PartPushed (start .args .k) (start .args .vs .now) (start .args .start + start .args .x) n
+    (λ (q : List ℕ). PartPushed (start .args .k) (start .args .vs .now) (start .args .start + start .args .x) q
     (at-push-part .push-part .result) (at-push-part .push-part .last .0))
-    (rest-length (start .args .p .now) (start .args .start) (start .args .len) (start .args .x) (start .args .y)
+    (rest-is (start .args .p .now) (start .args .start) (start .args .len) (start .args .x) (start .args .y)
     (start .pre .0 .0) (start .pre .0 .1 .0))
     (at-push-part .push-part .ensures)
 

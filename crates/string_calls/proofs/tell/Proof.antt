@@ -1,58 +1,46 @@
 -- `string_calls::tell` meets its contract. Assumes nothing.
 use native.Mathlib.Omega.{arith}
-use borrow.Author.Tests.{not-true, not-false}
 use Rattle.string_calls.proofs.StringLaws.{tell-none, tell-short, tell-whole}
 use borrow.Author.Needs.{needs}
 use Rattle.string_calls.proofs.tell.Statement.{statement}
 use Rattle.string_calls.proofs.tell.Tie as tie
-use Rattle.string_calls.proofs.tell.Reads as reads
-use Rattle.string_calls.proofs.tell.Lts as lts
-use Rattle.calls.proofs.accept.Reads as accept-reads
-use Rattle.calls.proofs.refuse.Reads as refuse-reads
-
-refuse-requires : tie.Need-refuse-requires
-refuse-requires c κs = search needs
 
 returns : tie.Need-returns
 returns c =
-    let at-if1 : tie.Then1 = search in
-    tell-none (not-true _ (at-if1 .if1 .taken)) (c .refuse .ensures)
-
-refuse-requires-2 : tie.Need-refuse-requires-2
-refuse-requires-2 c κs = search needs
+    let at-enum-told : tie.After-enum-told = search in
+    tell-none (at-enum-told .enum-told .given .1) (c .refuse .ensures)
 
 returns-2 : tie.Need-returns-2
 returns-2 c =
-    let at-if2 : tie.Then2 = search in
-    let at-if1 : tie.Else1 = search in
-    tell-short (not-false _ (at-if1 .if1 .left)) (at-if2 .if2 .taken) (c .refuse2 .ensures)
+    let at-if1 : tie.Then1 = search in
+    let at-told : tie.After-told = search in
+    tell-short (at-told .told .given .1) (at-if1 .if1 .taken) (c .refuse2 .ensures)
 
 cast-accept : tie.Need-cast-accept
-cast-accept c = omega (arith, start .pre (not-false _ (at-if1 .if1 .left)))
+cast-accept c = omega (arith, start .pre _ (at-told .told .given .1))
   where
-    at-if1 : tie.Else1
-    at-if1 = search
+    at-told : tie.After-told
+    at-told = search
 
     start : tie.Start
-    start = let c = at-if1 in search
-
-accept-requires : tie.Need-accept-requires
-accept-requires c κs = search needs
+    start = let c = at-told in search
 
 returns-3 : tie.Need-returns-3
 returns-3 c =
-    let at-if2 : tie.Else2 = search in
     let at-if1 : tie.Else1 = search in
-    tell-whole (not-false _ (at-if1 .if1 .left)) (at-if2 .if2 .left) (c .accept .ensures)
+    let at-told : tie.After-told = search in
+    tell-whole (at-told .told .given .1) (at-if1 .if1 .left) (c .accept .ensures)
 
 pub tell-spec : {M : Type 1} → statement M
 tell-spec =
     tie.close
     (tie.spec
-    refuse-requires
+    (λ c. search needs)
+    (λ c. search needs)
+    (λ c κs. search needs)
     returns
-    refuse-requires-2
+    (λ c κs. search needs)
     returns-2
     cast-accept
-    accept-requires
+    (λ c κs. search needs)
     returns-3)

@@ -7,6 +7,9 @@ use Rattle.memory.specs.Memory.{graphOf}
 use Rattle.memory.proofs.RoomLaws.{held-vertices}
 use Rattle.until.specs.Until.{rewriteOf}
 use Rattle.until.proofs.UntilLaws.{
+  kindOf,
+  kind-number,
+  left-of-kind,
   Scanning,
   scanning-start,
   scanning-more,
@@ -20,14 +23,19 @@ use Rattle.until.proofs.first_at.Tie as tie
 
 abbrev Inv-loop : tie.InvT-loop
 Inv-loop kind least held es₀ vs₀ p₀ heads nexts nodes₀ map₀ n v₀ es vs p nodes map v =
-    Scanning (rewriteOf kind least (graphOf held es₀ vs₀ p₀)) n es₀ vs₀ p₀ nodes₀ map₀ es vs p nodes map v
+    Scanning (rewriteOf (kindOf kind) least (graphOf held es₀ vs₀ p₀)) n es₀ vs₀ p₀ nodes₀ map₀ es vs p nodes map v
 
 abbrev μ-loop : tie.MeasureT-loop
 μ-loop kind least held es₀ vs₀ p₀ heads nexts nodes₀ map₀ n v₀ es vs p nodes map v = n - v
 
 try-rewrite-requires : tie.Need-try-rewrite-requires Inv-loop μ-loop
-try-rewrite-requires c κs =
-    (scan-ready (start .args .kind) (start .args .least) (at-loop .loop .inv) (start .pre), at-loop-test .loop-test .taken)
+try-rewrite-requires c κs = (
+  start .pre .0,
+  (
+    scan-ready (kindOf (start .args .kind)) (start .args .least) (at-loop .loop .inv) (start .pre .1),
+    at-loop-test .loop-test .taken,
+  ),
+)
   where
     at-loop-test : tie.In-loop Inv-loop μ-loop
     at-loop-test = search
@@ -70,11 +78,11 @@ same-length-5 c =
 
 returns : tie.Need-returns Inv-loop μ-loop
 returns c =
-    scanning-found
-    (at-loop .loop .inv)
-    (at-loop-test .loop-test .taken)
-    (scan-left (start .args .kind) (start .args .least) (at-loop .loop .inv) (at-try-rewrite .try-rewrite .ensures))
-    (c .if1 .taken)
+    left-of-kind _
+    (scanning-found (at-loop .loop .inv) (at-loop-test .loop-test .taken)
+    (scan-left (kindOf (start .args .kind)) (start .args .least) (at-loop .loop .inv)
+    (at-try-rewrite .try-rewrite .ensures (kindOf (start .args .kind)) (kind-number _ (start .pre .0))))
+    (c .if1 .taken))
   where
     at-try-rewrite : tie.After-try-rewrite Inv-loop μ-loop
     at-try-rewrite = search
@@ -93,9 +101,9 @@ add-v c =
     omega (
       arith,
       at-loop-test .loop-test .taken,
-      held-vertices (start .pre .holds),
-      start .pre .room .small,
-      start .pre .room .vertices-edges,
+      held-vertices (start .pre .1 .holds),
+      start .pre .1 .room .small,
+      start .pre .1 .room .vertices-edges,
     )
   where
     at-loop-test : tie.In-loop Inv-loop μ-loop
@@ -109,7 +117,8 @@ loop-again c =
     scanning-more
     (at-loop .loop .inv)
     (at-loop-test .loop-test .taken)
-    (scan-left (start .args .kind) (start .args .least) (at-loop .loop .inv) (at-try-rewrite .try-rewrite .ensures))
+    (scan-left (kindOf (start .args .kind)) (start .args .least) (at-loop .loop .inv)
+    (at-try-rewrite .try-rewrite .ensures (kindOf (start .args .kind)) (kind-number _ (start .pre .0))))
     (c .if1 .left)
     (at-try-rewrite .try-rewrite .kept .1 .1 .1 .1 .1 .1 .1 .1 .0)
     (at-try-rewrite .try-rewrite .kept .1 .1 .1 .1 .1 .1 .1 .1 .1 .0)
@@ -129,7 +138,7 @@ loop-again c =
 returns-2 : tie.Need-returns-2 Inv-loop μ-loop
 returns-2 c =
     let at-loop : tie.At-loop Inv-loop μ-loop = search in
-    scanning-none (at-loop .loop .inv) (c .loop-test .left) _ _ _
+    left-of-kind _ (scanning-none (at-loop .loop .inv) (c .loop-test .left) _ _ _)
 
 pub first-at-spec : {M : Type 1} → statement M
 first-at-spec =

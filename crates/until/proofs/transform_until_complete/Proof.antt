@@ -5,6 +5,8 @@ use borrow.Author.Tests.{not-true, not-false}
 use lib.ListN.{length}
 use Rattle.memory.specs.Memory.{graphOf}
 use Rattle.until.proofs.UntilLaws.{
+  kindOf,
+  kind-number,
   measureOf,
   Doing,
   doing-start,
@@ -19,13 +21,14 @@ use Rattle.until.proofs.transform_until_complete.Tie as tie
 
 abbrev Inv-loop : tie.InvT-loop
 Inv-loop kind least es₀ vs₀ p₀ heads₀ nexts₀ nodes₀ map₀ w₀ es vs p heads nexts nodes map w =
-    Doing kind least w₀ es₀ vs₀ p₀ heads₀ w es vs p heads nexts nodes map
+    Doing (kindOf kind) least w₀ es₀ vs₀ p₀ heads₀ w es vs p heads nexts nodes map
     ×
     ((length es ≡ length es₀) × ((length vs ≡ length vs₀) × ((length p ≡ length p₀) × ((length heads ≡ length heads₀) ×
     ((length nexts ≡ length nexts₀) × ((length nodes ≡ length nodes₀) × (length map ≡ length map₀)))))))
 
 abbrev μ-loop : tie.MeasureT-loop
-μ-loop kind least es₀ vs₀ p₀ heads₀ nexts₀ nodes₀ map₀ w₀ es vs p heads nexts nodes map w = measureOf kind (graphOf (w .held) es vs p)
+μ-loop kind least es₀ vs₀ p₀ heads₀ nexts₀ nodes₀ map₀ w₀ es vs p heads nexts nodes map w =
+    measureOf (kindOf kind) (graphOf (w .held) es vs p)
 
 same-length : tie.Need-same-length Inv-loop μ-loop
 same-length c =
@@ -67,9 +70,11 @@ returns : tie.Need-returns Inv-loop μ-loop
 returns c =
     let at-first-at : tie.After-first-at Inv-loop μ-loop = search in
     let at-loop : tie.At-loop Inv-loop μ-loop = search in
+    let start : tie.Start Inv-loop μ-loop = search in
     doing-end
     (at-loop .loop .inv .0)
-    (at-first-at .first-at .ensures)
+    (at-first-at .first-at .ensures (kindOf (start .args .kind)) (kind-number _ (start .pre .0)))
+    (start .args .kind) refl
     (not-true _ (c .if1 .taken))
     (at-first-at .first-at .kept .1 .1 .1 .1 .1 .1 .1 .1 .0)
     (at-first-at .first-at .kept .1 .1 .1 .1 .1 .1 .1 .1 .1 .0)
@@ -78,7 +83,7 @@ build-index-requires : tie.Need-build-index-requires Inv-loop μ-loop
 build-index-requires c κs =
     doing-indexable
     (at-loop .loop .inv .0)
-    (at-first-at .first-at .ensures)
+    (at-first-at .first-at .ensures (kindOf (start .args .kind)) (kind-number _ (start .pre .0)))
     (not-false _ (at-if1 .if1 .left))
     (at-first-at .first-at .kept .1 .1 .1 .0)
   where
@@ -91,12 +96,16 @@ build-index-requires c κs =
     at-loop : tie.At-loop Inv-loop μ-loop
     at-loop = let c = at-first-at in search
 
+    start : tie.Start Inv-loop μ-loop
+    start = let c = at-loop in search
+
 add-t37 : tie.Need-add-t37 Inv-loop μ-loop
 add-t37 c =
     omega (
       arith,
-      doing-countable (at-loop .loop .inv .0) (at-first-at .first-at .ensures) (not-false _ (at-if1 .if1 .left))
-          (start .pre .1),
+      doing-countable (at-loop .loop .inv .0) (at-first-at .first-at .ensures (kindOf (start .args .kind)) (kind-number _ (start .pre .0)))
+          (not-false _ (at-if1 .if1 .left))
+          (start .pre .1 .1),
     )
   where
     at-if1 : tie.Else1 Inv-loop μ-loop
@@ -112,7 +121,8 @@ add-t37 c =
     start = let c = at-loop in search
 
 loop-less : tie.Need-loop-less Inv-loop μ-loop
-loop-less c = doing-less (at-loop .loop .inv .0) (at-first-at .first-at .ensures) (not-false _ (at-if1 .if1 .left))
+loop-less c = doing-less (at-loop .loop .inv .0) (at-first-at .first-at .ensures (kindOf (start .args .kind))
+    (kind-number _ (start .pre .0))) (not-false _ (at-if1 .if1 .left))
   where
     at-if1 : tie.Else1 Inv-loop μ-loop
     at-if1 = search
@@ -123,9 +133,13 @@ loop-less c = doing-less (at-loop .loop .inv .0) (at-first-at .first-at .ensures
     at-loop : tie.At-loop Inv-loop μ-loop
     at-loop = let c = at-first-at in search
 
+    start : tie.Start Inv-loop μ-loop
+    start = let c = at-loop in search
+
 loop-again : tie.Need-loop-again Inv-loop μ-loop
 loop-again c = (
-  doing-more (at-loop .loop .inv .0) (at-first-at .first-at .ensures) (not-false _ (at-if1 .if1 .left))
+  doing-more (at-loop .loop .inv .0) (at-first-at .first-at .ensures (kindOf (start .args .kind)) (kind-number _ (start .pre .0)))
+      (not-false _ (at-if1 .if1 .left))
       (at-build-index .build-index .ensures) (at-first-at .first-at .kept .1 .1 .1 .0)
       (at-first-at .first-at .kept .1 .1 .1 .1 .0) (at-first-at .first-at .kept .1 .1 .1 .1 .1 .0)
       (at-build-index .build-index .kept .1 .1 .1 .0) (at-build-index .build-index .kept .1 .1 .1 .1 .0)
@@ -163,16 +177,25 @@ loop-again c = (
     at-loop : tie.At-loop Inv-loop μ-loop
     at-loop = let c = at-first-at in search
 
+    start : tie.Start Inv-loop μ-loop
+    start = let c = at-loop in search
+
 loop-holds : tie.Need-loop-holds Inv-loop μ-loop
 loop-holds c =
     let start : tie.Start Inv-loop μ-loop = search in
-    (doing-start (start .pre .0), (refl, (refl, (refl, (refl, (refl, (refl, refl)))))))
+    (doing-start (start .pre .1 .0), (refl, (refl, (refl, (refl, (refl, (refl, refl)))))))
 
 same-length-4 : tie.Need-same-length-4 Inv-loop μ-loop
 same-length-4 c = at-loop .loop .inv .1 .1 .1 .1 .0
   where
     at-loop : tie.At-loop Inv-loop μ-loop
     at-loop = let c : tie.After-first-at Inv-loop μ-loop = search in search
+
+first-at-requires : tie.Need-first-at-requires Inv-loop μ-loop
+first-at-requires c κs =
+    let at-loop : tie.At-loop Inv-loop μ-loop = search in
+    let start : tie.Start Inv-loop μ-loop = search in
+    (start .pre .0, at-loop .loop .inv .0 .ready)
 
 pub transform-until-complete-spec : {M : Type 1} → statement M
 transform-until-complete-spec =
@@ -181,7 +204,7 @@ transform-until-complete-spec =
     Inv-loop
     μ-loop
     loop-holds
-    (λ c κs. let at-loop : tie.At-loop Inv-loop μ-loop = search in at-loop .loop .inv .0 .ready)
+    first-at-requires
     same-length
     same-length-2
     same-length-3
