@@ -3,8 +3,8 @@
  *
  * A record is read from `record` and `length`. A call that makes a record or a string writes it to `out`, of which `room` bytes
  * are lent: the first `length` bytes of the answer are written and no others; a refused call writes none. With 176,160 bytes of
- * room no call that writes a record is refused with 11; with 49,184 sg_from_assembly_graph and sg_clean_non_ref_paths are not.
- * A string has at most 8,192 bytes. Nothing is asked of the bytes, and every call returns.
+ * room no call is refused with 11; with 49,184 sg_from_assembly_graph and sg_clean_non_ref_paths are not, and with 8,192 the two
+ * that write a string. Nothing is asked of the bytes, and every call returns.
  *
  * A record that a call has written can be handed in again: it is read as the graph that was written. One of sg_from_assembly_graph
  * or sg_clean_non_ref_paths is accepted. One of sg_simplify_graph or sg_cleanup_seq_graph is accepted too, or refused with 3, if it
