@@ -149,14 +149,8 @@ referencePathBytesResponse bs room =
     let p = referencePathBytes (decode bs) in
     respond (recordCauses sequenceOnly bs ++ (record { number = 10; present = isNothing p } ∷ [])) room (bytesOrNone p)
 
-unfoldable pub referencePathBytesAnswer : List ℕ → ℕ → Tally → Answer
-referencePathBytesAnswer bs room t = answer (referencePathBytesResponse bs room) t
-
 -- path_bases_bytes: 9 where the start or the list of edges is no path
 unfoldable pub pathBasesBytesResponse : List ℕ → ℕ → List ℕ → ℕ → Response
 pathBasesBytesResponse bs start edges room =
     let g = decode bs in
     respond (recordCauses sequenceOnly bs ++ (record { number = 9; present = not (isPathOf g start edges) } ∷ [])) room (pathBasesBytes g start edges)
-
-unfoldable pub pathBasesBytesAnswer : List ℕ → ℕ → List ℕ → ℕ → Tally → Answer
-pathBasesBytesAnswer bs start edges room t = answer (pathBasesBytesResponse bs start edges room) t
