@@ -2,8 +2,13 @@
  * The sequence graph's calls, from libsg.a (`rt staticlib sg` writes target/staticlib/libsg.a).
  *
  * A record is read from `record` and `length`. A call that makes a record or a string writes it to `out`, of which `room` bytes
- * are lent: the first `length` bytes of the answer are written and no others; a refused call writes none. 176,160 bytes of room
- * hold every answer. Nothing is asked of the bytes, and every call returns.
+ * are lent: the first `length` bytes of the answer are written and no others; a refused call writes none. With 176,160 bytes of
+ * room no call is refused with 11; with 49,184 sg_from_assembly_graph and sg_clean_non_ref_paths are not, and with 8,192 the two
+ * that write a string. Nothing is asked of the bytes, and every call returns.
+ *
+ * A record that a call has written can be handed in again: it is read as the graph that was written. One of sg_from_assembly_graph
+ * or sg_clean_non_ref_paths is accepted. One of sg_simplify_graph or sg_cleanup_seq_graph is accepted too, or refused with 3, if it
+ * has over 2,048 vertices or over 4,096 edges.
  *
  * No pointer may be null, also where its length is 0, and what is lent to be written may not overlap what is read. A call keeps
  * nothing, and two may run at once on different memory. A thread of 2 MiB of stack is enough for each.

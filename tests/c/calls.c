@@ -60,6 +60,19 @@ static void test_simplify_graph(void) {
     check_output(0);
 }
 
+/* An answer can have more vertices than input may have: handed in again, it is refused with 3. */
+static void test_answer_past_the_limits(void) {
+    static const char *sequences[2048] = {"CC", "TAAAAAAAAAA", "GAAAAAAAAAA"};
+    static uint8_t in[4170], answer[176160];
+    const edge edges[] = {{0, 1, 1, 0}, {0, 2, 1, 0}};
+    for (int i = 3; i < 2048; i++) sequences[i] = "";
+    size_t length = write_record(in, SEQUENCES, 10, 2048, sequences, 2, edges);
+    sg_tally t = {0, 0, 0};
+    sg_simplify_answer a = sg_simplify_graph(in, length, answer, sizeof answer, t);
+    assert(length == sizeof in && a.number == 0 && a.rewrites == 1 && answer[8] + 256 * answer[9] == 2049);
+    assert(sg_simplify_graph(answer, a.length, in, sizeof in, t).number == 3);
+}
+
 static void test_from_assembly_graph(void) {
     const char *kmers[] = {"CGT", "ACG", "CGA"}, *sequences[] = {"T", "ACG", "A"};
     const edge edges[] = {{1, 0, 5, 1}, {1, 2, 2, 0}}, sorted[] = {{1, 2, 2, 0}, {1, 0, 5, 1}};
@@ -171,6 +184,7 @@ int main(void) {
     test_vertex_sequence();
     test_from_assembly_graph();
     test_simplify_graph();
+    test_answer_past_the_limits();
     test_cleanup_seq_graph();
     test_clean_non_ref_paths();
     test_reference_path_bytes();

@@ -1,46 +1,25 @@
--- Every answer's record is read back as the graph that was written.
+-- What simplification and cleanup keep of a graph: k, small supports, and few bytes.
 -- Assumes nothing.
-use Prim.Native.Nat.{ℕ, zero, suc, _+_, _<_, _≤_}
+use Prim.Native.Nat.{ℕ, suc, _≤_}
 use native.Mathlib.Omega.{arith}
-use mathlib.Core.Path.{_≡_, refl, sym, ap, _∙_}
-use mathlib.Core.Bool.{Bool, true, false, not, _||_}
+use mathlib.Core.Path.{_≡_, sym, ap, _∙_}
+use mathlib.Core.Bool.{true}
 use mathlib.Core.Option.{Option, none, some}
-use mathlib.Core.List.{List, [], _∷_, List·Memᴰ}
-use lib.ListN.{length, getD}
-use Rattle.defs.specs.Lists.{keepIf}
-use Rattle.defs.specs.SeqGraph.{Edge, Graph, nodeCount}
+use mathlib.Core.List.{List, [], _∷_}
+use Rattle.defs.specs.SeqGraph.{Graph, nodeCount}
 use Rattle.defs.specs.Zip.{Work, zipLinearChains}
 use Rattle.defs.specs.Simplify.{sequenceBytes, simplifyGraphFull}
-use Rattle.defs.specs.Cleanup.{referenceSourceVertex, referenceSinkVertex, removeSingletonOrphanVertices, removeVerticesNotConnectedToRef}
+use Rattle.defs.specs.Cleanup.{removeSingletonOrphanVertices, removeVerticesNotConnectedToRef}
 use Rattle.defs.specs.Cleanup.{removePathsNotConnectedToRef, withDummyVertex, beforeChoice, choiceGraph, afterChoice, cleanupSeqGraph}
-use Rattle.defs.specs.Cleanup.{withoutNonRefEdges, cleanBetween, cleanNonRefPaths}
-use Rattle.defs.specs.Record.{RecordKind, sequenceGraph, kOf, encode, decode}
-use Rattle.defs.specs.Refusals.{sequenceOnly, recordRefusal}
-use Rattle.laws.proofs.Fuel.{Good}
-use Rattle.laws.proofs.Bound.{Fits}
 use Rattle.laws.proofs.Whole.{byList}
-use Rattle.laws.proofs.Room.{Limits, Narrow, limits-narrow, simplify-narrow, choice-narrow, between-narrow, narrow-fits, cleanup-fits}
+use Rattle.laws.proofs.Room.{Narrow, simplify-narrow, choice-narrow, between-narrow}
 use Rattle.laws.proofs.Cleaned.{orphans-keep, connected-keeps, sink-nil, sink-one, sink-more}
-use Rattle.record.specs.Layout.{WellFormed}
-use Rattle.record.proofs.Accepted.{sequence-kind}
-use Rattle.sound.proofs.Accepted.{accepted-early, accepted-layout, accepted-good, accepted-limits}
-use Rattle.codec.specs.Encodable.{Encodable, WithinEdge}
-use Rattle.codec.proofs.RoundTrip.{decode-encode, answer-encodable, decoded-encodable}
 use Rattle.answers.proofs.Kept.{simplify-kept, zip-kept}
-use Rattle.answers.proofs.Supports.{SmallSupports, none-small, cons-small, keepIf-small, Fields, compact-fields, fields-kept}
-
--- a list of bytes
-abbrev pub Bytes : List ℕ → Type 0
-Bytes bs = (i : ℕ) → getD bs i 0 < 256
-
--- an answer with k, small supports, and within the limits of answers
-fields-encodable : {k : ℕ} (g : Graph) → k ≤ 128 → Fields k g → Fits g → sequenceBytes (g .verts) ≤ 8192 → Encodable g
-fields-encodable g small F L b = answer-encodable g (rw (F .k-is) small) (L .vertices) (L .edges) b
-    (λ e m. let ends = L .single .0 .bounded e m in record { from = ends .0; to = ends .1; support = F .supports e m })
+use Rattle.answers.proofs.Supports.{SmallSupports, none-small, cons-small, Fields, compact-fields, fields-kept}
 
 -- cleanup
 module _ {k : ℕ} where
-  simplify-fields : (g : Graph) → Fields k g → Fields k ((simplifyGraphFull 10 g) .graph)
+  pub simplify-fields : (g : Graph) → Fields k g → Fields k ((simplifyGraphFull 10 g) .graph)
   simplify-fields g F = simplify-kept (Fields k) (fields-kept k) 10 g F
 
   choice-fields : (g : Graph) → Fields k g → Fields k (choiceGraph g)
@@ -69,20 +48,9 @@ module _ {k : ℕ} where
   after-fields w (some s) (some t) F = dummy-fields ((simplifyGraphFull 10 (removePathsNotConnectedToRef (w .graph) s t)) .graph)
       (simplify-fields (removePathsNotConnectedToRef (w .graph) s t) (compact-fields _ (w .graph) F))
 
-  cleanup-fields : (g : Graph) → Fields k g → Fields k ((cleanupSeqGraph g) .graph)
+  pub cleanup-fields : (g : Graph) → Fields k g → Fields k ((cleanupSeqGraph g) .graph)
   unfolding cleanupSeqGraph choiceGraph
   cleanup-fields g F = after-fields (beforeChoice g) _ _ (choice-fields g F)
-
-  between-fields : (g : Graph) (s t : Option ℕ) → Fields k g → Fields k (cleanBetween g s t)
-  unfolding cleanBetween withoutNonRefEdges removeSingletonOrphanVertices
-  between-fields g none t F = F
-  between-fields g (some s) none F = F
-  between-fields g (some s) (some t) F =
-      orphans-keep (Fields k) compact-fields _ (withoutNonRefEdges g s t) record { k-is = F .k-is; supports = keepIf-small _ (g .edges) (F .supports) }
-
-  clean-fields : (g : Graph) → Fields k g → Fields k (cleanNonRefPaths g)
-  unfolding cleanNonRefPaths
-  clean-fields g F = between-fields g _ _ F
 
 -- the dummy vertex adds no byte
 dummy-bytes : (g : Graph) → sequenceBytes ((withDummyVertex g) .verts) ≡ sequenceBytes (g .verts)
@@ -101,42 +69,6 @@ after-bytes w (some s) (some t) N =
     let z = (simplifyGraphFull 10 (removePathsNotConnectedToRef (w .graph) s t)) .graph in
     omega (arith, dummy-bytes z, (simplify-narrow (removePathsNotConnectedToRef (w .graph) s t) (between-narrow (w .graph) s t N)) .few)
 
-cleanup-bytes : (g : Graph) → Narrow g → sequenceBytes ((cleanupSeqGraph g) .graph .verts) ≤ 8192
+pub cleanup-bytes : (g : Graph) → Narrow g → sequenceBytes ((cleanupSeqGraph g) .graph .verts) ≤ 8192
 unfolding cleanupSeqGraph choiceGraph
 cleanup-bytes g N = after-bytes (beforeChoice g) _ _ (choice-narrow g N)
-
-module _ (bs : List ℕ) (small : Bytes bs) (ok : recordRefusal sequenceOnly bs ≡ 0) where
-  pub decoded-fields : Fields (kOf bs) (decode bs)
-  unfolding decode
-  decoded-fields = record { k-is = refl; supports = λ e m. (decoded-encodable bs small (accepted-layout sequenceOnly bs ok)) .each e m .support }
-
-  pub decoded-narrow : Narrow (decode bs)
-  decoded-narrow = limits-narrow (decode bs) (accepted-good sequenceOnly bs ok)
-      (accepted-limits sequenceOnly bs ok (sequence-kind bs (accepted-early sequenceOnly bs ok)))
-
-  k-small : kOf bs ≤ 128
-  k-small = (accepted-layout sequenceOnly bs ok) .k-most
-
-  simplified-fields : Fields (kOf bs) ((simplifyGraphFull 10 (decode bs)) .graph)
-  simplified-fields = simplify-fields (decode bs) decoded-fields
-
-  pub simplify-read-back : (status : ℕ) → decode (encode sequenceGraph status ((simplifyGraphFull 10 (decode bs)) .graph))
-      ≡ (simplifyGraphFull 10 (decode bs)) .graph
-  simplify-read-back status =
-      let N = simplify-narrow (decode bs) decoded-narrow in
-      decode-encode sequenceGraph status _ (fields-encodable _ k-small simplified-fields (narrow-fits _ N) (N .few))
-
-  cleaned-fields : Fields (kOf bs) ((cleanupSeqGraph (decode bs)) .graph)
-  cleaned-fields = cleanup-fields (decode bs) decoded-fields
-
-  pub cleanup-read-back : (status : ℕ) → decode (encode sequenceGraph status ((cleanupSeqGraph (decode bs)) .graph)) ≡ (cleanupSeqGraph (decode bs)) .graph
-  cleanup-read-back status =
-      decode-encode sequenceGraph status _ (fields-encodable _ k-small cleaned-fields (cleanup-fits (decode bs) decoded-narrow)
-      (cleanup-bytes (decode bs) decoded-narrow))
-
-  clean-paths-fields : Fields (kOf bs) (cleanNonRefPaths (decode bs))
-  clean-paths-fields = clean-fields (decode bs) decoded-fields
-
-  pub clean-paths-read-back : Narrow (cleanNonRefPaths (decode bs)) → (status : ℕ)
-      → decode (encode sequenceGraph status (cleanNonRefPaths (decode bs))) ≡ cleanNonRefPaths (decode bs)
-  clean-paths-read-back N status = decode-encode sequenceGraph status _ (fields-encodable _ k-small clean-paths-fields (narrow-fits _ N) (N .few))

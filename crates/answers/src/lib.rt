@@ -1,1 +1,1 @@
-// What holds of every answer: its record can be read back. Laws only, no function.
+// What the fields of an answer's record come from: k, supports and bytes that the calls keep. Laws only, no function.

@@ -9,7 +9,7 @@ use lib.Dec.{ltb}
 use borrow.Author.Tests.{lt-ltb, le-ltb}
 use Rattle.defs.specs.SeqGraph.{saturatingAdd}
 use Rattle.defs.specs.Calls as D
-use Rattle.defs.specs.Calls.{Response, refused, accepted, numberOf, lengthOf, fieldOf, tallied, fits, respond, writtenOf}
+use Rattle.defs.specs.Calls.{Response, refused, accepted, numberOf, lengthOf, fieldOf, tallied, fits, respondTo, respond, writtenOf}
 use Rattle.defs.specs.Simplify.{Simplified, endNumber}
 use Rattle.defs.specs.Cleanup.{Cleaned, statusNumber}
 use Rattle.defs.specs.Refusals.{Cause, refusalOf}
@@ -95,15 +95,19 @@ pub fits-enough : (room : ℕ) (result : List ℕ) → length result ≤ room �
 unfolding fits
 fits-enough room result l = rw (le-ltb room (length result) l, fits)
 
+pub fits-not-short : (room : ℕ) (result : List ℕ) → length result ≤ room → fits room result ≡ refused 11 → ⊥
+unfolding numberOf
+fits-not-short room result l e = let z : _≡_ {A = ℕ} 0 11 = ap numberOf (sym (fits-enough room result l) ∙ e) in omega (arith, z)
+
 -- a cause that is present refuses, whatever the room
 pub respond-refused : (causes : List Cause) (room : ℕ) (result : List ℕ) (n : ℕ) → refusalOf causes ≡ n → (n ≡ 0 → ⊥) → respond causes room result ≡ refused n
-unfolding respond
+unfolding respond respondTo
 respond-refused causes room result zero e o = absurd (o refl)
-respond-refused causes room result (suc n) e o = rw (e, respond)
+respond-refused causes room result (suc n) e o = ap (λ (i : ℕ). respondTo i room result) e
 
 pub respond-fits : (causes : List Cause) (room : ℕ) (result : List ℕ) → refusalOf causes ≡ 0 → respond causes room result ≡ fits room result
-unfolding respond
-respond-fits causes room result e = rw (e, respond)
+unfolding respond respondTo
+respond-fits causes room result e = ap (λ (i : ℕ). respondTo i room result) e
 
 module _ {x : Response} {out out′ : List ℕ} {t : Tally} {r : Answer} where
   pub responds-refused : {n : ℕ} → x ≡ refused n → Refuses n t r → out′ ≡ out → Responds x out t r out′

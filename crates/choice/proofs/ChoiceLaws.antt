@@ -175,12 +175,6 @@ module _ {h : Held} {es vs p heads nexts nodes mp starts tried sig : List ℕ} (
   pub cleanable-walkable : Walkable (h .n) tried nodes
   cleanable-walkable = held-walkable (C .room) (lean-holds (C .holds)) (C .scratch .tried-room)
 
-  pub cleanable-small : h .m < 4294967296
-  cleanable-small = held-small (C .room) (lean-holds (C .holds))
-
-  pub cleanable-indexable : Indexable (h .m) (h .n) es heads nexts
-  cleanable-indexable = held-indexable (C .room) (lean-holds (C .holds))
-
 -- what is asked after the opening zip
 pub zipped-connectable : {w₀ w : Work} {es₀ vs₀ p₀ es vs p heads nexts nodes mp tried : List ℕ}
     → ZippedAll w₀ es₀ vs₀ p₀ w es vs p heads nexts nodes mp → vertexRoom heads ≤ length tried

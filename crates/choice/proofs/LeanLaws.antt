@@ -1,21 +1,19 @@
 -- Room that stays when vertices go. Assumes nothing.
 use mathlib.Core.Path.{_≡_}
 use mathlib.Core.Bool.{Bool}
-use mathlib.Core.List.{List, [], _∷_}
+use mathlib.Core.List.{List, []}
 use Prim.Native.Nat.{ℕ, suc, _*_, _≤_}
 use native.Mathlib.Omega.{arith}
 use lib.ListN.{length}
-use Rattle.defs.specs.Lists.{keepAt}
 use Rattle.defs.specs.SeqGraph.{Graph, nodeCount, compactVertices}
 use Rattle.defs.specs.Simplify.{simplifyGraphFull}
 use Rattle.defs.specs.Cleanup.{removeSingletonOrphanVertices, removeVerticesNotConnectedToRef, removePathsNotConnectedToRef}
-use Rattle.laws.proofs.Walks.{byTest}
-use Rattle.laws.proofs.ListLaws.{keepAt-yes, keepAt-no}
 use Rattle.laws.proofs.Counts.{total, heft}
 use Rattle.laws.proofs.Branching.{branching-restrict, surplus-branching}
 use Rattle.laws.proofs.Measures.{load, bytes-is, weight-is, Tame}
 use Rattle.laws.proofs.Bound.{simplify-tame, simplify-bound}
 use Rattle.laws.proofs.Cleaned.{restrict-good, orphans-keep, connected-keeps}
+use Rattle.laws.proofs.Room.{total-keepAt}
 use Rattle.memory.specs.Memory.{vertexRoom, Fit}
 use Rattle.choice.specs.Choice.{Lean}
 
@@ -35,13 +33,6 @@ lean-kept L d e = record { good = L .good; light = rw d (L .light); narrow = rw 
 
 -- ---- vertices go
 
-total-less : (f : List ℕ → ℕ) (p : ℕ → Bool) (i : ℕ) (xs : List (List ℕ)) → total f (keepAt p i xs) ≤ total f xs
-unfolding total keepAt
-total-less f p i [] = omega arith
-total-less f p i (x ∷ xs) = byTest (p i)
-    (λ t. rw (keepAt-yes p i x xs t) (omega (arith, total-less f p (suc i) xs)))
-    (λ t. rw (keepAt-no p i x xs t) (omega (arith, total-less f p (suc i) xs)))
-
 pub lean-restrict : {heads nexts : List ℕ} (p : ℕ → Bool) (g : Graph) → Lean g heads nexts → Lean (compactVertices p g) heads nexts
 lean-restrict p g L = record {
   good = restrict-good p g (L .good);
@@ -50,7 +41,7 @@ lean-restrict p g L = record {
 }
   where
     less : (f : List ℕ → ℕ) → total f ((compactVertices p g) .verts) ≤ total f (g .verts)
-    less f = unfold compactVertices in (total-less f p 0 (g .verts))
+    less f = unfold compactVertices in (total-keepAt f p 0 (g .verts))
 
 module _ {heads nexts : List ℕ} {g : Graph} (L : Lean g heads nexts) where
   pub lean-connected : Lean (removeVerticesNotConnectedToRef (removeSingletonOrphanVertices g)) heads nexts

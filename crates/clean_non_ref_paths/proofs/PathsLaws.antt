@@ -1,19 +1,19 @@
 -- The promise of clean_non_ref_paths. Assumes nothing.
 use mathlib.Core.Path.{_≡_, refl, sym, ap, _∙_, subst}
 use mathlib.Core.List.{List, _++_}
-use Prim.Native.Nat.{ℕ, _<_}
+use Prim.Native.Nat.{ℕ, _≤_}
 use native.Mathlib.Omega.{arith}
 use lib.ListN.{length, take, drop}
 use lib.Seq.{take-append-seam}
-use Rattle.defs.specs.SeqGraph.{Graph, nodeCount}
+use Rattle.defs.specs.SeqGraph.{Graph}
 use Rattle.defs.specs.Cleanup.{cleanNonRefPaths}
 use Rattle.defs.specs.Record.{sequenceGraph, encode, decode}
 use Rattle.defs.specs.Refusals.{sequenceOnly, recordCauses, recordRefusal}
 use Rattle.defs.specs.Calls as D
 use Rattle.defs.specs.Calls.{refused, accepted, numberOf, lengthOf, fits, cleanNonRefPathsResponse, cleanNonRefPathsAnswer}
-use Rattle.laws.proofs.Bound.{Fits}
-use Rattle.laws.proofs.Room.{Narrow, narrow-fits}
-use Rattle.answers.proofs.Answers.{Bytes, decoded-narrow, clean-paths-read-back}
+use Rattle.reread.specs.Reread.{ReacceptedAs}
+use Rattle.reread.proofs.Graphs.{input-reaccepted}
+use Rattle.reread.proofs.Read.{Bytes, record-most, sequence-input}
 use Rattle.compact.specs.Compact.{Compactable}
 use Rattle.index.specs.Index.{Indexable}
 use Rattle.memory.specs.Memory.{graphOf}
@@ -25,14 +25,15 @@ use Rattle.accept.specs.Accept.{Roomy, ReadAs}
 use Rattle.accept.specs.declared.Read.{Read}
 use Rattle.choice.proofs.ChoiceLaws.{lean-holds, reduced-lean, held-compactable, held-indexable, held-walkable}
 use Rattle.cleanable.proofs.ReadLean.{read-lean}
-use Rattle.cleanable.proofs.CleanLean.{clean-lean, clean-narrow}
+use Rattle.cleanable.proofs.CleanLean.{clean-lean}
+use Rattle.cleanable.proofs.CleanInput.{clean-input}
 use Rattle.arrays.specs.Sized.{LentMarks}
 use Rattle.calls.specs.Answers.{Refuses, Accepts}
 use Rattle.calls.specs.Sending.{Sends}
 use Rattle.calls.specs.declared.Tally.{Tally}
 use Rattle.calls.specs.declared.Sent.{Sent}
 use Rattle.calls.specs.declared.Answer.{Answer}
-use Rattle.calls.proofs.AnswerLaws.{respond-refused, respond-fits, responds-refused, responds-accepted}
+use Rattle.calls.proofs.AnswerLaws.{fits-not-short, respond-refused, respond-fits, responds-refused, responds-accepted}
 use Rattle.calls.proofs.SendLaws.{sent-short, sent-whole}
 use Rattle.clean_non_ref_paths.specs.MadeOf.{MadeOf}
 use Rattle.clean_non_ref_paths.specs.CleansPaths.{CleansPaths}
@@ -68,15 +69,18 @@ module _ (bs out : List ℕ) (t : Tally) where
   abbrev result : List ℕ
   result = encode sequenceGraph 0 (cleanNonRefPaths (decode bs))
 
-  refused-with : (n : ℕ) → (n ≡ 0 → ⊥) → cleanNonRefPathsResponse bs (length out) ≡ refused n → {a : Answer} {out′ : List ℕ} → Refuses n t a
-      → out′ ≡ out → CleansPaths bs out t a out′
+  refused-with : (n : ℕ) → (n ≡ 0 → ⊥) → (49184 ≤ length out → n ≡ 11 → ⊥) → cleanNonRefPathsResponse bs (length out) ≡ refused n
+      → {a : Answer} {out′ : List ℕ} → Refuses n t a → out′ ≡ out → CleansPaths bs out t a out′
   unfolding cleanNonRefPathsAnswer D.answer numberOf
-  refused-with n o e {a} R q =
+  refused-with n o short e {a} R q =
       let P = responds-refused e R q in
-      record { answer = P .answer; written = P .written; graph = λ i. absurd (other i); vertices = λ i. absurd (other i); edges = λ i. absurd (other i) }
+      record { answer = P .answer; written = P .written; room = λ l i. short l (sym number-is ∙ i); reaccepted = λ i. absurd (other i) }
     where
+      number-is : a .number ≡ n
+      number-is = ap (λ (x : D.Answer). x .number) (R .is)
+
       other : a .number ≡ 0 → ⊥
-      other i = o (sym (ap (λ (x : D.Answer). x .number) (R .is)) ∙ i)
+      other i = o (sym number-is ∙ i)
 
   -- no cause is present: the room decides
   fitting : recordRefusal sequenceOnly bs ≡ 0 → cleanNonRefPathsResponse bs (length out) ≡ fits (length out) result
@@ -88,35 +92,32 @@ module _ (bs out : List ℕ) (t : Tally) where
   stopped n e o = respond-refused (recordCauses sequenceOnly bs) (length out) result n e o
 
   module _ (small : Bytes bs) (ok : recordRefusal sequenceOnly bs ≡ 0) where
+    again : ReacceptedAs (cleanNonRefPaths (decode bs)) result
+    again = input-reaccepted (cleanNonRefPaths (decode bs)) (clean-input (decode bs) (sequence-input bs small ok)) 0 (omega arith)
+
     accepted-with : {n : ℕ} {a : Answer} {out′ : List ℕ} → cleanNonRefPathsResponse bs (length out) ≡ accepted result → n ≡ length result
         → Accepts n t a → out′ ≡ result ++ drop (length result) out → CleansPaths bs out t a out′
-    unfolding cleanNonRefPathsAnswer D.answer lengthOf
+    unfolding cleanNonRefPathsAnswer D.answer numberOf lengthOf
     accepted-with {n} {a} {out′} e l A w =
         let P = responds-accepted e l A w in
         record {
           answer = P .answer;
           written = P .written;
-          graph = λ i. written-is;
-          vertices = λ i. omega (arith, ap nodeCount written-is, within .vertices);
-          edges = λ i. omega (arith, ap (λ (g : Graph). length (g .edges)) written-is, within .edges);
+          room = λ _ i. omega (arith, i, ap (λ (x : D.Answer). x .number) (A .is result (sym l)));
+          reaccepted = λ i. subst (ReacceptedAs (cleanNonRefPaths (decode bs))) (sym front) again;
         }
       where
-        narrow : Narrow (cleanNonRefPaths (decode bs))
-        narrow = clean-narrow (decode bs) (decoded-narrow bs small ok)
-
-        within : Fits (cleanNonRefPaths (decode bs))
-        within = narrow-fits (cleanNonRefPaths (decode bs)) narrow
-
-        written-is : decode (take (a .length) out′) ≡ cleanNonRefPaths (decode bs)
-        written-is =
-            ap decode (ap (λ (k : ℕ). take k out′) (ap (λ (x : D.Answer). x .length) (A .is result (sym l))) ∙ ap (take (length result)) w
-            ∙ take-append-seam result (drop (length result) out))
-            ∙ clean-paths-read-back bs small ok narrow 0
+        front : take (a .length) out′ ≡ result
+        front =
+            ap (λ (k : ℕ). take k out′) (ap (λ (x : D.Answer). x .length) (A .is result (sym l))) ∙ ap (take (length result)) w
+            ∙ take-append-seam result (drop (length result) out)
 
 -- the whole call
 module _ {bs heads nexts : List ℕ} {m : Read} {es vs p : List ℕ} (M : MadeOf bs heads nexts m es vs p) (t : Tally) where
   pub paths-refused : (out : List ℕ) {a : Answer} → (m .number ≡ 0 → ⊥) → Refuses (m .number) t a → CleansPaths bs out t a out
-  paths-refused out o R = refused-with bs out t (m .number) o (stopped bs out t (m .number) (sym (M .number)) o) R refl
+  paths-refused out o R =
+      refused-with bs out t (m .number) o (λ l i. omega (arith, i, M .number, record-most sequenceOnly bs))
+      (stopped bs out t (m .number) (sym (M .number)) o) R refl
 
   module _ (small : Bytes bs) (ok : m .number ≡ 0) where
     none : recordRefusal sequenceOnly bs ≡ 0
@@ -129,7 +130,9 @@ module _ {bs heads nexts : List ℕ} {m : Read} {es vs p : List ℕ} (M : MadeOf
       pub paths-short : {a : Answer} → (s .number ≡ 0 → ⊥) → Refuses (s .number) t a → CleansPaths bs out t a out′
       paths-short o R =
           let c = sent-short sends o in
-          refused-with bs out t (s .number) o (fitting bs out t none ∙ c .0 ∙ ap refused (sym (c .1 .0))) R (c .1 .1)
+          refused-with bs out t (s .number) o
+          (λ l i. fits-not-short (length out) _ (omega (arith, l, (again bs out t small none) .size)) (c .0))
+          (fitting bs out t none ∙ c .0 ∙ ap refused (sym (c .1 .0))) R (c .1 .1)
 
       pub paths-accepted : {a : Answer} → s .number ≡ 0 → Accepts (s .length) t a → CleansPaths bs out t a out′
       paths-accepted i A =

@@ -17,7 +17,6 @@ use Rattle.laws.proofs.Branching.{branching, sum-le}
 use Rattle.laws.proofs.Measures.{weight}
 use Rattle.laws.proofs.Whole.{byOption}
 use Rattle.laws.proofs.Cleaned.{orphans-keep}
-use Rattle.laws.proofs.Room.{Narrow, narrow-restrict}
 use Rattle.choice.specs.Choice.{Lean}
 use Rattle.choice.proofs.LeanLaws.{lean-restrict}
 
@@ -45,7 +44,7 @@ module _ (q : Edge → Bool) (g : Graph) where
   abbrev pub thinned : Graph
   thinned = record { k = g .k; verts = g .verts; edges = keepIf q (g .edges) }
 
-  thinned-good : Good g → Good thinned
+  pub thinned-good : Good g → Good thinned
   unfolding nodeCount
   thinned-good (s, o) = (
     record {
@@ -65,10 +64,6 @@ module _ (q : Edge → Bool) (g : Graph) where
   unfolding weight
   thinned-lean L = record { good = thinned-good (L .good); light = L .light; narrow = omega (arith, L .narrow, thinned-branching) }
 
-  pub thinned-narrow : Narrow g → Narrow thinned
-  unfolding weight
-  thinned-narrow N = record { good = thinned-good (N .good); branches = omega (arith, N .branches, thinned-branching); few = N .few; size = N .size }
-
 -- ---- the call
 
 -- what the removal of edges and of vertices keeps
@@ -79,7 +74,7 @@ module _ (P : Graph → Type 0) (thin : (q : Edge → Bool) (g : Graph) → P g 
   between-keeps g s t h = orphans-keep P restrict (suc (nodeCount (withoutNonRefEdges g s t))) (withoutNonRefEdges g s t) (thin
       (λ (e : Edge). not (leadsToSource g s e || leadsFromSink g s t e)) g h)
 
-  clean-keeps : (g : Graph) → P g → P (cleanNonRefPaths g)
+  pub clean-keeps : (g : Graph) → P g → P (cleanNonRefPaths g)
   unfolding cleanNonRefPaths cleanBetween
   clean-keeps g h = byOption (referenceSourceVertex g)
       (λ a. rw (a, cleanBetween) h)
@@ -89,6 +84,3 @@ module _ (P : Graph → Type 0) (thin : (q : Edge → Bool) (g : Graph) → P g 
 
 pub clean-lean : {heads nexts : List ℕ} (g : Graph) → Lean g heads nexts → Lean (cleanNonRefPaths g) heads nexts
 clean-lean {heads} {nexts} g L = clean-keeps (λ x. Lean x heads nexts) (λ q x. thinned-lean q x) lean-restrict g L
-
-pub clean-narrow : (g : Graph) → Narrow g → Narrow (cleanNonRefPaths g)
-clean-narrow g N = clean-keeps Narrow (λ q x. thinned-narrow q x) narrow-restrict g N

@@ -1,2 +1,3 @@
 pub mod ReadLean
 pub mod CleanLean
+pub mod CleanInput

@@ -1,21 +1,21 @@
 -- The promise of cleanup_seq_graph. Assumes nothing.
 use mathlib.Core.Path.{_≡_, refl, sym, ap, _∙_, subst}
 use mathlib.Core.List.{List, _++_}
-use Prim.Native.Nat.{ℕ, _<_}
+use Prim.Native.Nat.{ℕ, _<_, _≤_}
 use native.Mathlib.Omega.{arith}
 use lib.ListN.{length, take, drop}
 use lib.Seq.{take-append-seam}
-use Rattle.defs.specs.SeqGraph.{Graph, nodeCount}
+use Rattle.defs.specs.SeqGraph.{Graph}
 use Rattle.defs.specs.Cleanup.{Status, justReference, someVariation, Cleaned, statusNumber, choiceGraph, cleanupSeqGraph}
 use Rattle.defs.specs.Record.{sequenceGraph, encode, decode}
 use Rattle.defs.specs.Refusals.{sequenceOnly, recordCauses, recordRefusal}
 use Rattle.defs.specs.Calls as D
 use Rattle.defs.specs.Calls.{Response, refused, accepted, numberOf, lengthOf, fieldOf, writtenOf, fits, cleanupSeqGraphResponse, cleanupSeqGraphAnswer}
-use Rattle.laws.proofs.Bound.{Fits}
-use Rattle.laws.proofs.Room.{cleanup-fits}
 use Rattle.laws.proofs.Cleaned.{cleanup-varies, cleanup-plain}
 use Rattle.sound.proofs.Accepted.{accepted-good}
-use Rattle.answers.proofs.Answers.{Bytes, decoded-narrow, cleanup-read-back}
+use Rattle.reread.specs.Reread.{RereadAs}
+use Rattle.reread.proofs.Read.{Bytes, record-most}
+use Rattle.reread.proofs.Answers.{cleanup-reread}
 use Rattle.memory.specs.Memory.{graphOf}
 use Rattle.memory.proofs.RoomLaws.{room-kept, holds-kept}
 use Rattle.accept.specs.Accept.{ReadAs}
@@ -32,7 +32,7 @@ use Rattle.calls.specs.Sending.{Sends}
 use Rattle.calls.specs.declared.Tally.{Tally}
 use Rattle.calls.specs.declared.Sent.{Sent}
 use Rattle.calls.specs.declared.CleanupAnswer.{CleanupAnswer}
-use Rattle.calls.proofs.AnswerLaws.{respond-refused, respond-fits}
+use Rattle.calls.proofs.AnswerLaws.{fits-not-short, respond-refused, respond-fits}
 use Rattle.calls.proofs.SendLaws.{sent-short, sent-whole}
 use Rattle.cleanup_seq_graph.specs.MadeOf.{MadeOf}
 use Rattle.cleanup_seq_graph.specs.Cleans.{SpellsChosen, Cleans}
@@ -95,20 +95,23 @@ module _ (bs out : List ℕ) (t : Tally) where
   abbrev result : List ℕ
   result = encode sequenceGraph (statusNumber (z .status)) (z .graph)
 
-  refused-with : (n : ℕ) → (n ≡ 0 → ⊥) → cleanupSeqGraphResponse bs (length out) ≡ refused n → {a : CleanupAnswer} {out′ : List ℕ}
-      → RefusesCleanup n t a → out′ ≡ out → Cleans bs out t a out′
+  refused-with : (n : ℕ) → (n ≡ 0 → ⊥) → (176160 ≤ length out → n ≡ 11 → ⊥) → cleanupSeqGraphResponse bs (length out) ≡ refused n
+      → {a : CleanupAnswer} {out′ : List ℕ} → RefusesCleanup n t a → out′ ≡ out → Cleans bs out t a out′
   unfolding writtenOf numberOf
-  refused-with n o e {a} R q = record {
+  refused-with n o short e {a} R q = record {
     answer = R .is z ∙ answer-by bs (length out) (tallyOf t) e;
     written = q ∙ sym (ap (λ (x : Response). writtenOf x out) e);
     strings = λ i _. absurd (other i);
     plain = λ i _. absurd (other i);
-    vertices = λ i. absurd (other i);
-    edges = λ i. absurd (other i);
+    room = λ l i. short l (sym number-is ∙ i);
+    reread = λ i. absurd (other i);
   }
     where
+      number-is : a .number ≡ n
+      number-is = ap (λ (x : D.CleanupAnswer). x .number) (R .is z)
+
       other : a .number ≡ 0 → ⊥
-      other i = o (sym (ap (λ (x : D.CleanupAnswer). x .number) (R .is z)) ∙ i)
+      other i = o (sym number-is ∙ i)
 
   -- no cause is present: the room decides
   fitting : recordRefusal sequenceOnly bs ≡ 0 → cleanupSeqGraphResponse bs (length out) ≡ fits (length out) result
@@ -123,28 +126,27 @@ module _ (bs out : List ℕ) (t : Tally) where
     accepted-with : {a : CleanupAnswer} {out′ : List ℕ} → cleanupSeqGraphResponse bs (length out) ≡ accepted result → cleanupAnswerOf a
         ≡ D.cleanupAnswer (accepted result) z (tallyOf t) → out′ ≡ result ++ drop (length result) out
         → Cleans bs out t a out′
-    unfolding writtenOf lengthOf fieldOf
+    unfolding writtenOf numberOf lengthOf fieldOf
     accepted-with {a} {out′} e q w = record {
       answer = q ∙ answer-by bs (length out) (tallyOf t) e;
       written = w ∙ sym (ap (λ (x : Response). writtenOf x out) e);
-      strings = λ i two. subst (λ (g : Graph). SpellsChosen (choiceGraph (decode bs)) g) (sym written-is)
+      strings = λ i two. subst (λ (g : Graph). SpellsChosen (choiceGraph (decode bs)) g) (sym (again .graph))
           (chosen (status-two (z .status) (sym status-is ∙ two)));
-      plain = λ i one. written-is ∙ cleanup-plain (decode bs) (status-one (z .status) (sym status-is ∙ one));
-      vertices = λ i. omega (arith, ap nodeCount written-is, within .vertices);
-      edges = λ i. omega (arith, ap (λ (g : Graph). length (g .edges)) written-is, within .edges);
+      plain = λ i one. again .graph ∙ cleanup-plain (decode bs) (status-one (z .status) (sym status-is ∙ one));
+      room = λ l i. omega (arith, i, ap (λ (x : D.CleanupAnswer). x .number) q);
+      reread = λ i. again;
     }
       where
-        within : Fits (z .graph)
-        within = cleanup-fits (decode bs) (decoded-narrow bs small ok)
-
         status-is : a .status ≡ statusNumber (z .status)
         status-is = ap (λ (x : D.CleanupAnswer). x .status) q
 
-        written-is : decode (take (a .length) out′) ≡ z .graph
-        written-is =
-            ap decode (ap (λ (n : ℕ). take n out′) (ap (λ (x : D.CleanupAnswer). x .length) q) ∙ ap (take (length result)) w
-            ∙ take-append-seam result (drop (length result) out))
-            ∙ cleanup-read-back bs small ok (statusNumber (z .status))
+        front : take (a .length) out′ ≡ result
+        front =
+            ap (λ (n : ℕ). take n out′) (ap (λ (x : D.CleanupAnswer). x .length) q) ∙ ap (take (length result)) w
+            ∙ take-append-seam result (drop (length result) out)
+
+        again : RereadAs (z .graph) (take (a .length) out′)
+        again = subst (RereadAs (z .graph)) (sym front) (cleanup-reread bs small ok)
 
         chosen : z .status ≡ someVariation → SpellsChosen (choiceGraph (decode bs)) (z .graph)
         chosen v =
@@ -154,7 +156,9 @@ module _ (bs out : List ℕ) (t : Tally) where
 -- the whole call
 module _ {bs heads nexts : List ℕ} {m : Made} {es vs p : List ℕ} (M : MadeOf bs heads nexts m es vs p) (t : Tally) where
   pub cleans-refused : (out : List ℕ) {a : CleanupAnswer} → (m .number ≡ 0 → ⊥) → RefusesCleanup (m .number) t a → Cleans bs out t a out
-  cleans-refused out o R = refused-with bs out t (m .number) o (stopped bs out t (m .number) (sym (M .number)) o) R refl
+  cleans-refused out o R =
+      refused-with bs out t (m .number) o (λ l i. omega (arith, i, M .number, record-most sequenceOnly bs))
+      (stopped bs out t (m .number) (sym (M .number)) o) R refl
 
   pub made-status : {n : ℕ} → n ≡ statusNumber (cleanupStatusOf (m .cleaned .status)) → n < 256
   made-status q = omega (arith, q, status-small (cleanupStatusOf (m .cleaned .status)))
@@ -177,7 +181,9 @@ module _ {bs heads nexts : List ℕ} {m : Made} {es vs p : List ℕ} (M : MadeOf
       pub cleans-short : {a : CleanupAnswer} → (s .number ≡ 0 → ⊥) → RefusesCleanup (s .number) t a → Cleans bs out t a out′
       cleans-short o R =
           let c = sent-short sends o in
-          refused-with bs out t (s .number) o (fitting bs out t none ∙ c .0 ∙ ap refused (sym (c .1 .0))) R (c .1 .1)
+          refused-with bs out t (s .number) o
+          (λ l i. fits-not-short (length out) made (omega (arith, l, (cleanup-reread bs small none) .size)) (c .0))
+          (fitting bs out t none ∙ c .0 ∙ ap refused (sym (c .1 .0))) R (c .1 .1)
 
       pub cleans-accepted : {a : CleanupAnswer} → s .number ≡ 0 → AcceptsCleanup (s .length) n (m .cleaned .rewrites) t a
           → Cleans bs out t a out′

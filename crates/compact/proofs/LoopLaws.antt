@@ -19,7 +19,7 @@ use Rattle.defs.specs.Lists.{bit, elemOf, keepIf, keepAt, rank}
 use Rattle.defs.specs.SeqGraph.{Edge, Graph, Change, applyChange, remapEdge, addOrUpdateEdge, addOrUpdateEdges}
 use Rattle.laws.proofs.ListLaws.{clash, rank-yes, rank-no, and-split}
 use Rattle.laws.proofs.Walks.{byTest}
-use Rattle.store.specs.Store.{isSet, edge, edgeIn, edgesIn, putEdge, seqIn, seqsIn, graphIn, numsIn, changeIn, EndsBelow, Within, keptBy, Numbered}
+use Rattle.store.specs.Store.{isSet, edge, edgeIn, edgesIn, putEdge, seqIn, seqsIn, graphIn, numsIn, EndsBelow, Within, keptBy, Numbered}
 use Rattle.store.proofs.EdgeLaws.{put-push, put-other, length-put}
 use Rattle.tabs.proofs.ListTabs.{tab-append, keepIf-tab-yes, keepIf-tab-no, keepAt-tab-yes, keepAt-tab-no, mem-tab, of-mem-tab, elemOf-snoc}
 use Rattle.compact.specs.Compact.{BothSet, Marked, Renumbered, VertsClosed, EdgesClosed}

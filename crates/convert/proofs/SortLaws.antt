@@ -1,4 +1,4 @@
--- A list of edges in order is what the definition's sort makes of any list with the same members. Assumes nothing.
+-- What the definition's sort makes of a list of edges; any list in order with the same members is that. Assumes nothing.
 use mathlib.Core.Path.{_≡_, refl, sym, ap, _∙_}
 use mathlib.Core.Bool.{Bool, true, false, _&&_, _||_}
 use mathlib.Core.Logic.{_⊎_, inl, inr, ⊎-elim}
@@ -13,6 +13,8 @@ use Rattle.defs.specs.SeqGraph.{Edge, Graph, vertexSequence}
 use Rattle.defs.specs.Assembly.{bytesBefore, edgeBefore, insertEdge, sortEdges}
 use Rattle.laws.proofs.Walks.{byTest}
 use Rattle.laws.proofs.ListLaws.{clash}
+use Rattle.laws.proofs.Edges.{Linked}
+use Rattle.laws.proofs.Counts.{Single}
 use Rattle.laws.proofs.Merge.{sameList-eq}
 use Rattle.kmer_order.proofs.BytesOrder.{not-before-trans, before-not, before-same, neither-before}
 
@@ -194,3 +196,21 @@ module _ (g : Graph) where
   unfolding sortEdges
   length-sort [] = refl
   length-sort (x ∷ l) = length-insert x (sortEdges g l) ∙ ap suc (length-sort l)
+
+  single-insert : (d : Edge) (l : List Edge) → (Linked l (d .from) (d .to) → ⊥) → Single l → Single (insertEdge g d l)
+  unfolding insertEdge
+  single-insert d [] n s = (n, tt)
+  single-insert d (e ∷ l) n s = byTest (edgeBefore g e d)
+      (λ t. rw (insert-yes d e l t) (alone, single-insert d l (λ k. n (k .0, List·Memᴰ·tail (k .1), k .2, k .3)) (s .1)))
+      (λ t. rw (insert-no d e l t) (n, s))
+    where
+      alone : Linked (insertEdge g d l) (e .from) (e .to) → ⊥
+      alone (x, m, p, q) = ⊎-elim
+          (λ (i : x ≡ d). n (e, List·Memᴰ·head refl, sym p ∙ ap (λ (y : Edge). y .from) i, sym q ∙ ap (λ (y : Edge). y .to) i))
+          (λ (k : List·Memᴰ x l). s .0 (x, k, p, q))
+          (of-insert d l x m)
+
+  pub single-sort : (l : List Edge) → Single l → Single (sortEdges g l)
+  unfolding sortEdges
+  single-sort [] s = tt
+  single-sort (x ∷ l) s = single-insert x (sortEdges g l) (λ k. s .0 (k .0, of-sort l (k .0) (k .1), k .2, k .3)) (single-sort l (s .1))

@@ -47,12 +47,16 @@ unfoldable pub tallied : Response → ℕ → Tally → Tally
 tallied (refused n) rewrites t = record { answered = t .answered; refused = saturatingAdd (t .refused) 1; rewrites = t .rewrites }
 tallied (accepted r) rewrites t = record { answered = saturatingAdd (t .answered) 1; refused = t .refused; rewrites = saturatingAdd (t .rewrites) rewrites }
 
--- The first cause present refuses; then 11, the output is shorter than the result.
+-- The first cause present refuses, by its number; then 11, the output is shorter than the result.
 unfoldable pub fits : ℕ → List ℕ → Response
 fits room result = elim (ltb room (length result)) [ true ↦ refused 11 | false ↦ accepted result ]
 
+unfoldable pub respondTo : ℕ → ℕ → List ℕ → Response
+respondTo zero room result = fits room result
+respondTo (suc n) room result = refused (suc n)
+
 unfoldable pub respond : List Cause → ℕ → List ℕ → Response
-respond causes room result = elim (refusalOf causes) [ zero ↦ fits room result | suc n ↦ refused (suc n) ]
+respond causes room result = respondTo (refusalOf causes) room result
 
 -- number, length and tally: the answer of conversion, of clean_non_ref_paths and of the two string calls
 pub record Answer : Type 0 where
@@ -70,11 +74,12 @@ vertexSequenceNumber bs v = refusalOf (recordCauses bothKinds bs ++ (record { nu
 unfoldable pub vertexSequencePart : List ℕ → ℕ → List ℕ
 vertexSequencePart bs v = cond (eqb (vertexSequenceNumber bs v) 0) (vertexSequence (decode bs) v) []
 
--- from_assembly_graph
+-- from_assembly_graph: 8 where the converted graph has over 8,192 bytes
+unfoldable pub conversionCauses : List ℕ → List Cause
+conversionCauses bs = recordCauses kmerOnly bs ++ (record { number = 8; present = ltb 8192 (sequenceBytes ((fromAssemblyGraph (decode bs)) .verts)) } ∷ [])
+
 unfoldable pub fromAssemblyGraphResponse : List ℕ → ℕ → Response
-fromAssemblyGraphResponse bs room =
-    let g = fromAssemblyGraph (decode bs) in
-    respond (recordCauses kmerOnly bs ++ (record { number = 8; present = ltb 8192 (sequenceBytes (g .verts)) } ∷ [])) room (encode sequenceGraph 0 g)
+fromAssemblyGraphResponse bs room = respond (conversionCauses bs) room (encode sequenceGraph 0 (fromAssemblyGraph (decode bs)))
 
 unfoldable pub fromAssemblyGraphAnswer : List ℕ → ℕ → Tally → Answer
 fromAssemblyGraphAnswer bs room t = answer (fromAssemblyGraphResponse bs room) t
@@ -144,14 +149,8 @@ referencePathBytesResponse bs room =
     let p = referencePathBytes (decode bs) in
     respond (recordCauses sequenceOnly bs ++ (record { number = 10; present = isNothing p } ∷ [])) room (bytesOrNone p)
 
-unfoldable pub referencePathBytesAnswer : List ℕ → ℕ → Tally → Answer
-referencePathBytesAnswer bs room t = answer (referencePathBytesResponse bs room) t
-
 -- path_bases_bytes: 9 where the start or the list of edges is no path
 unfoldable pub pathBasesBytesResponse : List ℕ → ℕ → List ℕ → ℕ → Response
 pathBasesBytesResponse bs start edges room =
     let g = decode bs in
     respond (recordCauses sequenceOnly bs ++ (record { number = 9; present = not (isPathOf g start edges) } ∷ [])) room (pathBasesBytes g start edges)
-
-unfoldable pub pathBasesBytesAnswer : List ℕ → ℕ → List ℕ → ℕ → Tally → Answer
-pathBasesBytesAnswer bs start edges room t = answer (pathBasesBytesResponse bs start edges room) t

@@ -1,87 +1,95 @@
 -- The promise of from_assembly_graph. Assumes nothing.
 use mathlib.Core.Path.{_≡_, refl, sym, ap, _∙_, subst}
-use mathlib.Core.List.{List, _++_, List·Memᴰ}
-use Prim.Native.Nat.{ℕ, _≤_, _<_}
+use mathlib.Core.Bool.{Bool}
+use mathlib.Core.List.{List, _++_}
+use Prim.Native.Nat.{ℕ, _≤_}
 use native.Mathlib.Omega.{arith}
-use lib.ListN.{length, getD, take, drop}
+use native.Mathlib.Decide.{ℕ-discrete}
+use lib.Dec.{ltb}
+use lib.ListN.{length, take, drop}
 use lib.Seq.{take-append-seam}
-use Rattle.defs.specs.SeqGraph.{Edge, Graph, nodeCount}
+use Rattle.defs.specs.SeqGraph.{Graph, nodeCount}
 use Rattle.defs.specs.Calls as D
-use Rattle.defs.specs.Calls.{Response, refused, accepted, numberOf, lengthOf, writtenOf, fits, fromAssemblyGraphResponse, fromAssemblyGraphAnswer}
-use Rattle.defs.specs.Record.{kindOf, verticesOf, edgesOf, bytesOf, sequenceGraph, sequenceAt, edgeAt, encode, decode}
-use Rattle.defs.specs.Refusals.{kmerOnly, refusalOf}
+use Rattle.defs.specs.Calls.{Response, refused, accepted, numberOf, lengthOf, writtenOf, fits, conversionCauses}
+use Rattle.defs.specs.Calls.{fromAssemblyGraphResponse, fromAssemblyGraphAnswer}
+use Rattle.defs.specs.Record.{kindOf, verticesOf, edgesOf, bytesOf, sequenceGraph, encode, decode}
+use Rattle.defs.specs.Refusals.{kmerOnly, refusalOf, recordRefusal}
 use Rattle.defs.specs.Assembly.{additionalSequence, edgesSorted, fromAssemblyGraph}
+use Rattle.defs.specs.Simplify.{sequenceBytes}
+use Rattle.laws.proofs.Walks.{byTest}
+use Rattle.laws.proofs.Fuel.{Good}
 use Rattle.tabs.proofs.Tabs.{length-tab}
 use Rattle.record.specs.Layout.{WellFormed}
 use Rattle.record.proofs.Sequences.{length-is}
-use Rattle.sound.proofs.Accepted.{read-bounded, accepted-layout}
-use Rattle.codec.specs.Encodable.{WithinEdge}
-use Rattle.codec.proofs.RoundTrip.{decode-encode, answer-encodable, decoded-encodable}
+use Rattle.reread.specs.Reread.{ReacceptedAs}
+use Rattle.reread.specs.Recordable.{SequenceInput, KmerInput}
+use Rattle.reread.proofs.Graphs.{input-reaccepted}
+use Rattle.reread.proofs.Read.{Bytes, record-most, kmer-input}
 use Rattle.memory.specs.Memory.{graphOf}
-use Rattle.convert.proofs.SortLaws.{of-sort, length-sort}
+use Rattle.convert.proofs.SortLaws.{of-sort, length-sort, single-sort}
 use Rattle.calls.specs.Answers.{tallyOf, answerOf, Refuses, Accepts}
 use Rattle.calls.specs.Sending.{Sends}
 use Rattle.calls.specs.declared.Tally.{Tally}
 use Rattle.calls.specs.declared.Answer.{Answer}
 use Rattle.calls.specs.declared.Sent.{Sent}
-use Rattle.calls.proofs.AnswerLaws.{respond-refused, respond-fits}
+use Rattle.calls.proofs.AnswerLaws.{fits-not-short, respond-refused, respond-fits}
+use Rattle.calls.proofs.CauseLaws.{behind-refused, behind-present, behind-absent}
 use Rattle.calls.proofs.SendLaws.{sent-short, sent-whole}
 use Rattle.read_kmers.proofs.KmerLaws.{kmer-bytes-least, kmer-bytes-most}
-use Rattle.from_kmers.specs.Conversion.{conversionCauses, Roomy, ConvertedAs}
+use Rattle.from_kmers.specs.Conversion.{Roomy, ConvertedAs}
 use Rattle.from_kmers.specs.declared.Converted.{Converted}
 use Rattle.from_kmers.proofs.ConversionLaws.{none-early, none-late}
 use Rattle.from_assembly_graph.specs.Converts.{Converts, Large, Small}
 
--- ---- the converted graph has as many vertices and edges, and its record is read back
+-- ---- the converted graph is within the limits of input
 
 module _ (g : Graph) where
   same-vertices : nodeCount (fromAssemblyGraph g) ≡ nodeCount g
   unfolding fromAssemblyGraph nodeCount
   same-vertices = length-tab (nodeCount g) (additionalSequence g)
 
-  same-edges : length ((fromAssemblyGraph g) .edges) ≡ length (g .edges)
+  converted-good : Good g → Good (fromAssemblyGraph g)
   unfolding fromAssemblyGraph edgesSorted
-  same-edges = length-sort g (g .edges)
+  converted-good (s, o) = (
+    record {
+      bounded = λ e m.
+          let b = s .bounded e (of-sort g (g .edges) e m) in
+          (omega (arith, same-vertices, b .0), omega (arith, same-vertices, b .1));
+      rank = s .rank;
+      ranks = λ a b l. s .ranks a b (l .0, of-sort g (g .edges) (l .0) (l .1), l .2, l .3);
+    },
+    single-sort g (g .edges) o,
+  )
 
-  edge-kept : (e : Edge) → List·Memᴰ e ((fromAssemblyGraph g) .edges) → List·Memᴰ e (g .edges)
+  converted-input : KmerInput g → sequenceBytes ((fromAssemblyGraph g) .verts) ≤ 8192 → SequenceInput (fromAssemblyGraph g)
   unfolding fromAssemblyGraph edgesSorted
-  edge-kept e m = of-sort g (g .edges) e m
+  converted-input I few = record {
+    good = converted-good (I .good);
+    k-least = I .k-least;
+    k-most = I .k-most;
+    vertices = omega (arith, same-vertices, I .vertices);
+    edges = omega (arith, length-sort g (g .edges), I .edges);
+    bytes = few;
+    supports = λ e m. I .supports e (of-sort g (g .edges) e m);
+  }
 
-  same-k : (fromAssemblyGraph g) .k ≡ g .k
-  unfolding fromAssemblyGraph
-  same-k = refl
+convert-reaccepted : (bs : List ℕ) → Bytes bs → refusalOf (conversionCauses bs) ≡ 0
+    → ReacceptedAs (fromAssemblyGraph (decode bs)) (encode sequenceGraph 0 (fromAssemblyGraph (decode bs)))
+convert-reaccepted bs small none =
+    input-reaccepted (fromAssemblyGraph (decode bs))
+    (converted-input (decode bs) (kmer-input bs small (none-early bs none)) (none-late bs none)) 0
+    (omega arith)
 
-module _ (bs : List ℕ) (none : refusalOf (conversionCauses bs) ≡ 0) where
-  formed : WellFormed bs
-  formed = accepted-layout kmerOnly bs (none-early bs none)
-
-  few-vertices : nodeCount (fromAssemblyGraph (decode bs)) ≤ 2048
-  unfolding decode nodeCount
-  few-vertices = omega (arith, same-vertices (decode bs), length-tab (verticesOf bs) (sequenceAt bs), formed .vertices)
-
-  few-edges : length ((fromAssemblyGraph (decode bs)) .edges) ≤ 4096
-  unfolding decode
-  few-edges = omega (arith, same-edges (decode bs), length-tab (edgesOf bs) (edgeAt bs), formed .edges)
-
-  small-k : (fromAssemblyGraph (decode bs)) .k ≤ 128
-  unfolding decode
-  small-k = omega (arith, same-k (decode bs), formed .k-most)
-
-  module _ (small : (i : ℕ) → getD bs i 0 < 256) where
-    edge-within : (e : Edge) → List·Memᴰ e ((fromAssemblyGraph (decode bs)) .edges) → WithinEdge (fromAssemblyGraph (decode bs)) e
-    edge-within e m =
-        let k = edge-kept (decode bs) e m in
-        let ends = read-bounded bs formed e k in
-        record {
-          from = omega (arith, ends .0, same-vertices (decode bs));
-          to = omega (arith, ends .1, same-vertices (decode bs));
-          support = decoded-encodable bs small formed .each e k .support;
-        }
-
-    read-back : decode (encode sequenceGraph 0 (fromAssemblyGraph (decode bs))) ≡ fromAssemblyGraph (decode bs)
-    read-back = decode-encode sequenceGraph 0 (fromAssemblyGraph (decode bs))
-        (answer-encodable (fromAssemblyGraph (decode bs)) small-k (omega (arith, few-vertices)) (omega (arith, few-edges))
-        (none-late bs none) edge-within)
+never-11 : (bs : List ℕ) → refusalOf (conversionCauses bs) ≡ 11 → ⊥
+unfolding conversionCauses
+never-11 bs e =
+    let over : Bool = ltb 8192 (sequenceBytes ((fromAssemblyGraph (decode bs)) .verts)) in
+    elim (ℕ-discrete (recordRefusal kmerOnly bs) 0) [
+      | no ne ↦ omega (arith, e, record-most kmerOnly bs, behind-refused kmerOnly bs 8 over refl ne)
+      | yes z ↦ byTest over
+          (λ t. omega (arith, e, behind-present kmerOnly bs 8 over z t))
+          (λ t. omega (arith, e, behind-absent kmerOnly bs 8 over z t))
+    ]
 
 -- ---- the answer and the output go by the response
 
@@ -90,12 +98,12 @@ module _ (bs out : List ℕ) (t : Tally) where
   result = encode sequenceGraph 0 (fromAssemblyGraph (decode bs))
 
   stopped : (n : ℕ) → refusalOf (conversionCauses bs) ≡ n → (n ≡ 0 → ⊥) → fromAssemblyGraphResponse bs (length out) ≡ refused n
-  unfolding fromAssemblyGraphResponse conversionCauses
-  stopped n e o = respond-refused _ (length out) result n e o
+  unfolding fromAssemblyGraphResponse
+  stopped n e o = respond-refused (conversionCauses bs) (length out) result n e o
 
   fitting : refusalOf (conversionCauses bs) ≡ 0 → fromAssemblyGraphResponse bs (length out) ≡ fits (length out) result
-  unfolding fromAssemblyGraphResponse conversionCauses
-  fitting e = respond-fits _ (length out) result e
+  unfolding fromAssemblyGraphResponse
+  fitting e = respond-fits (conversionCauses bs) (length out) result e
 
   answer-by : {x : Response} {a : Answer} → fromAssemblyGraphResponse bs (length out) ≡ x → answerOf a ≡ D.answer x (tallyOf t) → answerOf a
       ≡ fromAssemblyGraphAnswer bs (length out) (tallyOf t)
@@ -110,45 +118,43 @@ module _ (bs out : List ℕ) (t : Tally) where
   unfolding D.answer
   length-by x q = ap (λ (y : D.Answer). y .length) q
 
-  refused-with : (n : ℕ) → (n ≡ 0 → ⊥) → fromAssemblyGraphResponse bs (length out) ≡ refused n → {a : Answer} {out′ : List ℕ}
-      → Refuses n t a → out′ ≡ out → Converts bs out t a out′
+  refused-with : (n : ℕ) → (n ≡ 0 → ⊥) → (49184 ≤ length out → n ≡ 11 → ⊥) → fromAssemblyGraphResponse bs (length out) ≡ refused n
+      → {a : Answer} {out′ : List ℕ} → Refuses n t a → out′ ≡ out → Converts bs out t a out′
   unfolding writtenOf numberOf
-  refused-with n o e {a} R q = record {
+  refused-with n o short e {a} R q = record {
     answer = answer-by e (R .is);
     written = q ∙ sym (ap (λ (x : Response). writtenOf x out) e);
-    graph = λ i. absurd (other i);
-    vertices = λ i. absurd (other i);
-    edges = λ i. absurd (other i);
+    room = λ l i. short l (sym (number-by (refused n) (R .is)) ∙ i);
+    reaccepted = λ i. absurd (other i);
   }
     where
       other : a .number ≡ 0 → ⊥
       other i = o (sym (number-by (refused n) (R .is)) ∙ i)
 
-  accepted-with : ((i : ℕ) → getD bs i 0 < 256) → refusalOf (conversionCauses bs) ≡ 0 → {a : Answer} {out′ : List ℕ}
+  accepted-with : Bytes bs → refusalOf (conversionCauses bs) ≡ 0 → {a : Answer} {out′ : List ℕ}
       → fromAssemblyGraphResponse bs (length out) ≡ accepted result → answerOf a ≡ D.answer (accepted result) (tallyOf t)
       → out′ ≡ result ++ drop (length result) out → Converts bs out t a out′
-  unfolding writtenOf lengthOf
+  unfolding writtenOf numberOf lengthOf
   accepted-with small none {a} {out′} e q w = record {
     answer = answer-by e q;
     written = w ∙ sym (ap (λ (x : Response). writtenOf x out) e);
-    graph = λ i. written-is;
-    vertices = λ i. omega (arith, ap nodeCount written-is, few-vertices bs none);
-    edges = λ i. omega (arith, ap (λ (g : Graph). length (g .edges)) written-is, few-edges bs none);
+    room = λ l i. omega (arith, i, number-by (accepted result) q);
+    reaccepted = λ i. subst (ReacceptedAs (fromAssemblyGraph (decode bs))) (sym front) (convert-reaccepted bs small none);
   }
     where
-      written-is : decode (take (a .length) out′) ≡ fromAssemblyGraph (decode bs)
-      written-is =
-          ap decode (ap (λ (n : ℕ). take n out′) (length-by (accepted result) q) ∙ ap (take (length result)) w
-          ∙ take-append-seam result (drop (length result) out))
-          ∙ read-back bs none small
+      front : take (a .length) out′ ≡ result
+      front =
+          ap (λ (n : ℕ). take n out′) (length-by (accepted result) q) ∙ ap (take (length result)) w
+          ∙ take-append-seam result (drop (length result) out)
 
 -- ---- the whole call
 
 module _ {bs : List ℕ} {c : Converted} {sorted vs p : List ℕ} (C : ConvertedAs bs c sorted vs p) (t : Tally) where
   pub converts-refused : (out : List ℕ) {a : Answer} → (c .number ≡ 0 → ⊥) → Refuses (c .number) t a → Converts bs out t a out
-  converts-refused out o R = refused-with bs out t (c .number) o (stopped bs out t (c .number) (sym (C .number)) o) R refl
+  converts-refused out o R =
+      refused-with bs out t (c .number) o (λ l i. never-11 bs (sym (C .number) ∙ i)) (stopped bs out t (c .number) (sym (C .number)) o) R refl
 
-  module _ (small : (i : ℕ) → getD bs i 0 < 256) (ok : c .number ≡ 0) {out out′ : List ℕ} {s : Sent} (S :
+  module _ (small : Bytes bs) (ok : c .number ≡ 0) {out out′ : List ℕ} {s : Sent} (S :
       Sends (encode sequenceGraph 0 (graphOf (c .held) sorted vs p)) out s out′) where
     none : refusalOf (conversionCauses bs) ≡ 0
     none = sym (C .number) ∙ ok
@@ -159,7 +165,9 @@ module _ {bs : List ℕ} {c : Converted} {sorted vs p : List ℕ} (C : Converted
     pub converts-short : {a : Answer} → (s .number ≡ 0 → ⊥) → Refuses (s .number) t a → Converts bs out t a out′
     converts-short o R =
         let d = sent-short sends o in
-        refused-with bs out t (s .number) o (fitting bs out t none ∙ d .0 ∙ ap refused (sym (d .1 .0))) R (d .1 .1)
+        refused-with bs out t (s .number) o
+        (λ l i. fits-not-short (length out) _ (omega (arith, l, (convert-reaccepted bs small none) .size)) (d .0))
+        (fitting bs out t none ∙ d .0 ∙ ap refused (sym (d .1 .0))) R (d .1 .1)
 
     pub converts-accepted : {a : Answer} → s .number ≡ 0 → Accepts (s .length) t a → Converts bs out t a out′
     converts-accepted i A =

@@ -3,22 +3,21 @@ use mathlib.Core.Path.{_≡_}
 use mathlib.Core.List.{List}
 use Prim.Native.Nat.{ℕ, _≤_}
 use lib.ListN.{length, take}
-use Rattle.defs.specs.SeqGraph.{nodeCount}
 use Rattle.defs.specs.Record.{decode}
 use Rattle.defs.specs.Assembly.{fromAssemblyGraph}
 use Rattle.defs.specs.Calls.{writtenOf, fromAssemblyGraphResponse, fromAssemblyGraphAnswer}
+use Rattle.reread.specs.Reread.{ReacceptedAs}
 use Rattle.calls.specs.Answers.{tallyOf, answerOf}
 use Rattle.calls.specs.declared.Tally.{Tally}
 use Rattle.calls.specs.declared.Answer.{Answer}
 
--- For any bytes bs and any lent output: the answer and the output at exit are the definition's. The record written is read back as the
--- converted graph, which keeps the limits of answers.
+-- For any bytes bs and any lent output: the answer and the output at exit are the definition's. 49,184 bytes of output are room
+-- enough; the record written is read back as the converted graph and keeps the limits of input; handed in again, it is accepted.
 pub record Converts (bs out : List ℕ) (t : Tally) (r : Answer) (out′ : List ℕ) : Type 0 where
   pub answer : answerOf r ≡ fromAssemblyGraphAnswer bs (length out) (tallyOf t)
   pub written : out′ ≡ writtenOf (fromAssemblyGraphResponse bs (length out)) out
-  pub graph : r .number ≡ 0 → decode (take (r .length) out′) ≡ fromAssemblyGraph (decode bs)
-  pub vertices : r .number ≡ 0 → nodeCount (decode (take (r .length) out′)) ≤ 10240
-  pub edges : r .number ≡ 0 → length ((decode (take (r .length) out′)) .edges) ≤ 16384
+  pub room : 49184 ≤ length out → r .number ≡ 11 → ⊥
+  pub reaccepted : r .number ≡ 0 → ReacceptedAs (fromAssemblyGraph (decode bs)) (take (r .length) out′)
 
 -- room for every accepted record: 2,048 k-mers of 128 bytes, and 4,096 edges, once in the record's order and once sorted
 pub record Large (es vs p heads nexts order scratch place sorted : List ℕ) : Type 0 where

@@ -11,6 +11,7 @@ use Rattle.defs.specs.Simplify.{sequenceBytes}
 use Rattle.defs.specs.Record.{decode}
 use Rattle.defs.specs.Refusals.{refusalOf, kmerOnly, recordRefusal}
 use Rattle.defs.specs.Assembly.{fromAssemblyGraph}
+use Rattle.defs.specs.Calls.{conversionCauses}
 use Rattle.laws.proofs.ListLaws.{clash, byOrder}
 use Rattle.tabs.proofs.Tabs.{getD-tab, length-tab}
 use Rattle.store.specs.Store.{edgeIn, graphIn, Within}
@@ -32,7 +33,7 @@ use Rattle.accept.specs.declared.Read.{Read}
 use Rattle.read_kmers.specs.Kmers as K
 use Rattle.read_kmers.specs.Kmers.{HoldsKmers, KmersRead}
 use Rattle.read_kmers.proofs.KmerLaws.{sum-most}
-use Rattle.from_kmers.specs.Conversion.{conversionCauses, Roomy, ConvertedAs}
+use Rattle.from_kmers.specs.Conversion.{Roomy, ConvertedAs}
 use Rattle.from_kmers.specs.declared.Converted.{Converted}
 
 -- ---- the causes

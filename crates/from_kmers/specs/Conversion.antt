@@ -1,22 +1,17 @@
 -- A k-mer record that is converted. Assumes nothing.
 use mathlib.Core.Path.{_≡_}
-use mathlib.Core.List.{List, [], _∷_, _++_}
+use mathlib.Core.List.{List}
 use Prim.Native.Nat.{ℕ, _*_, _≤_}
-use lib.Dec.{ltb}
 use lib.ListN.{length}
-use Rattle.defs.specs.Simplify.{sequenceBytes}
 use Rattle.defs.specs.Record.{edgesOf, decode}
-use Rattle.defs.specs.Refusals.{Cause, refusalOf, kmerOnly, recordCauses}
+use Rattle.defs.specs.Refusals.{refusalOf}
 use Rattle.defs.specs.Assembly.{fromAssemblyGraph}
+use Rattle.defs.specs.Calls.{conversionCauses}
 use Rattle.record.specs.Layout.{WellFormed}
 use Rattle.memory.specs.Memory.{graphOf}
 use Rattle.calls.specs.Sending.{Sendable}
 use Rattle.read_kmers.specs.Kmers as K
 use Rattle.from_kmers.specs.declared.Converted.{Converted}
-
--- the causes that lie in the record, and 8: the converted graph has over 8,192 bytes
-unfoldable pub conversionCauses : List ℕ → List Cause
-conversionCauses bs = recordCauses kmerOnly bs ++ (record { number = 8; present = ltb 8192 (sequenceBytes ((fromAssemblyGraph (decode bs)) .verts)) } ∷ [])
 
 -- room to read the record, for the numbers of its edges and for the sorted edges, if its layout is that of a k-mer graph
 pub record Roomy (bs es vs p heads nexts order scratch place sorted : List ℕ) : Type 0 where

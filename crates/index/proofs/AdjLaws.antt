@@ -16,9 +16,6 @@ use Rattle.defs.specs.Lists.{tabFrom, keepIf, allOf}
 use Rattle.index.specs.Index.{atFrom, edgesAt, Next, Index}
 
 module _ (f : ℕ → ℕ) (m v : ℕ) where
-  at-test : ℕ → Bool
-  at-test e = eqb (f e) v
-
   -- an edge at v is the first of what is left
   pub at-hit : (k : ℕ) → k < m → f k ≡ v → atFrom f m v k ≡ k ∷ atFrom f m v (k + 1)
   unfolding tabFrom keepIf

@@ -15,7 +15,7 @@ use Rattle.defs.specs.Strings.{SpellsBetween, HasEdge, IsPath, Spells, spelled}
 use Rattle.laws.proofs.Walks.{Net, start, at, stop, Steps, stay, step, cast, Reads, IsSource, IsSink, byTest}
 use Rattle.laws.proofs.ListLaws.{clash, and-split, and-true, rank-no}
 use Rattle.laws.proofs.Nets.{Ranks, Bounded, partOf, order-restrict, bounded-restrict, ranks-restrict, closed, reads-restrict}
-use Rattle.laws.proofs.Nets.{of-reads-restrict, spells-reads, reads-spells, fro, placeOf}
+use Rattle.laws.proofs.Nets.{of-reads-restrict, spells-reads, reads-spells}
 use Rattle.laws.proofs.Sound.{Sound}
 use Rattle.laws.proofs.Reach.{Hop, Way, way-more, way-last, is-reached, of-reached}
 
@@ -168,19 +168,6 @@ module _ (g : Graph) where
         λ w. reads-along (of-reads-restrict p g bounded (spells-reads (compactVertices p g) w)),
         λ a. reads-spells (compactVertices p g) bounded-part (reads-restrict p g bounded (along-reads a)),
       )
-
-      -- under the new numbers: only s has no incoming edge, only t has no outgoing edge
-      pub between-source : (v : ℕ) → v < nodeCount (removePathsNotConnectedToRef g s t)
-          → ((u : ℕ) → HasEdge (removePathsNotConnectedToRef g s t) u v → ⊥) → v ≡ rank p s
-      between-source v h k =
-          let z = (fro p g bounded) .begins v (rw between-is at h, rw between-is at k) in
-          sym (z .1 .2) ∙ ap (rank p) (only-source (z .0) (z .2))
-
-      pub between-sink : (v : ℕ) → v < nodeCount (removePathsNotConnectedToRef g s t)
-          → ((w : ℕ) → HasEdge (removePathsNotConnectedToRef g s t) v w → ⊥) → v ≡ rank p t
-      between-sink v h k =
-          let z = placeOf p g bounded v (rw between-is at h) in
-          sym (z .1 .2) ∙ ap (rank p) (only-sink (z .0) ((fro p g bounded) .ends v (z .0) (z .1) (rw between-is at h, rw between-is at k)))
 
       -- a sink that is not reached leaves nothing
       none-kept : (n : ℕ) → ((v : ℕ) → v < n → p v ≡ false) → rank p n ≡ 0

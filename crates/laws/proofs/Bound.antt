@@ -212,9 +212,6 @@ simplify-tame least pos g h =
     let k = zip-paid (begun g) h in
     tame-then (k .tame) ((rounds-within least pos (weight g) 100 0 [] (zipLinearChains (begun g)) (k .tame .good) (k .tame .light)) .tame)
 
-pub simplify-good : (least : ℕ) → 3 < least → (g : Graph) → Good g → Good ((simplifyGraphFull least g) .graph)
-simplify-good least pos g h = (simplify-tame least pos g h) .good
-
 pub simplify-bound : (least : ℕ) → 3 < least → (g : Graph) → Good g → (simplifyGraphFull least g) .rewrites ≤ 202 * weight g
 unfolding simplifyGraphFull
 simplify-bound least pos g h =
@@ -246,31 +243,6 @@ small-fits g s h = record { vertices = omega (arith, h .size, order-weight g); e
 
 pub tame-fits : {g g′ : Graph} → Small g → Tame g g′ → Fits g′
 tame-fits {g} {g′} h t = small-fits g′ (t .good) (small-tame h t)
-
--- each graph that a loop passes is its result with less fuel
-pub diamonds-fit : (fuel : ℕ) (w : Work) → Good (w .graph) → Small (w .graph) → Fits ((transformUntilComplete tryMergeDiamond fuel w) .graph)
-diamonds-fit fuel w h s = tame-fits s ((diamonds-paid fuel w h) .tame)
-
-pub tails-fit : (least : ℕ) → 3 < least → (fuel : ℕ) (w : Work) → Good (w .graph) → Small (w .graph)
-    → Fits ((transformUntilComplete (tryMergeTails least) fuel w) .graph)
-tails-fit least pos fuel w h s = tame-fits s ((tails-paid least pos fuel w h) .tame)
-
-pub splits-fit : (fuel : ℕ) (tried : List ℕ) (w : Work) → Good (w .graph) → Small (w .graph) → Fits ((splitUntilComplete fuel tried w) .graph)
-splits-fit fuel tried w h s = tame-fits s ((splits-added fuel tried w h) .tame)
-
-pub merges-fit : (fuel : ℕ) (w : Work) → Good (w .graph) → Small (w .graph) → Fits ((transformUntilComplete tryMergeCommonSuffices fuel w) .graph)
-merges-fit fuel w h s = tame-fits s ((merges-paid fuel w h) .tame)
-
-pub zips-fit : (fuel : ℕ) (ss : List ℕ) (w : Work) → Good (w .graph) → Small (w .graph) → Fits ((zipStarts fuel ss w) .graph)
-zips-fit fuel ss w h s = tame-fits s ((starts-paid fuel ss w h) .tame)
-
-pub round-fits : (least : ℕ) → 3 < least → (w : Work) → Good (w .graph) → Small (w .graph) → Fits ((simplifyGraphOnce least w) .graph)
-    × Small ((simplifyGraphOnce least w) .graph)
-round-fits least pos w h s = let t = (round-within least pos w h) .tame in (tame-fits s t, small-tame s t)
-
-pub rounds-fit : (least : ℕ) → 3 < least → (remaining n : ℕ) (sig : List ℕ) (w : Work) → Good (w .graph) → Small (w .graph)
-    → Fits ((roundsFrom least remaining n sig w) .graph)
-rounds-fit least pos remaining n sig w h s = tame-fits s ((rounds-within least pos (weight (w .graph)) remaining n sig w h (omega arith)) .tame)
 
 pub simplify-fits : (least : ℕ) → 3 < least → (g : Graph) → Good g → Small g → Fits ((simplifyGraphFull least g) .graph)
 simplify-fits least pos g h s = tame-fits s (simplify-tame least pos g h)

@@ -214,11 +214,6 @@ unfolding heft
 length-heft [] = omega arith
 length-heft (x ∷ l) = omega arith
 
-pub one-heft : (l : List ℕ) → 1 ≤ heft l
-unfolding heft
-one-heft [] = omega arith
-one-heft (x ∷ l) = omega arith
-
 pub heft-append : (a b : List ℕ) → heft (a ++ b) ≤ heft a + heft b
 unfolding heft
 heft-append [] b = omega arith

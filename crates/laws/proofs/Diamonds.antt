@@ -22,9 +22,9 @@ use Rattle.laws.proofs.Walks.{Pt, start, at, stop, Go, byTest}
 use Rattle.laws.proofs.ListLaws.{clash, given-some, and-split, mem-keepIf, of-keepIf}
 use Rattle.laws.proofs.Nets.{Ranks, netOf, Bounded}
 use Rattle.laws.proofs.Edges.{allOf-mem, of-edgesFrom, in-edgesInto, in-edgesFrom, singleton, nonempty}
-use Rattle.laws.proofs.Counts.{total, Distinct, Single, total-same, total-add, total-append, total-one, total-le, heft, length-heft, total-times}
+use Rattle.laws.proofs.Counts.{total, Distinct, Single, total-same, total-add, total-append, total-one, total-le, heft, length-heft, total-times, length-both}
 use Rattle.laws.proofs.MergeCounts.{and-no}
-use Rattle.laws.proofs.SplitCounts.{total-map, total-keepIf, loads, length-parts, edges-split, places-split, total-const}
+use Rattle.laws.proofs.SplitCounts.{total-map, total-keepIf, loads, edges-split, places-split, total-const}
 use Rattle.laws.proofs.SharedLaws.{cut}
 use Rattle.laws.proofs.SplitWith as S
 use Rattle.laws.proofs.SplitWith.{exitOf}
@@ -306,7 +306,7 @@ module _ (g : Graph) (bounded : Bounded g) (r : ℕ → ℕ) (ranks : Ranks g r)
 
   -- each middle gives a new middle or joins the edge from prefix to suffix
   plans-are : length lefts′ + loads (prefixToSuffix others′) ≤ length mids
-  plans-are = omega (arith, length-parts hasRemaining (map plan mids), length-map mids plan, loads-le others′)
+  plans-are = omega (arith, length-both hasRemaining (map plan mids), length-map mids plan, loads-le others′)
 
   -- edges less vertices, by what the middles lead to
   pub surplus-split : Distinct mids → length (g′ .edges) + nodeCount g + total (outDegree g) mids

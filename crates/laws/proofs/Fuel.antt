@@ -2,23 +2,18 @@
 -- Assumes nothing.
 use Prim.Native.Nat.{ℕ, zero, suc, _+_, _≤_, _<_}
 use native.Mathlib.Omega.{arith}
-use mathlib.Core.Path.{_≡_, refl, sym, ap, _∙_}
+use mathlib.Core.Path.{_≡_, refl, sym, _∙_}
 use mathlib.Core.Bool.{Bool, true, false, _&&_}
 use mathlib.Core.Option.{Option, none, some}
 use mathlib.Core.List.{List, [], _∷_}
-use lib.Dec.{eqb, ltb}
+use lib.Dec.{eqb}
 use lib.ListN.{length}
-use borrow.Author.Tests.{ltb-true}
-use Rattle.defs.specs.SeqGraph.{Graph, nodeCount, incomingNodes, applyChange}
+use Rattle.defs.specs.SeqGraph.{Graph, nodeCount, applyChange}
 use Rattle.defs.specs.Zip.{Work}
-use Rattle.defs.specs.Rewrites.{mergesSuffices, isMerge, tryMergeCommonSuffices, mergeChange}
-use Rattle.defs.specs.Simplify.{firstAt, transformUntilComplete, fuelFor, sequenceBytes, emptyVertices}
-use Rattle.laws.proofs.ListLaws.{given-some, and-split}
-use Rattle.laws.proofs.Edges.{of-mem-ins, nonempty}
+use Rattle.defs.specs.Rewrites.{mergeChange}
+use Rattle.defs.specs.Simplify.{firstAt, transformUntilComplete, sequenceBytes, emptyVertices}
 use Rattle.laws.proofs.Counts.{Single}
 use Rattle.laws.proofs.Sound.{Sound, Keeps}
-use Rattle.laws.proofs.Merge.{merge-keeps′}
-use Rattle.laws.proofs.MergeCounts.{single-merge, order-merge}
 use Rattle.laws.proofs.Whole.{byOption, again, firstAt-some, until-none, until-some}
 
 module _ (f : Graph → ℕ → Option Graph) (Inv : Graph → Type 0) (μ : Graph → ℕ)
@@ -39,7 +34,7 @@ module _ (f : Graph → ℕ → Option Graph) (Inv : Graph → Type 0) (μ : Gra
   until-done zero w h l = absurd (omega arith)
   until-done (suc fuel) w h l = done-turn fuel w h l (λ a i m. until-done fuel (again w a) i m)
 
--- merges
+-- a measure that the fuel is past
 pub order-enough : (vs : List (List ℕ)) → length vs ≤ sequenceBytes vs + emptyVertices vs
 unfolding sequenceBytes emptyVertices
 order-enough [] = omega arith
@@ -48,21 +43,3 @@ order-enough ((x ∷ xs) ∷ vs) = omega (arith, order-enough vs)
 
 abbrev pub Good : Graph → Type 0
 Good g = Sound g × Single (g .edges)
-
-pub merge-falls : (g g′ : Graph) (v : ℕ) → Good g → tryMergeCommonSuffices g v ≡ some g′ → Good g′ × (nodeCount g′ < nodeCount g)
-unfolding tryMergeCommonSuffices mergesSuffices isMerge
-merge-falls g g′ v (s, o) did =
-    let h = given-some _ _ g′ did in
-    let a = and-split (ltb 0 (length (incomingNodes g v))) _ (h .0) in
-    let n = ltb-true 0 (length (incomingNodes g v)) (a .0) in
-    let b = nonempty (incomingNodes g v) n in
-    let e = of-mem-ins g (b .0) v (b .1) in
-    let i = rw (e .3) at ((s .bounded (e .0) (e .1)) .1) in (
-      ((merge-keeps′ g g′ v s did) .sound, rw (h .1) at (single-merge g v (s .bounded) (s .rank) (s .ranks) i (h .0) o)),
-      omega (arith, order-merge g v (s .bounded) (s .rank) (s .ranks) i (h .0) o, ap nodeCount (h .1)),
-    )
-
-pub merges-done : (w : Work) → Good (w .graph) → Done tryMergeCommonSuffices Good nodeCount merge-falls
-    (transformUntilComplete tryMergeCommonSuffices (fuelFor (w .graph)) w)
-unfolding fuelFor nodeCount
-merges-done w h = until-done tryMergeCommonSuffices Good nodeCount merge-falls (fuelFor (w .graph)) w h (omega (arith, order-enough (w .graph .verts)))

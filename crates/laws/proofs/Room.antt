@@ -47,7 +47,7 @@ narrow-tame h t = record {
       omega (arith, h .size, t .light);
 }
 
-total-keepAt : (f : List ℕ → ℕ) (p : ℕ → Bool) (i : ℕ) (xs : List (List ℕ)) → total f (keepAt p i xs) ≤ total f xs
+pub total-keepAt : (f : List ℕ → ℕ) (p : ℕ → Bool) (i : ℕ) (xs : List (List ℕ)) → total f (keepAt p i xs) ≤ total f xs
 unfolding total keepAt
 total-keepAt f p i [] = omega arith
 total-keepAt f p i (x ∷ xs) = byTest (p i)

@@ -1,6 +1,6 @@
 -- Diamonds and tails raise neither the bytes nor edges less vertices plus a quarter of the bytes.
 -- Assumes nothing.
-use Prim.Native.Nat.{ℕ, zero, suc, _+_, _-_, _*_, _/_, _≤_, _<_}
+use Prim.Native.Nat.{ℕ, zero, suc, _+_, _-_, _/_, _≤_, _<_}
 use native.Mathlib.Omega.{arith}
 use mathlib.Core.Path.{_≡_, refl, sym, ap, _∙_}
 use mathlib.Core.Logic.{_⊎_, inl, inr, ⊎-elim}
@@ -45,21 +45,11 @@ unfolding total concat
 length-flat-map h [] = refl
 length-flat-map h (x ∷ l) = length-append (h x) (concat (map h l)) ∙ ap (λ z. length (h x) + z) (length-flat-map h l)
 
-pub length-parts : {A : Type 0} (p : A → Bool) (l : List A) → length (keepIf p l) + length (keepIf (λ x. not (p x)) l) ≡ length l
-unfolding keepIf
-length-parts p [] = refl
-length-parts p (x ∷ l) = byTest (p x) (λ t. rw t (omega (arith, length-parts p l))) (λ t. rw t (omega (arith, length-parts p l)))
-
 -- x for each of a list of one or more, where x is at least c
 pub total-const : {A : Type 0} (x : ℕ) (l : List A) (c : ℕ) → c ≤ x → 0 < length l → x + total (λ _. c) l ≤ total (λ _. x) l + c
 unfolding total
 total-const x [] c h n = absurd (omega arith)
 total-const x (y ∷ l) c h n = omega (arith, total-le (λ _. c) (λ _. x) l (λ _ _. h))
-
-pub total-ten : {A : Type 0} (l : List A) → total (λ _. 10) l ≡ 10 * length l
-unfolding total
-total-ten [] = refl
-total-ten (x ∷ l) = omega (arith, total-ten l)
 
 -- an edge that is there already adds none
 pub raiseAll-append : (xs ys es : List Edge) → addOrUpdateEdges (xs ++ ys) es ≡ addOrUpdateEdges ys (addOrUpdateEdges xs es)

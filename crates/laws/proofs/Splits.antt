@@ -5,7 +5,7 @@ use native.Mathlib.Omega.{arith}
 use native.Mathlib.Nat.{not-suc-le-zero, le-of-suc-le-suc, add-zero, zero-add}
 use mathlib.Core.Path.{_≡_, refl, sym, ap, _∙_}
 use mathlib.Core.Logic.{_⊎_, inl, inr, ⊎-elim, _↔_}
-use mathlib.Core.Bool.{Bool, true, false, cond, not, _&&_, _||_, true≢false, false≢true}
+use mathlib.Core.Bool.{Bool, true, cond, not, _&&_, _||_, true≢false, false≢true}
 use mathlib.Core.Option.{Option, none, some}
 use mathlib.Core.List.{List, [], _∷_, _++_, map, append-assoc, append-nil, List·Memᴰ, List·Memᴰ·head, List·Memᴰ·tail, List·Memᴰ·not-nil}
 use mathlib.Core.List.{List·Memᴰ·cases-cons, Memᴰ·map, Memᴰ·of-map}
@@ -20,7 +20,7 @@ use Rattle.defs.specs.Rewrites.{splitsSuffix, splitSuffix, splitChange, EdgeDat
 use Rattle.defs.specs.Rewrites.{suffixAndPrefix, suffixAndPrefixEdges, withoutSuffix, splitVertices, splitEdges, nonEmpty, isSplit}
 use Rattle.defs.specs.Rewrites.{trySplitCommonSuffix, wouldEliminateRefSource}
 use Rattle.defs.specs.Strings.{HasEdge, Spells}
-use Rattle.laws.proofs.Walks.{Net, Pt, start, at, stop, Go, text, Steps, stay, step, single, then, cast, Tour, hit, pass, kept, byTest}
+use Rattle.laws.proofs.Walks.{Net, Pt, start, at, stop, Go, text, Steps, stay, step, single, then, cast, Tour, hit, pass, kept}
 use Rattle.laws.proofs.ListLaws.{clash, byOrder, given-some, and-split}
 use Rattle.laws.proofs.Nets.{Ranks, netOf, partOf, Bounded}
 use Rattle.laws.proofs.Edges.{Linked, linked-cases, linked-tail, keeps-not, keeps-other, order-grown, seq-grown-new, seq-grown-old}
@@ -325,9 +325,6 @@ module _ (g : Graph) (bounded : Bounded g) (r : ℕ → ℕ) (ranks : Ranks g r)
 
   pub shr-old : (v : ℕ) → shr v ≡ true → v < nodeCount g
   shr-old v t = (common-is g bounded c v t) .1
-
-  pub new-not : (v : ℕ) → nodeCount g ≤ v → shr v ≡ false
-  new-not v h = byTest (shr v) (λ t. absurd (omega (arith, shr-old v t))) (λ t. t)
 
   -- the sequences of a block
   pub seq-k : (k m : ℕ) → B k m → vertexSequence G k ≡ suffix

@@ -1,13 +1,12 @@
 -- What fits before a rewrite, within it, and after it. Assumes nothing.
 use mathlib.Core.Path.{_≡_, refl, sym, ap, _∙_}
 use mathlib.Core.List.{List}
-use Prim.Native.Nat.{ℕ, _+_, _*_, _/_, _≤_, _<_}
+use Prim.Native.Nat.{ℕ, _+_, _/_, _≤_, _<_}
 use native.Mathlib.Omega.{arith}
 use lib.ListN.{length, getD}
-use Rattle.defs.specs.SeqGraph.{Edge, Graph, nodeCount, withAdditions}
+use Rattle.defs.specs.SeqGraph.{Edge, Graph, nodeCount}
 use Rattle.defs.specs.Simplify.{sequenceBytes, emptyVertices}
 use Rattle.laws.proofs.Measures.{weight, load, order-weight, Tame}
-use Rattle.laws.proofs.Inside.{Through}
 use Rattle.tabs.proofs.Tabs.{length-tab}
 use Rattle.store.specs.Store.{edgeIn, edgesIn, seqIn, graphIn, EndsBelow}
 use Rattle.compact.proofs.CompactLaws.{order-in, mem-ends}
@@ -28,15 +27,6 @@ fit-bytes {g} F = omega (arith, F .light)
 -- a rewrite's graph fits again
 pub fit-tame : {g g′ : Graph} {heads nexts : List ℕ} → Fit g heads nexts → Tame g g′ → Fit g′ heads nexts
 fit-tame F t = record { good = t .good; light = omega (arith, F .light, t .light); surplus = omega (arith, F .surplus, t .room) }
-
--- between adding and closing up
-pub through-vertices : {g g′ : Graph} {heads nexts : List ℕ} → Fit g heads nexts → Tame g g′ → (t : Through g g′)
-    → nodeCount (withAdditions (t .by) g) ≤ 2 * vertexRoom heads
-through-vertices F m t = omega (arith, fit-vertices F, fit-vertices (fit-tame F m), t .vertices)
-
-pub through-edges : {g g′ : Graph} {heads nexts : List ℕ} → Fit g heads nexts → Tame g g′ → (t : Through g g′)
-    → length ((withAdditions (t .by) g) .edges) ≤ 2 * edgeRoom nexts
-through-edges F m t = omega (arith, fit-edges F, fit-edges (fit-tame F m), t .edges)
 
 -- of a held graph
 module _ {h : Held} {es vs p heads nexts : List ℕ} (H : Holds h es vs p heads nexts) where

@@ -13,7 +13,7 @@ use Rattle.defs.specs.Simplify as S
 use Rattle.defs.specs.Simplify.{simplifyGraphFull, minTailSuffixLen}
 use Rattle.defs.specs.Record.{sequenceGraph, encode, decode}
 use Rattle.defs.specs.Refusals.{Cause, refusalOf, sequenceOnly, recordRefusal}
-use Rattle.defs.specs.Calls.{Response, refused, accepted, fits, respond}
+use Rattle.defs.specs.Calls.{Response, refused, accepted, fits, respondTo, respond}
 use Rattle.store.specs.Store.{Within}
 use Rattle.pool.specs.Pool.{bytesIn}
 use Rattle.memory.specs.Memory.{graphOf, Holds}
@@ -22,7 +22,7 @@ use Rattle.memory.proofs.RoomLaws.{fit-bytes, held-vertices, held-edges}
 use Rattle.zip.proofs.JoinLaws.{held-bytes}
 use Rattle.rounds.specs.Rounds.{Answers}
 use Rattle.rounds.specs.declared.Simplified.{Simplified}
-use Rattle.calls.proofs.AnswerLaws.{fits-short, fits-enough, respond-refused, respond-fits}
+use Rattle.calls.proofs.AnswerLaws.{fits-short, fits-enough}
 use Rattle.write_record.specs.Written.{Measured}
 use Rattle.write_record.proofs.WriteLaws.{encode-length}
 use Rattle.arrays.specs.Sized.{Lent}
@@ -33,7 +33,7 @@ use Rattle.text.specs.Put.{Put}
 use Rattle.text.proofs.TextLaws.{put-as, put-most}
 use Rattle.graph_text.specs.GraphText.{endOf, simplifiedIn, graphMost, Printable}
 use Rattle.graph_text.proofs.GraphLaws.{end-back}
-use Rattle.show.specs.Show.{Bounded, respondTo, answerText, Printing, Shown}
+use Rattle.show.specs.Show.{Bounded, answerText, Printing, Shown}
 
 -- ---- the number
 
@@ -52,15 +52,15 @@ causes-none bs q = byTest (ltb 65536 (length bs))
 
 -- ---- the answer's text
 
-number-text : (n : ℕ) (result : List ℕ) (z : S.Simplified) → (n ≡ 0 → ⊥) → printedAnswer (respondTo n result) z ≡ printedRefusal n
+number-text : (n : ℕ) (result : List ℕ) (z : S.Simplified) → (n ≡ 0 → ⊥) → printedAnswer (respondTo n 65536 result) z ≡ printedRefusal n
 unfolding printedAnswer respondTo
 number-text zero result z ne = absurd (ne refl)
 number-text (suc n) result z ne = refl
 
 zero-text : {n : ℕ} (result : List ℕ) (z : S.Simplified) {a : Response} → n ≡ 0 → fits 65536 result ≡ a
-    → printedAnswer (respondTo n result) z ≡ printedAnswer a z
+    → printedAnswer (respondTo n 65536 result) z ≡ printedAnswer a z
 unfolding respondTo
-zero-text result z q e = ap (λ (n : ℕ). printedAnswer (respondTo n result) z) q ∙ ap (λ (a : Response). printedAnswer a z) e
+zero-text result z q e = ap (λ (n : ℕ). printedAnswer (respondTo n 65536 result) z) q ∙ ap (λ (a : Response). printedAnswer a z) e
 
 refused-text : (n : ℕ) (z : S.Simplified) → printedAnswer (refused n) z ≡ printedRefusal n
 unfolding printedAnswer
@@ -138,10 +138,9 @@ simplified-is : {z : S.Simplified} {s : Simplified} {es vs p : List ℕ} → Ans
     → simplifiedIn (s .held) (s .rewrites) (s .rounds) (s .end) es vs p ≡ z
 simplified-is {z} A = λ i. record { graph = A .graph i; rewrites = A .rewrites i; rounds = A .rounds i; end = (ap endOf (A .end) ∙ end-back (z .end)) i }
 
-respond-is : (causes : List Cause) (result : List ℕ) (n : ℕ) → refusalOf causes ≡ n → respond causes 65536 result ≡ respondTo n result
-unfolding respondTo
-respond-is causes result zero q = respond-fits causes 65536 result q
-respond-is causes result (suc n) q = respond-refused causes 65536 result (suc n) q (λ (z : suc n ≡ 0). omega arith)
+respond-is : (causes : List Cause) (result : List ℕ) (n : ℕ) → refusalOf causes ≡ n → respond causes 65536 result ≡ respondTo n 65536 result
+unfolding respond
+respond-is causes result n q = ap (λ (i : ℕ). respondTo i 65536 result) q
 
 abbrev answerFor : List ℕ → S.Simplified
 answerFor bs = simplifyGraphFull minTailSuffixLen (decode bs)
@@ -153,14 +152,14 @@ put-front {s} {text} {text′} {r} h P =
 
 module _ {bs heads nexts : List ℕ} {made : Made} {es vs p : List ℕ} (A : MadeOf bs heads nexts made es vs p) {number : ℕ} (q : number
     ≡ refusalOf (inputCauses bs)) where
-  by-number : shown bs ≡ printedAnswer (respondTo number (encode sequenceGraph 0 (answerFor bs .graph))) (answerFor bs)
+  by-number : shown bs ≡ printedAnswer (respondTo number 65536 (encode sequenceGraph 0 (answerFor bs .graph))) (answerFor bs)
   unfolding shown
   by-number = ap (λ (a : Response). printedAnswer a (answerFor bs)) (respond-is (inputCauses bs) (encode sequenceGraph 0 (answerFor bs .graph)) number (sym q))
 
   made-is : answerText number (made .simplified) es vs p ≡ shown bs
   made-is = elim (ℕ-discrete number 0) [
     | yes z ↦ (let e = simplified-is (A .answers (A .number ∙ causes-none bs (sym q ∙ z))) in λ i.
-        printedAnswer (respondTo number (encode sequenceGraph 0 (e i .graph))) (e i)) ∙ sym by-number
+        printedAnswer (respondTo number 65536 (encode sequenceGraph 0 (e i .graph))) (e i)) ∙ sym by-number
     | no ne ↦ number-text number _ _ ne ∙ sym (number-text number _ _ ne) ∙ sym by-number
   ]
 

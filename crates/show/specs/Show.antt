@@ -1,10 +1,10 @@
 -- A record's text. Assumes nothing.
 use mathlib.Core.Path.{_≡_}
 use mathlib.Core.List.{List, _++_}
-use Prim.Native.Nat.{ℕ, zero, suc, _+_, _*_, _≤_}
+use Prim.Native.Nat.{ℕ, _*_, _≤_}
 use lib.ListN.{length, drop}
 use Rattle.defs.specs.Record.{sequenceGraph, encode}
-use Rattle.defs.specs.Calls.{Response, refused, fits}
+use Rattle.defs.specs.Calls.{respondTo}
 use Rattle.store.specs.Store.{Within}
 use Rattle.pool.specs.Pool.{bytesIn}
 use Rattle.memory.specs.Memory.{graphOf}
@@ -22,14 +22,9 @@ pub record Bounded (h : Held) (es vs p : List ℕ) : Type 0 where
   pub vs-room : 2 * h .n ≤ length vs
   pub within : Within (length p) (h .n) vs
 
--- as `respond` does it, from the number of the refusal
-unfoldable pub respondTo : ℕ → List ℕ → Response
-respondTo zero result = fits 65536 result
-respondTo (suc n) result = refused (suc n)
-
 abbrev pub answerText : ℕ → Simplified → List ℕ → List ℕ → List ℕ → List ℕ
 answerText number s es vs p =
-    printedAnswer (respondTo number (encode sequenceGraph 0 (graphOf (s .held) es vs p)))
+    printedAnswer (respondTo number 65536 (encode sequenceGraph 0 (graphOf (s .held) es vs p)))
     (simplifiedIn (s .held) (s .rewrites) (s .rounds) (s .end) es vs p)
 
 -- room for every text

@@ -2,39 +2,38 @@
 use mathlib.Core.Path.{_≡_, refl, sym, ap, _∙_, subst}
 use mathlib.Core.Logic.{_↔_}
 use mathlib.Core.List.{List, _++_}
-use Prim.Native.Nat.{ℕ, _+_, _*_, _≤_, _<_}
+use Prim.Native.Nat.{ℕ, _≤_}
 use native.Mathlib.Omega.{arith}
-use lib.ListN.{length, getD, take, drop}
+use lib.ListN.{length, take, drop}
 use lib.Seq.{take-append-seam}
-use Rattle.defs.specs.SeqGraph.{Graph, nodeCount}
+use Rattle.defs.specs.SeqGraph.{Graph}
 use Rattle.defs.specs.Simplify as S
-use Rattle.defs.specs.Simplify.{simplifyGraphFull, endNumber, sequenceBytes, emptyVertices}
+use Rattle.defs.specs.Simplify.{simplifyGraphFull}
 use Rattle.defs.specs.Strings.{Spells}
-use Rattle.defs.specs.Record.{sequenceGraph, kOf, encode, decode}
+use Rattle.defs.specs.Record.{sequenceGraph, encode, decode}
 use Rattle.defs.specs.Refusals.{sequenceOnly, recordCauses, recordRefusal}
 use Rattle.defs.specs.Calls as D
-use Rattle.defs.specs.Calls.{Response, refused, accepted, numberOf, lengthOf, fieldOf, writtenOf, fits, respond, simplifyGraphResponse, simplifyGraphAnswer}
+use Rattle.defs.specs.Calls.{Response, refused, accepted, numberOf, lengthOf, fieldOf, writtenOf, fits, simplifyGraphResponse, simplifyGraphAnswer}
 use Rattle.laws.proofs.Fuel.{Good}
 use Rattle.laws.proofs.Measures.{weight}
-use Rattle.laws.proofs.Bound.{Fits, simplify-bound}
-use Rattle.laws.proofs.Room.{narrow-fits, simplify-narrow}
+use Rattle.laws.proofs.Bound.{simplify-bound}
 use Rattle.laws.proofs.Whole.{simplify-spells}
 use Rattle.sound.proofs.Accepted.{accepted-good}
-use Rattle.answers.proofs.Supports.{Fields}
-use Rattle.answers.proofs.Answers.{Bytes, decoded-narrow, simplify-read-back}
-use Rattle.memory.specs.Memory.{graphOf, Room, Holds}
-use Rattle.memory.specs.declared.Held.{Held}
+use Rattle.reread.specs.Reread.{RereadAs}
+use Rattle.reread.proofs.Read.{Bytes, record-most}
+use Rattle.reread.proofs.Answers.{simplify-reread}
+use Rattle.memory.specs.Memory.{graphOf}
 use Rattle.memory.proofs.RoomLaws.{holds-kept}
 use Rattle.accept.specs.Accept.{ReadAs}
 use Rattle.accept.specs.declared.Read.{Read}
 use Rattle.rounds.specs.Rounds.{Answers, Full}
 use Rattle.rounds.specs.declared.Simplified.{Simplified}
 use Rattle.calls.specs.Answers.{tallyOf, simplifyAnswerOf, RefusesSimplify, AcceptsSimplify}
-use Rattle.calls.specs.Sending.{Sendable, Sends}
+use Rattle.calls.specs.Sending.{Sends}
 use Rattle.calls.specs.declared.Tally.{Tally}
 use Rattle.calls.specs.declared.Sent.{Sent}
 use Rattle.calls.specs.declared.SimplifyAnswer.{SimplifyAnswer}
-use Rattle.calls.proofs.AnswerLaws.{respond-refused, respond-fits}
+use Rattle.calls.proofs.AnswerLaws.{fits-not-short, respond-refused, respond-fits}
 use Rattle.calls.proofs.SendLaws.{sent-short, sent-whole}
 use Rattle.simplify_graph.specs.MadeOf.{MadeOf}
 use Rattle.simplify_graph.specs.Simplifies.{Simplifies}
@@ -67,20 +66,23 @@ module _ (bs out : List ℕ) (t : Tally) where
   abbrev result : List ℕ
   result = encode sequenceGraph 0 (z .graph)
 
-  refused-with : (n : ℕ) → (n ≡ 0 → ⊥) → simplifyGraphResponse bs (length out) ≡ refused n → {a : SimplifyAnswer} {out′ : List ℕ}
-      → RefusesSimplify n t a → out′ ≡ out → Simplifies bs out t a out′
+  refused-with : (n : ℕ) → (n ≡ 0 → ⊥) → (176160 ≤ length out → n ≡ 11 → ⊥) → simplifyGraphResponse bs (length out) ≡ refused n
+      → {a : SimplifyAnswer} {out′ : List ℕ} → RefusesSimplify n t a → out′ ≡ out → Simplifies bs out t a out′
   unfolding writtenOf numberOf fieldOf
-  refused-with n o e {a} R q = record {
+  refused-with n o short e {a} R q = record {
     answer = R .is z ∙ answer-by bs (length out) (tallyOf t) e;
     written = q ∙ sym (ap (λ (x : Response). writtenOf x out) e);
     strings = λ i. absurd (other i);
     bound = omega (arith, ap (λ (x : D.SimplifyAnswer). x .rewrites) (R .is z));
-    vertices = λ i. absurd (other i);
-    edges = λ i. absurd (other i);
+    room = λ l i. short l (sym number-is ∙ i);
+    reread = λ i. absurd (other i);
   }
     where
+      number-is : a .number ≡ n
+      number-is = ap (λ (x : D.SimplifyAnswer). x .number) (R .is z)
+
       other : a .number ≡ 0 → ⊥
-      other i = o (sym (ap (λ (x : D.SimplifyAnswer). x .number) (R .is z)) ∙ i)
+      other i = o (sym number-is ∙ i)
 
   -- no cause is present: the room decides
   fitting : recordRefusal sequenceOnly bs ≡ 0 → simplifyGraphResponse bs (length out) ≡ fits (length out) result
@@ -95,32 +97,33 @@ module _ (bs out : List ℕ) (t : Tally) where
     accepted-with : {a : SimplifyAnswer} {out′ : List ℕ} → simplifyGraphResponse bs (length out) ≡ accepted result → simplifyAnswerOf a
         ≡ D.simplifyAnswer (accepted result) z (tallyOf t) → out′ ≡ result ++ drop (length result) out
         → Simplifies bs out t a out′
-    unfolding writtenOf lengthOf fieldOf weight
+    unfolding writtenOf numberOf lengthOf fieldOf weight
     accepted-with {a} {out′} e q w = record {
       answer = q ∙ answer-by bs (length out) (tallyOf t) e;
       written = w ∙ sym (ap (λ (x : Response). writtenOf x out) e);
-      strings = λ i s. subst (λ (g : Graph). Spells (decode bs) s ↔ Spells g s) (sym written-is) (simplify-spells (decode bs) (good .0) s);
+      strings = λ i s. subst (λ (g : Graph). Spells (decode bs) s ↔ Spells g s) (sym (again .graph)) (simplify-spells (decode bs) (good .0) s);
       bound = omega (arith, ap (λ (x : D.SimplifyAnswer). x .rewrites) q, simplify-bound 10 (omega arith) (decode bs) good);
-      vertices = λ i. omega (arith, ap nodeCount written-is, within .vertices);
-      edges = λ i. omega (arith, ap (λ (g : Graph). length (g .edges)) written-is, within .edges);
+      room = λ l i. omega (arith, i, ap (λ (x : D.SimplifyAnswer). x .number) q);
+      reread = λ i. again;
     }
       where
         good : Good (decode bs)
         good = accepted-good sequenceOnly bs ok
 
-        within : Fits (z .graph)
-        within = narrow-fits (z .graph) (simplify-narrow (decode bs) (decoded-narrow bs small ok))
+        front : take (a .length) out′ ≡ result
+        front =
+            ap (λ (n : ℕ). take n out′) (ap (λ (x : D.SimplifyAnswer). x .length) q) ∙ ap (take (length result)) w
+            ∙ take-append-seam result (drop (length result) out)
 
-        written-is : decode (take (a .length) out′) ≡ z .graph
-        written-is =
-            ap decode (ap (λ (n : ℕ). take n out′) (ap (λ (x : D.SimplifyAnswer). x .length) q) ∙ ap (take (length result)) w
-            ∙ take-append-seam result (drop (length result) out))
-            ∙ simplify-read-back bs small ok 0
+        again : RereadAs (z .graph) (take (a .length) out′)
+        again = subst (RereadAs (z .graph)) (sym front) (simplify-reread bs small ok)
 
 -- the whole call
 module _ {bs heads nexts : List ℕ} {m : Made} {es vs p : List ℕ} (M : MadeOf bs heads nexts m es vs p) (t : Tally) where
   pub simplifies-refused : (out : List ℕ) {a : SimplifyAnswer} → (m .number ≡ 0 → ⊥) → RefusesSimplify (m .number) t a → Simplifies bs out t a out
-  simplifies-refused out o R = refused-with bs out t (m .number) o (stopped bs out t (m .number) (sym (M .number)) o) R refl
+  simplifies-refused out o R =
+      refused-with bs out t (m .number) o (λ l i. omega (arith, i, M .number, record-most sequenceOnly bs))
+      (stopped bs out t (m .number) (sym (M .number)) o) R refl
 
   module _ (small : Bytes bs) (ok : m .number ≡ 0) where
     none : recordRefusal sequenceOnly bs ≡ 0
@@ -133,7 +136,9 @@ module _ {bs heads nexts : List ℕ} {m : Made} {es vs p : List ℕ} (M : MadeOf
       pub simplifies-short : {a : SimplifyAnswer} → (s .number ≡ 0 → ⊥) → RefusesSimplify (s .number) t a → Simplifies bs out t a out′
       simplifies-short o R =
           let c = sent-short sends o in
-          refused-with bs out t (s .number) o (fitting bs out t none ∙ c .0 ∙ ap refused (sym (c .1 .0))) R (c .1 .1)
+          refused-with bs out t (s .number) o
+          (λ l i. fits-not-short (length out) _ (omega (arith, l, (simplify-reread bs small none) .size)) (c .0))
+          (fitting bs out t none ∙ c .0 ∙ ap refused (sym (c .1 .0))) R (c .1 .1)
 
       pub simplifies-accepted : {a : SimplifyAnswer} → s .number ≡ 0
           → AcceptsSimplify (s .length) (m .simplified .rewrites) (m .simplified .rounds) (m .simplified .end) t a

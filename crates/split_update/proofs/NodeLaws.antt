@@ -13,7 +13,7 @@ use Rattle.defs.specs.SeqGraph.{Edge}
 use Rattle.defs.specs.Rewrites.{EdgeData, MidPlan, joinedData, newEdge, edgesToMiddles, edgesFromMiddles, prefixToSuffixFrom}
 use Rattle.laws.proofs.Walks.{byTest}
 use Rattle.laws.proofs.ListLaws.{of-keepIf}
-use Rattle.laws.proofs.SplitCounts.{length-parts}
+use Rattle.laws.proofs.Counts.{length-both}
 use Rattle.tabs.proofs.Tabs.{length-tab}
 use Rattle.tabs.proofs.ListTabs.{tab-append, keepIf-append, keepIf-tab-yes, keepIf-tab-no, of-mem-tab}
 use Rattle.store.specs.Store.{isSet, numsIn}
@@ -168,7 +168,7 @@ pub mids-enter : {m : ℕ} {es vs heads nodes : List ℕ} {c : ℕ} → Mids m e
 mids-enter M off i o h = record { off-small = o; es-room = M .es-room; heads-room = M .in-heads i h; first = M .entered i h }
 
 pub node-counts : (vs nodes : List ℕ) (cut c : ℕ) → length (leftNodes vs cut nodes c) + length (goneNodes vs cut nodes c) ≡ c
-node-counts vs nodes cut c = length-parts (leaves vs cut) (numsIn c nodes) ∙ length-tab c (nodeAt nodes)
+node-counts vs nodes cut c = length-both (leaves vs cut) (numsIn c nodes) ∙ length-tab c (nodeAt nodes)
 
 -- ---- the same nodes, where their lengths are
 

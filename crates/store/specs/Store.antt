@@ -8,7 +8,7 @@ use lib.ListN.{length, getD, set, take, drop}
 use lib.Dec.{eqb}
 use Rattle.defs.specs.Lists.{tab, rank}
 use Rattle.tabs.specs.First.{firstIx}
-use Rattle.defs.specs.SeqGraph.{Edge, Graph, Change, hasEnds}
+use Rattle.defs.specs.SeqGraph.{Edge, Graph, hasEnds}
 
 abbrev pub isSet : ℕ → Bool
 isSet f = not (eqb f 0)
@@ -56,10 +56,6 @@ graphIn k n m es vs p = record { k = k; verts = seqsIn n vs p; edges = edgesIn m
 -- c numbers in a slice
 abbrev pub numsIn : ℕ → List ℕ → List ℕ
 numsIn c l = tab c (λ (i : ℕ). getD l i 0)
-
--- a change in slices: c new vertices, d new edges, the g vertices that go
-abbrev pub changeIn : ℕ → List ℕ → ℕ → List ℕ → ℕ → List ℕ → List ℕ → Change
-changeIn c nv d ne g gone p = record { verts = seqsIn c nv p; edges = edgesIn d ne; gone = numsIn g gone }
 
 -- both ends of each of the m edges are below n
 pub record EndsBelow (n m : ℕ) (es : List ℕ) : Type 0 where

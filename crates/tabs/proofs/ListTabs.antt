@@ -13,7 +13,7 @@ use lib.Dec.{eqb}
 use Rattle.defs.specs.Lists.{tab, tabFrom}
 use Rattle.tabs.proofs.Tabs.{tab-snoc, tab-zero, length-tab}
 use Rattle.defs.specs.Lists.{keepIf, keepAt, rank, elemOf, allOf, anyOf}
-use Rattle.defs.specs.SeqGraph.{Edge, addOrUpdateEdge, addOrUpdateEdges}
+use Rattle.defs.specs.SeqGraph.{Edge, addOrUpdateEdges}
 use Rattle.laws.proofs.Walks.{byTest}
 use Rattle.laws.proofs.ListLaws.{keepIf-yes, keepIf-no, keepAt-yes, keepAt-no}
 
@@ -82,13 +82,6 @@ module _ {A : Type 0} where
 
   pub of-mem-tab : (n : ℕ) (f : ℕ → A) {x : A} → List·Memᴰ x (tab n f) → (k : ℕ) × (k < n) × (x ≡ f k)
   of-mem-tab n f m = let r = of-mem-tab-from 0 n f m in (r .0, r .1, r .2 ∙ ap f (zero-add _))
-
--- one edge more
-pub raiseAll-snoc : (ns es : List Edge) (n : Edge) → addOrUpdateEdges (ns ++ (n ∷ [])) es
-    ≡ addOrUpdateEdge (n .from) (n .to) (n .support) (n .isRef) (addOrUpdateEdges ns es)
-unfolding addOrUpdateEdges
-raiseAll-snoc [] es n = refl
-raiseAll-snoc (x ∷ xs) es n = raiseAll-snoc xs _ n
 
 pub raiseAll-none : (es : List Edge) → addOrUpdateEdges [] es ≡ es
 unfolding addOrUpdateEdges

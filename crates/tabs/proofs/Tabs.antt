@@ -111,10 +111,6 @@ module _ {A : Type 0} where
       let o′ : p (f s) ≡ false = rw add-zero at (o zero (omega arith)) in
       rw o′ (ap suc (first-none-from p (suc s) n f (λ k b. rw (suc-add, ← add-suc) (o (suc k) (omega arith)))))
 
-  -- a search that found nothing
-  pub first-none : (p : A → Bool) (n : ℕ) (f : ℕ → A) → ((k : ℕ) → k < n → p (f k) ≡ false) → firstIx p (tab n f) ≡ n
-  first-none p n f o = first-none-from p zero n f (λ k b. rw zero-add (o k b))
-
 -- ---- tests
 
 pub and-yes : {p q : Bool} → p ≡ true → q ≡ true → p && q ≡ true

@@ -216,9 +216,6 @@ module _ {h : Held} {es vs p heads nexts nodes mp : List ℕ} {start c : ℕ}
     abbrev joined : Graph
     joined = mergeLinearChain g start (y ∷ ys)
 
-    fit-joined : Fit joined heads nexts
-    fit-joined = fit-tame (H .fit) (tame .0)
-
   -- the ends after moving
   pub moved-ends : {es′ : List ℕ} {last : ℕ} → EdgesMoved (h .m) es last start es′ → EndsBelow (h .n) (h .m) es′
   moved-ends {es′} {last} M = mem-ends (h .n) (h .m) es′ (λ e m.

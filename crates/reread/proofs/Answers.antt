@@ -1,0 +1,66 @@
+-- The records that simplification and cleanup write of an accepted one. Assumes nothing.
+use Prim.Native.Nat.{ℕ, _≤_}
+use native.Mathlib.Omega.{arith}
+use mathlib.Core.Path.{_≡_, refl}
+use mathlib.Core.List.{List}
+use Rattle.defs.specs.SeqGraph.{Graph}
+use Rattle.defs.specs.Simplify.{sequenceBytes, simplifyGraphFull}
+use Rattle.defs.specs.Cleanup.{Status, justReference, someVariation, statusNumber, cleanupSeqGraph}
+use Rattle.defs.specs.Record.{sequenceGraph, encode, decode}
+use Rattle.defs.specs.Refusals.{sequenceOnly, recordRefusal}
+use Rattle.laws.proofs.Bound.{Fits}
+use Rattle.laws.proofs.Room.{Narrow, limits-narrow, simplify-narrow, narrow-fits, cleanup-fits}
+use Rattle.answers.proofs.Supports.{Fields}
+use Rattle.answers.proofs.Answers.{simplify-fields, cleanup-fields, cleanup-bytes}
+use Rattle.reread.specs.Reread.{RereadAs}
+use Rattle.reread.specs.Recordable.{SequenceInput, SequenceAnswer}
+use Rattle.reread.proofs.Graphs.{answer-reread}
+use Rattle.reread.proofs.Read.{Bytes, sequence-input}
+
+module _ (g : Graph) (I : SequenceInput g) where
+  narrow : Narrow g
+  narrow = limits-narrow g (I .good) record { vertices = I .vertices; edges = I .edges; few = I .bytes }
+
+  fields : Fields (g .k) g
+  fields = record { k-is = refl; supports = I .supports }
+
+  answer-of : (h : Graph) → Fits h → sequenceBytes (h .verts) ≤ 8192 → Fields (g .k) h → SequenceAnswer h
+  answer-of h L b F = record {
+    good = L .single;
+    k-least = omega (arith, F .k-is, I .k-least);
+    k-most = omega (arith, F .k-is, I .k-most);
+    vertices = L .vertices;
+    edges = L .edges;
+    bytes = b;
+    supports = F .supports;
+  }
+
+  simplified-answer : SequenceAnswer ((simplifyGraphFull 10 g) .graph)
+  simplified-answer =
+      let N = simplify-narrow g narrow in
+      answer-of ((simplifyGraphFull 10 g) .graph) (narrow-fits _ N) (N .few) (simplify-fields g fields)
+
+  cleaned-answer : SequenceAnswer ((cleanupSeqGraph g) .graph)
+  cleaned-answer = answer-of ((cleanupSeqGraph g) .graph) (cleanup-fits g narrow) (cleanup-bytes g narrow) (cleanup-fields g fields)
+
+status-most : (s : Status) → statusNumber s ≤ 2
+unfolding statusNumber
+status-most justReference = omega arith
+status-most someVariation = omega arith
+
+module _ (bs : List ℕ) (small : Bytes bs) (ok : recordRefusal sequenceOnly bs ≡ 0) where
+  abbrev simplified : Graph
+  simplified = (simplifyGraphFull 10 (decode bs)) .graph
+
+  pub simplify-reread : RereadAs simplified (encode sequenceGraph 0 simplified)
+  simplify-reread = answer-reread simplified (simplified-answer (decode bs) (sequence-input bs small ok)) 0 (omega arith)
+
+  abbrev cleaned : Graph
+  cleaned = (cleanupSeqGraph (decode bs)) .graph
+
+  abbrev status : ℕ
+  status = statusNumber ((cleanupSeqGraph (decode bs)) .status)
+
+  pub cleanup-reread : RereadAs cleaned (encode sequenceGraph status cleaned)
+  cleanup-reread = answer-reread cleaned (cleaned-answer (decode bs) (sequence-input bs small ok)) status
+      (status-most ((cleanupSeqGraph (decode bs)) .status))

@@ -1,0 +1,6 @@
+pub mod Fields
+pub mod Checks
+pub mod Written
+pub mod Graphs
+pub mod Read
+pub mod Answers

@@ -1,0 +1,2 @@
+pub mod Reread
+pub mod Recordable

@@ -1,0 +1,1 @@
+// What is written is read again: laws of written records. No function.
