@@ -18,6 +18,7 @@ use Rattle.sound.proofs.Accepted.{read-bounded, accepted-layout}
 use Rattle.codec.specs.Encodable.{WithinEdge}
 use Rattle.codec.proofs.RoundTrip.{decode-encode, answer-encodable, decoded-encodable}
 use Rattle.memory.specs.Memory.{graphOf}
+use Rattle.memory.specs.declared.Held.{Held}
 use Rattle.convert.proofs.SortLaws.{of-sort, length-sort}
 use Rattle.calls.specs.Answers.{tallyOf, answerOf, Refuses, Accepts}
 use Rattle.calls.specs.Sending.{Sends}
@@ -28,7 +29,9 @@ use Rattle.calls.proofs.AnswerLaws.{respond-refused, respond-fits}
 use Rattle.calls.proofs.SendLaws.{sent-short, sent-whole}
 use Rattle.read_kmers.proofs.KmerLaws.{kmer-bytes-least, kmer-bytes-most}
 use Rattle.from_kmers.specs.Conversion.{conversionCauses, Roomy, ConvertedAs}
-use Rattle.from_kmers.specs.declared.Converted.{Converted}
+use Rattle.accept.specs.declared.Read.{Read}
+use Rattle.accept.specs.declared.Read.the-variants as read
+use Rattle.accept.proofs.AcceptLaws.{number-graph, number-refused}
 use Rattle.from_kmers.proofs.ConversionLaws.{none-early, none-late}
 use Rattle.from_assembly_graph.specs.Converts.{Converts, Large, Small}
 
@@ -144,17 +147,19 @@ module _ (bs out : List ℕ) (t : Tally) where
 
 -- ---- the whole call
 
-module _ {bs : List ℕ} {c : Converted} {sorted vs p : List ℕ} (C : ConvertedAs bs c sorted vs p) (t : Tally) where
-  pub converts-refused : (out : List ℕ) {a : Answer} → (c .number ≡ 0 → ⊥) → Refuses (c .number) t a → Converts bs out t a out
-  converts-refused out o R = refused-with bs out t (c .number) o (stopped bs out t (c .number) (sym (C .number)) o) R refl
+module _ {bs : List ℕ} {c : Read} {sorted vs p : List ℕ} (C : ConvertedAs bs c sorted vs p) (t : Tally) where
+  pub converts-refused : (out : List ℕ) {a : Answer} {n : ℕ} → c ≡ read.Refused n → Refuses n t a → Converts bs out t a out
+  converts-refused out {n = n} f R =
+      let o = C .refused n f in
+      refused-with bs out t n o (stopped bs out t n (sym (C .number) ∙ number-refused f) o) R refl
 
-  module _ (small : (i : ℕ) → getD bs i 0 < 256) (ok : c .number ≡ 0) {out out′ : List ℕ} {s : Sent} (S :
-      Sends (encode sequenceGraph 0 (graphOf (c .held) sorted vs p)) out s out′) where
+  module _ (small : (i : ℕ) → getD bs i 0 < 256) {h : Held} (ok : c ≡ read.Graph h) {out out′ : List ℕ} {s : Sent} (S :
+      Sends (encode sequenceGraph 0 (graphOf h sorted vs p)) out s out′) where
     none : refusalOf (conversionCauses bs) ≡ 0
-    none = sym (C .number) ∙ ok
+    none = sym (C .number) ∙ number-graph ok
 
     sends : Sends (encode sequenceGraph 0 (fromAssemblyGraph (decode bs))) out s out′
-    sends = subst (λ (g : Graph). Sends (encode sequenceGraph 0 g) out s out′) (C .is ok) S
+    sends = subst (λ (g : Graph). Sends (encode sequenceGraph 0 g) out s out′) (C .is h ok) S
 
     pub converts-short : {a : Answer} → (s .number ≡ 0 → ⊥) → Refuses (s .number) t a → Converts bs out t a out′
     converts-short o R =
