@@ -2,41 +2,80 @@
 use mathlib.Core.Path.{_≡_, refl, sym, ap, _∙_, subst}
 use mathlib.Core.Bool.{Bool, true, false, _&&_, _||_}
 use mathlib.Core.List.{List}
-use Prim.Native.Nat.{ℕ, _+_, _*_, _/_, _≤_, _<_}
+use Prim.Native.Nat.{ℕ, _+_, _/_, _≤_, _<_}
 use native.Mathlib.Omega.{arith}
 use lib.ListN.{length, take}
 use lib.Dec.{eqb}
 use borrow.Author.Tests.{ne-eqb}
-use Rattle.defs.specs.SeqGraph.{Graph, nodeCount}
-use Rattle.defs.specs.Record.{kindOf, verticesOf, edgesOf, bytesOf, decode}
+use Rattle.defs.specs.Record.{kindOf, kOf, verticesOf, edgesOf, bytesOf, decode}
 use Rattle.defs.specs.Refusals.{sequenceOnly, refusalOf, recordCauses, recordRefusal, doubledEdge, equalKmers, doubled, hasCycle}
-use Rattle.laws.proofs.Fuel.{Good}
+use Rattle.laws.proofs.ListLaws.{byOrder}
 use Rattle.laws.proofs.Measures.{load}
-use Rattle.tabs.proofs.Tabs.{length-tab}
-use Rattle.store.specs.Store.{edgeIn, edgesIn}
+use Rattle.store.specs.Store.{edgesIn}
 use Rattle.index.specs.Index.{Indexable}
 use Rattle.memory.specs.Memory.{graphOf, vertexRoom, edgeRoom, Room, Fit, Holds}
 use Rattle.memory.specs.declared.Held.{Held}
 use Rattle.record.specs.Kinds.{takesOf}
 use Rattle.record.specs.declared.Takes.the-variants.{SequenceOnly}
-use Rattle.record.specs.Layout.{WellFormed}
-use Rattle.record.proofs.Accepted.{well-formed, sequence-kind}
+use Rattle.kmer.specs.declared.KmerSize.{KmerSize}
+use Rattle.record.specs.Layout.{WellFormed, layoutOf}
+use Rattle.record.specs.declared.Layout.{Layout}
+use Rattle.record.specs.declared.Layout.the-variants.{Formed}
+use Rattle.record.specs.declared.Layout.the-variants as checked
+use Rattle.record.proofs.Accepted.{well-formed, sequence-kind, formed-none, formed-size, refused-number, refused-some}
 use Rattle.load.specs.Loaded.{Loadable, Loaded}
 use Rattle.doubled.specs.Doubled.{Markable}
 use Rattle.cycle.specs.Peel.{Peelable, HasCycle}
 use Rattle.sound.proofs.Accepted.{refused-early, refused-6, refused-7, accepted, edges-read, read-bytes, read-good}
 use Rattle.sound.proofs.Measured.{read-light}
-use Rattle.accept.specs.Accept.{RoomFor, Roomy, ReadAs}
+use Rattle.accept.specs.Accept.{RoomFor, Roomy, readNumber, ReadAs}
 use Rattle.accept.specs.declared.Read.{Read}
+use Rattle.accept.specs.declared.Read.the-variants.{Graph, Refused}
+
+-- the two cases of a record that was read
+pub not-both : {A : Type 0} {r : Read} {h : Held} {n : ℕ} → r ≡ Graph h → r ≡ Refused n → A
+not-both e f = let z : _≡_ {A = ℕ} 0 1 = cc in absurd (omega arith)
+
+pub number-refused : {r : Read} {n : ℕ} → r ≡ Refused n → readNumber r ≡ n
+unfolding readNumber
+number-refused e = ap readNumber e
+
+pub number-graph : {r : Read} {h : Held} → r ≡ Graph h → readNumber r ≡ 0
+unfolding readNumber
+number-graph e = ap readNumber e
+
+held-in : Held → Read → Held
+held-in d (Graph h) = h
+held-in d (Refused n) = d
+
+pub same-held : {g h : Held} → Graph g ≡ Graph h → g ≡ h
+unfolding held-in
+same-held {g} e = ap (held-in g) e
+
+-- what a caller learns: no cause is there, or the first one's number, which is not 0
+module _ {bs heads nexts : List ℕ} {r : Read} {es vs p : List ℕ} (A : ReadAs bs heads nexts r es vs p) where
+  pub read-none : {h : Held} → r ≡ Graph h → recordRefusal sequenceOnly bs ≡ 0
+  read-none e = sym (A .number) ∙ number-graph e
+
+  pub read-number : {n : ℕ} → r ≡ Refused n → recordRefusal sequenceOnly bs ≡ n
+  read-number e = sym (A .number) ∙ number-refused e
 
 module _ (bs : List ℕ) {heads nexts : List ℕ} where
-  pub read-refused : {i : ℕ} {r : Read} {es vs p : List ℕ} → i ≡ refusalOf (take 5 (recordCauses sequenceOnly bs)) → (i ≡ 0 → ⊥) → r .number
-      ≡ i → ReadAs bs heads nexts r es vs p
-  read-refused {i} e o q = record {
-    number = q ∙ sym (refused-early sequenceOnly bs (sym e) (Rattle.laws.proofs.ListLaws.byOrder 1 i (λ b. b) (λ b. absurd (o (omega arith)))));
-    is = λ z. absurd (o (sym q ∙ z));
-    holds = λ z. absurd (o (sym q ∙ z));
+  refused-as : (n : ℕ) → n ≡ recordRefusal sequenceOnly bs → (n ≡ 0 → ⊥) → {es vs p : List ℕ} → ReadAs bs heads nexts (Refused n) es vs p
+  refused-as n q o = record {
+    number = number-refused refl ∙ q;
+    is = λ h e. not-both e refl;
+    holds = λ h e. not-both e refl;
+    refused = λ m e z. o (sym (number-refused refl) ∙ number-refused e ∙ z);
   }
+
+  pub read-refused : {r : Layout} {n : ℕ} {es vs p : List ℕ} → r ≡ layoutOf (refusalOf (take 5 (recordCauses (takesOf SequenceOnly) bs))) (kOf bs)
+      → r ≡ checked.Refused n → ReadAs bs heads nexts (Refused n) es vs p
+  unfolding takesOf
+  read-refused {n = n} e f =
+      let some = refused-some sequenceOnly bs e f in
+      refused-as n
+      (sym (refused-early sequenceOnly bs (sym (refused-number sequenceOnly bs e f)) (byOrder 1 n (λ b. b) (λ b. absurd (some (omega arith)))))) some
 
   module _ (layout : refusalOf (take 5 (recordCauses sequenceOnly bs)) ≡ 0) {es vs p nodes mp : List ℕ} (R :
       Room es vs p heads nexts nodes mp) (Y : Roomy bs heads nexts) where
@@ -94,27 +133,17 @@ module _ (bs : List ℕ) {heads nexts : List ℕ} where
           or-false true = refl
           or-false false = refl
 
-      pub read-6 : {d : Bool} {r : Read} → d ≡ doubledEdge (edgesIn (h .m) es′) → d ≡ true → r .number ≡ 6 → {es₂ vs₂ p₂ : List ℕ}
-          → ReadAs bs heads nexts r es₂ vs₂ p₂
-      read-6 a t q = record {
-        number = q ∙ sym (refused-6 sequenceOnly bs layout (doubled-is ∙ sym a ∙ t));
-        is = λ y. absurd (omega arith);
-        holds = λ y. absurd (omega arith);
-      }
+      pub read-6 : {d : Bool} → d ≡ doubledEdge (edgesIn (h .m) es′) → d ≡ true → {es₂ vs₂ p₂ : List ℕ} → ReadAs bs heads nexts (Refused 6) es₂ vs₂ p₂
+      read-6 a t = refused-as 6 (sym (refused-6 sequenceOnly bs layout (doubled-is ∙ sym a ∙ t))) (λ z. omega arith)
 
       module _ {d : Bool} (a : d ≡ doubledEdge (edgesIn (h .m) es′)) (t : d ≡ false) {c : Bool} (C : HasCycle (h .m) (h .n) es′ c) where
         cycle-is : hasCycle (decode bs) ≡ c
         cycle-is = ap hasCycle (sym (L .is)) ∙ sym (C .is (h .k .0) vs′ p′)
 
-        pub read-7 : {r : Read} → c ≡ true → r .number ≡ 7 → {es₂ vs₂ p₂ : List ℕ} → ReadAs bs heads nexts r es₂ vs₂ p₂
-        read-7 s q = record {
-          number = q ∙ sym (refused-7 sequenceOnly bs layout (doubled-is ∙ sym a ∙ t) (cycle-is ∙ s));
-          is = λ y.
-              absurd (omega arith);
-          holds = λ y. absurd (omega arith);
-        }
+        pub read-7 : c ≡ true → {es₂ vs₂ p₂ : List ℕ} → ReadAs bs heads nexts (Refused 7) es₂ vs₂ p₂
+        read-7 s = refused-as 7 (sym (refused-7 sequenceOnly bs layout (doubled-is ∙ sym a ∙ t) (cycle-is ∙ s))) (λ z. omega arith)
 
-        pub read-0 : c ≡ false → ReadAs bs heads nexts record { number = 0; held = h } es′ vs′ p′
+        pub read-0 : c ≡ false → ReadAs bs heads nexts (Graph h) es′ vs′ p′
         read-0 s =
             let g = read-good bs formed (doubled-is ∙ sym a ∙ t) (cycle-is ∙ s) in
             let fit : Fit (decode bs) heads nexts = record {
@@ -124,15 +153,20 @@ module _ (bs : List ℕ) {heads nexts : List ℕ} where
               surplus = omega (arith, load-is, enough .edges);
             }
             in
+            let held : Holds h es′ vs′ p′ heads nexts =
+            record { fit = rw (L .is) fit; within = L .within; used-room = omega (arith, L .used, enough .weight) } in
             record {
-              number = sym (accepted sequenceOnly bs layout (doubled-is ∙ sym a ∙ t) (cycle-is ∙ s));
-              is = λ _. L .is;
-              holds = λ _. record { fit = rw (L .is) fit; within = L .within; used-room = omega (arith, L .used, enough .weight) };
+              number = number-graph refl ∙ sym (accepted sequenceOnly bs layout (doubled-is ∙ sym a ∙ t) (cycle-is ∙ s));
+              is = λ g e. subst (λ (x : Held). graphOf x es′ vs′ p′ ≡ decode bs) (same-held e) (L .is);
+              holds = λ g e. subst (λ (x : Held). Holds x es′ vs′ p′ heads nexts) (same-held e) held;
+              refused = λ n e. not-both refl e;
             }
 
-pub layout-zero : (bs : List ℕ) {i : ℕ} → i ≡ refusalOf (take 5 (recordCauses sequenceOnly bs)) → i ≡ 0 → refusalOf (take 5 (recordCauses sequenceOnly bs)) ≡ 0
-layout-zero bs e z = sym e ∙ z
+-- the layout that was checked
+module _ (bs : List ℕ) {r : Layout} (e : r ≡ layoutOf (refusalOf (take 5 (recordCauses (takesOf SequenceOnly) bs))) (kOf bs)) where
+  pub layout-none : {k : KmerSize} → r ≡ Formed k → refusalOf (take 5 (recordCauses sequenceOnly bs)) ≡ 0
+  unfolding takesOf
+  layout-none f = formed-none sequenceOnly bs e f
 
-pub of-takes : (bs : List ℕ) {i : ℕ} → i ≡ refusalOf (take 5 (recordCauses (takesOf SequenceOnly) bs)) → i ≡ refusalOf (take 5 (recordCauses sequenceOnly bs))
-unfolding takesOf
-of-takes bs e = e
+  pub layout-size : {k : KmerSize} → r ≡ Formed k → k .0 ≡ kOf bs
+  layout-size f = formed-size (takesOf SequenceOnly) bs e f

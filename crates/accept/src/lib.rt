@@ -1,30 +1,14 @@
 // Reading a record of kind 1: the number of its refusal, 1 to 7, or the graph in the slices.
-ghost use mathlib.Core.Path.{_≡_};
-ghost use Prim.Native.Nat.{ℕ, _+_, _*_, _<_, _≤_};
-ghost use lib.ListN.{length};
 ghost use Rattle.memory.specs.Memory.{Room};
 ghost use Rattle.accept.specs.Accept.{Roomy, ReadAs};
 use memory::Held;
+use record::Layout;
 use record::Takes;
 
-pub struct Read {
-    pub number: u32,
-    pub held: Held,
-}
-
-pub fn refuse(number: u32) -> Read
-    ensures { λ r. ⌜ r .number ≡ number ⌝ }
-{
-    let held = Held {
-        k: kmer::least(),
-        n: 0,
-        m: 0,
-        used: 0,
-    };
-    Read {
-        number: number,
-        held: held,
-    }
+// What was made of a record: a graph, which the slices hold, or the number of the refusal.
+pub enum Read {
+    Graph(Held),
+    Refused(u32),
 }
 
 pub fn read_sequence_graph(
@@ -40,22 +24,19 @@ pub fn read_sequence_graph(
     requires { ⌜ Room (now es) (now vs) (now p) (now heads) (now nexts) (now nodes) (now map) × Roomy (now rec) (now heads) (now nexts) ⌝ }
     ensures { λ r. ⌜ ReadAs (now (rec .entry)) (now (heads .entry)) (now (nexts .entry)) r (now (es .exit)) (now (vs .exit)) (now (p .exit)) ⌝ }
 {
-    let number = record::layout_refusal(rec, Takes::SequenceOnly);
-    if number != 0 {
-        return refuse(number);
-    }
-    let held = load::load_graph(rec, es, vs, p);
+    let k = match record::check_layout(rec, Takes::SequenceOnly) {
+        Layout::Formed(k) => k,
+        Layout::Refused(number) => return Read::Refused(number),
+    };
+    let held = load::load_graph(rec, k, es, vs, p);
     let n = held.n;
     let m = held.m;
     index::build_index(es, m, n, heads, nexts);
     if doubled::doubled_edge(es, m, n, heads, nexts, map) {
-        return refuse(6);
+        return Read::Refused(6);
     }
     if cycle::has_cycle(es, m, n, heads, nexts, map, nodes) {
-        return refuse(7);
+        return Read::Refused(7);
     }
-    Read {
-        number: 0,
-        held: held,
-    }
+    Read::Graph(held)
 }

@@ -16,13 +16,15 @@ use Rattle.reread.proofs.Graphs.{input-reaccepted}
 use Rattle.reread.proofs.Read.{Bytes, record-most, sequence-input}
 use Rattle.compact.specs.Compact.{Compactable}
 use Rattle.index.specs.Index.{Indexable}
-use Rattle.memory.specs.Memory.{graphOf}
+use Rattle.memory.specs.Memory.{graphOf, Holds}
 use Rattle.memory.specs.declared.Held.{Held}
 use Rattle.memory.proofs.RoomLaws.{room-kept, holds-kept}
 use Rattle.reach.specs.Reach.{Walkable}
 use Rattle.orphans.specs.Orphans.{Reduced}
 use Rattle.accept.specs.Accept.{Roomy, ReadAs}
 use Rattle.accept.specs.declared.Read.{Read}
+use Rattle.accept.specs.declared.Read.the-variants as read
+use Rattle.accept.proofs.AcceptLaws.{not-both, number-graph, number-refused, same-held, read-none, read-number}
 use Rattle.choice.proofs.ChoiceLaws.{lean-holds, reduced-lean, held-compactable, held-indexable, held-walkable}
 use Rattle.cleanable.proofs.ReadLean.{read-lean}
 use Rattle.cleanable.proofs.CleanLean.{clean-lean}
@@ -40,28 +42,36 @@ use Rattle.clean_non_ref_paths.specs.CleansPaths.{CleansPaths}
 
 -- what is lent is room enough to clean what was read
 module _ {bs es vs p heads nexts nodes mp tried : List ℕ} (Z : LentMarks bs es vs p heads nexts nodes mp tried) where
-  pub lent-walkable : {r : Read} {es′ vs′ p′ heads′ nexts′ nodes′ mp′ : List ℕ} → ReadAs bs heads nexts r es′ vs′ p′ → r .number ≡ 0
+  pub lent-walkable : {r : Read} {h : Held} {es′ vs′ p′ heads′ nexts′ nodes′ mp′ : List ℕ} → ReadAs bs heads nexts r es′ vs′ p′ → r ≡ read.Graph h
       → length es′ ≡ length es → length vs′ ≡ length vs → length p′ ≡ length p → length heads′ ≡ length heads → length nexts′ ≡ length nexts
       → length nodes′ ≡ length nodes → length mp′ ≡ length mp
-      → Compactable (r .held .n) (r .held .m) es′ vs′ mp′ × (Indexable (r .held .m) (r .held .n) es′ heads′ nexts′ × Walkable (r .held .n) tried nodes′)
-  lent-walkable A ok la lb lc ld le lf lg =
+      → Compactable (h .n) (h .m) es′ vs′ mp′ × (Indexable (h .m) (h .n) es′ heads′ nexts′ × Walkable (h .n) tried nodes′)
+  lent-walkable {h = h} A ok la lb lc ld le lf lg =
       let R = room-kept (Z .graph .room) la lb lc ld le lf lg in
-      let H = holds-kept (A .holds ok) ld le in
+      let H = holds-kept (A .holds h ok) ld le in
       (held-compactable R H, (held-indexable R H, held-walkable R H (omega (arith, ld, Z .tried-room))))
 
 -- reading, then cleaning
 module _ {bs heads nexts : List ℕ} {r : Read} {es vs p : List ℕ} (A : ReadAs bs heads nexts r es vs p) where
-  pub made-refused : (r .number ≡ 0 → ⊥) → MadeOf bs heads nexts r es vs p
-  made-refused o = record { number = A .number; is = λ z. absurd (o z); holds = λ z. absurd (o z) }
+  pub made-refused : {n : ℕ} → r ≡ read.Refused n → {es′ vs′ p′ : List ℕ} → MadeOf bs heads nexts (read.Refused n) es′ vs′ p′
+  made-refused {n} f = record {
+    number = number-refused refl ∙ sym (read-number A f);
+    is = λ h e. not-both e refl;
+    holds = λ h e. not-both e refl;
+    refused = λ m e z. A .refused n f (sym (number-refused refl) ∙ number-refused e ∙ z);
+  }
 
-  pub made-whole : Roomy bs heads nexts → r .number ≡ 0 → {c : Held} {es′ vs′ : List ℕ} → Reduced cleanNonRefPaths (r .held) es vs c es′ vs′
-      → MadeOf bs heads nexts record { number = 0; held = c } es′ vs′ p
-  made-whole Y ok R =
+  pub made-whole : Roomy bs heads nexts → {h : Held} → r ≡ read.Graph h → {c : Held} {es′ vs′ : List ℕ} → Reduced cleanNonRefPaths h es vs c es′ vs′
+      → MadeOf bs heads nexts (read.Graph c) es′ vs′ p
+  made-whole Y {h} ok {c} {es′} {vs′} R =
       let H = read-lean A Y ok in
+      let held = lean-holds (reduced-lean R H (clean-lean (graphOf h es vs p) (H .lean))) in
       record {
-        number = sym ok ∙ A .number;
-        is = λ _. R .is p ∙ ap cleanNonRefPaths (A .is ok);
-        holds = λ _. lean-holds (reduced-lean R H (clean-lean (graphOf (r .held) es vs p) (H .lean)));
+        number = number-graph refl ∙ sym (read-none A ok);
+        is = λ x e. subst (λ (y : Held). graphOf y es′ vs′ p ≡ cleanNonRefPaths (decode bs)) (same-held e)
+            (R .is p ∙ ap cleanNonRefPaths (A .is h ok));
+        holds = λ x e. subst (λ (y : Held). Holds y es′ vs′ p heads nexts) (same-held e) held;
+        refused = λ n e. not-both refl e;
       }
 
 -- the answer and the output go by the response
@@ -114,18 +124,19 @@ module _ (bs out : List ℕ) (t : Tally) where
 
 -- the whole call
 module _ {bs heads nexts : List ℕ} {m : Read} {es vs p : List ℕ} (M : MadeOf bs heads nexts m es vs p) (t : Tally) where
-  pub paths-refused : (out : List ℕ) {a : Answer} → (m .number ≡ 0 → ⊥) → Refuses (m .number) t a → CleansPaths bs out t a out
-  paths-refused out o R =
-      refused-with bs out t (m .number) o (λ l i. omega (arith, i, M .number, record-most sequenceOnly bs))
-      (stopped bs out t (m .number) (sym (M .number)) o) R refl
+  pub paths-refused : (out : List ℕ) {a : Answer} {n : ℕ} → m ≡ read.Refused n → Refuses n t a → CleansPaths bs out t a out
+  paths-refused out {n = n} f R =
+      let o = M .refused n f in
+      refused-with bs out t n o (λ l i. omega (arith, i, M .number, number-refused f, record-most sequenceOnly bs))
+      (stopped bs out t n (sym (M .number) ∙ number-refused f) o) R refl
 
-  module _ (small : Bytes bs) (ok : m .number ≡ 0) where
+  module _ (small : Bytes bs) {h : Held} (ok : m ≡ read.Graph h) where
     none : recordRefusal sequenceOnly bs ≡ 0
-    none = sym (M .number) ∙ ok
+    none = sym (M .number) ∙ number-graph ok
 
-    module _ {out out′ : List ℕ} {s : Sent} (S : Sends (encode sequenceGraph 0 (graphOf (m .held) es vs p)) out s out′) where
+    module _ {out out′ : List ℕ} {s : Sent} (S : Sends (encode sequenceGraph 0 (graphOf h es vs p)) out s out′) where
       sends : Sends (encode sequenceGraph 0 (cleanNonRefPaths (decode bs))) out s out′
-      sends = subst (λ (g : Graph). Sends (encode sequenceGraph 0 g) out s out′) (M .is ok) S
+      sends = subst (λ (g : Graph). Sends (encode sequenceGraph 0 g) out s out′) (M .is h ok) S
 
       pub paths-short : {a : Answer} → (s .number ≡ 0 → ⊥) → Refuses (s .number) t a → CleansPaths bs out t a out′
       paths-short o R =

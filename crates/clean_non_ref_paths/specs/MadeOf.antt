@@ -6,10 +6,14 @@ use Rattle.defs.specs.Record.{decode}
 use Rattle.defs.specs.Cleanup.{cleanNonRefPaths}
 use Rattle.defs.specs.Refusals.{sequenceOnly, recordRefusal}
 use Rattle.memory.specs.Memory.{graphOf, Holds}
+use Rattle.memory.specs.declared.Held.{Held}
+use Rattle.accept.specs.Accept.{readNumber}
 use Rattle.accept.specs.declared.Read.{Read}
+use Rattle.accept.specs.declared.Read.the-variants.{Graph, Refused}
 
--- the number; and with number 0 what clean_non_ref_paths makes of the record's graph, held
+-- the number is the definition's; a graph is what clean_non_ref_paths makes of the record's graph, and held; a refusal has a number
 pub record MadeOf (bs heads nexts : List ℕ) (r : Read) (es vs p : List ℕ) : Type 0 where
-  pub number : r .number ≡ recordRefusal sequenceOnly bs
-  pub is : r .number ≡ 0 → graphOf (r .held) es vs p ≡ cleanNonRefPaths (decode bs)
-  pub holds : r .number ≡ 0 → Holds (r .held) es vs p heads nexts
+  pub number : readNumber r ≡ recordRefusal sequenceOnly bs
+  pub is : (h : Held) → r ≡ Graph h → graphOf h es vs p ≡ cleanNonRefPaths (decode bs)
+  pub holds : (h : Held) → r ≡ Graph h → Holds h es vs p heads nexts
+  pub refused : (n : ℕ) → r ≡ Refused n → n ≡ 0 → ⊥

@@ -9,7 +9,7 @@ use accept::Read;
 use calls::Answer;
 use calls::Tally;
 
-// A record's refusal number, or 0 and the cleaned graph, which the slices hold.
+// The cleaned graph, which the slices hold, or the number of the record's refusal.
 fn read_and_clean(
     rec: &[u8],
     es: &mut [u32],
@@ -24,24 +24,12 @@ fn read_and_clean(
     requires { ⌜ LentMarks (now rec) (now es) (now vs) (now p) (now heads) (now nexts) (now nodes) (now map) (now tried) ⌝ }
     ensures { λ r. ⌜ MadeOf (now (rec .entry)) (now (heads .entry)) (now (nexts .entry)) r (now (es .exit)) (now (vs .exit)) (now (p .exit)) ⌝ }
 {
-    let read = accept::read_sequence_graph(rec, es, vs, p, heads, nexts, nodes, map);
-    if read.number != 0 {
-        return read;
-    }
-    let held = clean_non_ref::clean_non_ref_paths(
-        read.held,
-        es,
-        vs,
-        heads,
-        nexts,
-        nodes,
-        map,
-        tried,
-    );
-    Read {
-        number: 0,
-        held: held,
-    }
+    let held = match accept::read_sequence_graph(rec, es, vs, p, heads, nexts, nodes, map) {
+        Read::Graph(held) => held,
+        Read::Refused(number) => return Read::Refused(number),
+    };
+    let cleaned = clean_non_ref::clean_non_ref_paths(held, es, vs, heads, nexts, nodes, map, tried);
+    Read::Graph(cleaned)
 }
 
 fn clean_non_ref_paths_in(
@@ -60,12 +48,10 @@ fn clean_non_ref_paths_in(
     requires { ⌜ LentMarks (now rec) (now es) (now vs) (now p) (now heads) (now nexts) (now nodes) (now map) (now tried) ⌝ }
     ensures { λ r. ⌜ CleansPaths (now (rec .entry)) (now (out .entry)) tally r (now (out .exit)) ⌝ }
 {
-    let made = read_and_clean(rec, es, vs, p, heads, nexts, nodes, map, tried);
-    let number = made.number;
-    if number != 0 {
-        return calls::refuse(number, tally);
-    }
-    let held = made.held;
+    let held = match read_and_clean(rec, es, vs, p, heads, nexts, nodes, map, tried) {
+        Read::Graph(held) => held,
+        Read::Refused(number) => return calls::refuse(number, tally),
+    };
     let sent = calls::send_record(out, 0, held, es, vs, p);
     let short = sent.number;
     if short != 0 {

@@ -1,5 +1,5 @@
 -- The graph of an accepted record can be cleaned in the room that reading it asks for. Assumes nothing.
-use mathlib.Core.Path.{_≡_, sym, _∙_}
+use mathlib.Core.Path.{_≡_}
 use mathlib.Core.List.{List}
 use Prim.Native.Nat.{ℕ}
 use native.Mathlib.Omega.{arith}
@@ -9,15 +9,18 @@ use Rattle.record.proofs.Accepted.{sequence-kind}
 use Rattle.sound.proofs.Accepted.{accepted-early, accepted-layout, accepted-good, read-bytes}
 use Rattle.sound.proofs.Measured.{read-light, read-branching}
 use Rattle.accept.specs.Accept.{Roomy, ReadAs}
+use Rattle.memory.specs.declared.Held.{Held}
 use Rattle.accept.specs.declared.Read.{Read}
+use Rattle.accept.specs.declared.Read.the-variants.{Graph}
+use Rattle.accept.proofs.AcceptLaws.{read-none}
 use Rattle.choice.specs.Choice.{Lean, HoldsLean}
 use Rattle.choice.proofs.LeanLaws.{lean-as}
 use Rattle.choice.proofs.ChoiceLaws.{holds-lean}
 
-pub read-lean : {bs heads nexts : List ℕ} {r : Read} {es vs p : List ℕ} → ReadAs bs heads nexts r es vs p → Roomy bs heads nexts → r .number
-    ≡ 0 → HoldsLean (r .held) es vs p heads nexts
-read-lean {bs} {heads} {nexts} A Y ok =
-    let z = sym (A .number) ∙ ok in
+pub read-lean : {bs heads nexts : List ℕ} {r : Read} {es vs p : List ℕ} → ReadAs bs heads nexts r es vs p → Roomy bs heads nexts → {h : Held}
+    → r ≡ Graph h → HoldsLean h es vs p heads nexts
+read-lean {bs} {heads} {nexts} A Y {h} ok =
+    let z = read-none A ok in
     let formed = accepted-layout sequenceOnly bs z in
     let enough = Y .room formed (sequence-kind bs (accepted-early sequenceOnly bs z)) in
     let lean : Lean (decode bs) heads nexts = record {
@@ -25,4 +28,4 @@ read-lean {bs} {heads} {nexts} A Y ok =
       light = read-light bs formed (enough .vertices) (enough .weight);
       narrow = omega (arith, read-branching bs formed, read-bytes bs formed, enough .edges);
     } in
-    holds-lean (A .holds ok) (lean-as (A .is ok) lean)
+    holds-lean (A .holds h ok) (lean-as (A .is h ok) lean)

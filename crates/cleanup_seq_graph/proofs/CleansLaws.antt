@@ -16,10 +16,13 @@ use Rattle.sound.proofs.Accepted.{accepted-good}
 use Rattle.reread.specs.Reread.{RereadAs}
 use Rattle.reread.proofs.Read.{Bytes, record-most}
 use Rattle.reread.proofs.Answers.{cleanup-reread}
-use Rattle.memory.specs.Memory.{graphOf}
+use Rattle.memory.specs.Memory.{graphOf, Holds}
+use Rattle.memory.specs.declared.Held.{Held}
 use Rattle.memory.proofs.RoomLaws.{room-kept, holds-kept}
 use Rattle.accept.specs.Accept.{ReadAs}
 use Rattle.accept.specs.declared.Read.{Read}
+use Rattle.accept.specs.declared.Read.the-variants as read
+use Rattle.accept.proofs.AcceptLaws.{read-none, read-number}
 use Rattle.choice.specs.Choice.{Cleanable}
 use Rattle.choice.proofs.ChoiceLaws.{holds-lean-kept}
 use Rattle.cleanable.proofs.ReadLean.{read-lean}
@@ -37,13 +40,15 @@ use Rattle.calls.proofs.SendLaws.{sent-short, sent-whole}
 use Rattle.cleanup_seq_graph.specs.MadeOf.{MadeOf}
 use Rattle.cleanup_seq_graph.specs.Cleans.{SpellsChosen, Cleans}
 use Rattle.cleanup_seq_graph.specs.declared.Made.{Made}
+use Rattle.cleanup_seq_graph.specs.declared.Made.the-variants as outcome
+use Rattle.cleanup_seq_graph.proofs.MadeLaws.{not-both, number-graph, number-refused, same-made}
 
 -- what is lent is room enough to clean what was read
 module _ {bs es vs p heads nexts nodes mp starts tried sig : List ℕ} (Z : Lent bs es vs p heads nexts nodes mp starts tried sig) where
-  pub lent-cleanable : {r : Read} {es′ vs′ p′ heads′ nexts′ nodes′ mp′ : List ℕ} → ReadAs bs heads nexts r es′ vs′ p′ → r .number ≡ 0
+  pub lent-cleanable : {r : Read} {h : Held} {es′ vs′ p′ heads′ nexts′ nodes′ mp′ : List ℕ} → ReadAs bs heads nexts r es′ vs′ p′ → r ≡ read.Graph h
       → length es′ ≡ length es → length vs′ ≡ length vs → length p′ ≡ length p → length heads′ ≡ length heads → length nexts′ ≡ length nexts
       → length nodes′ ≡ length nodes → length mp′ ≡ length mp
-      → Cleanable (r .held) es′ vs′ p′ heads′ nexts′ nodes′ mp′ starts tried sig
+      → Cleanable h es′ vs′ p′ heads′ nexts′ nodes′ mp′ starts tried sig
   lent-cleanable A ok la lb lc ld le lf lg = record {
     room = room-kept (Z .graph .room) la lb lc ld le lf lg;
     holds = holds-lean-kept (read-lean A (Z .graph .roomy) ok) ld le;
@@ -54,17 +59,25 @@ module _ {bs es vs p heads nexts nodes mp starts tried sig : List ℕ} (Z : Lent
 
 -- reading, then cleaning
 module _ {bs heads nexts : List ℕ} {r : Read} {es vs p : List ℕ} (A : ReadAs bs heads nexts r es vs p) where
-  pub made-refused : (r .number ≡ 0 → ⊥) → {m : Made} {es′ vs′ p′ : List ℕ} → m .number ≡ r .number → MadeOf bs heads nexts m es′ vs′ p′
-  made-refused o q = record { number = q ∙ A .number; answers = λ z. absurd (o (sym q ∙ z)); holds = λ z. absurd (o (sym q ∙ z)) }
-
-  pub made-whole : r .number ≡ 0 → {heads′ nexts′ : List ℕ} {c : CleanedUp} {es′ vs′ p′ : List ℕ} → length heads′ ≡ length heads
-      → length nexts′ ≡ length nexts → CleanUp (r .held) es vs p heads′ nexts′ c es′ vs′ p′
-      → MadeOf bs heads nexts record { number = 0; cleaned = c } es′ vs′ p′
-  made-whole ok {c = c} {es′} {vs′} {p′} d e F = record {
-    number = sym ok ∙ A .number;
-    answers = λ _. subst (λ (g : Graph). Answers (cleanupSeqGraph g) c es′ vs′ p′) (A .is ok) (F .answers);
-    holds = λ _. holds-kept (F .holds) (sym d) (sym e);
+  pub made-refused : {n : ℕ} → r ≡ read.Refused n → {es′ vs′ p′ : List ℕ} → MadeOf bs heads nexts (outcome.Refused n) es′ vs′ p′
+  made-refused {n} f = record {
+    number = number-refused refl ∙ sym (read-number A f);
+    answers = λ c e. not-both e refl;
+    holds = λ c e. not-both e refl;
+    refused = λ m e z. A .refused n f (sym (number-refused refl) ∙ number-refused e ∙ z);
   }
+
+  pub made-whole : {h : Held} → r ≡ read.Graph h → {heads′ nexts′ : List ℕ} {c : CleanedUp} {es′ vs′ p′ : List ℕ} → length heads′ ≡ length heads
+      → length nexts′ ≡ length nexts → CleanUp h es vs p heads′ nexts′ c es′ vs′ p′
+      → MadeOf bs heads nexts (outcome.Graph c) es′ vs′ p′
+  made-whole {h} ok {c = c} {es′} {vs′} {p′} d e F =
+      let answers = subst (λ (g : Graph). Answers (cleanupSeqGraph g) c es′ vs′ p′) (A .is h ok) (F .answers) in
+      record {
+        number = number-graph refl ∙ sym (read-none A ok);
+        answers = λ x q. subst (λ (y : CleanedUp). Answers (cleanupSeqGraph (decode bs)) y es′ vs′ p′) (same-made q) answers;
+        holds = λ x q. subst (λ (y : CleanedUp). Holds (y .held) es′ vs′ p′ heads nexts) (same-made q) (holds-kept (F .holds) (sym d) (sym e));
+        refused = λ n q. not-both refl q;
+      }
 
 -- the number tells the status
 status-small : (s : Status) → statusNumber s < 256
@@ -155,28 +168,29 @@ module _ (bs out : List ℕ) (t : Tally) where
 
 -- the whole call
 module _ {bs heads nexts : List ℕ} {m : Made} {es vs p : List ℕ} (M : MadeOf bs heads nexts m es vs p) (t : Tally) where
-  pub cleans-refused : (out : List ℕ) {a : CleanupAnswer} → (m .number ≡ 0 → ⊥) → RefusesCleanup (m .number) t a → Cleans bs out t a out
-  cleans-refused out o R =
-      refused-with bs out t (m .number) o (λ l i. omega (arith, i, M .number, record-most sequenceOnly bs))
-      (stopped bs out t (m .number) (sym (M .number)) o) R refl
+  pub cleans-refused : (out : List ℕ) {a : CleanupAnswer} {n : ℕ} → m ≡ outcome.Refused n → RefusesCleanup n t a → Cleans bs out t a out
+  cleans-refused out {n = n} f R =
+      let o = M .refused n f in
+      refused-with bs out t n o (λ l i. omega (arith, i, M .number, number-refused f, record-most sequenceOnly bs))
+      (stopped bs out t n (sym (M .number) ∙ number-refused f) o) R refl
 
-  pub made-status : {n : ℕ} → n ≡ statusNumber (cleanupStatusOf (m .cleaned .status)) → n < 256
-  made-status q = omega (arith, q, status-small (cleanupStatusOf (m .cleaned .status)))
+  pub made-status : (g : CleanedUp) {n : ℕ} → n ≡ statusNumber (cleanupStatusOf (g .status)) → n < 256
+  made-status g q = omega (arith, q, status-small (cleanupStatusOf (g .status)))
 
-  module _ (small : Bytes bs) (ok : m .number ≡ 0) where
+  module _ (small : Bytes bs) {g : CleanedUp} (ok : m ≡ outcome.Graph g) where
     none : recordRefusal sequenceOnly bs ≡ 0
-    none = sym (M .number) ∙ ok
+    none = sym (M .number) ∙ number-graph ok
 
-    module _ {n : ℕ} (number-is : n ≡ statusNumber (cleanupStatusOf (m .cleaned .status))) {out out′ : List ℕ} {s : Sent}
-        (S : Sends (encode sequenceGraph n (graphOf (m .cleaned .held) es vs p)) out s out′) where
+    module _ {n : ℕ} (number-is : n ≡ statusNumber (cleanupStatusOf (g .status))) {out out′ : List ℕ} {s : Sent}
+        (S : Sends (encode sequenceGraph n (graphOf (g .held) es vs p)) out s out′) where
       status-is : n ≡ statusNumber ((cleanupSeqGraph (decode bs)) .status)
-      status-is = number-is ∙ ap statusNumber (M .answers ok .status)
+      status-is = number-is ∙ ap statusNumber (M .answers g ok .status)
 
       abbrev made : List ℕ
       made = encode sequenceGraph (statusNumber ((cleanupSeqGraph (decode bs)) .status)) ((cleanupSeqGraph (decode bs)) .graph)
 
       sends : Sends made out s out′
-      sends = subst (λ (l : List ℕ). Sends l out s out′) (λ i. encode sequenceGraph (status-is i) (M .answers ok .graph i)) S
+      sends = subst (λ (l : List ℕ). Sends l out s out′) (λ i. encode sequenceGraph (status-is i) (M .answers g ok .graph i)) S
 
       pub cleans-short : {a : CleanupAnswer} → (s .number ≡ 0 → ⊥) → RefusesCleanup (s .number) t a → Cleans bs out t a out′
       cleans-short o R =
@@ -185,10 +199,10 @@ module _ {bs heads nexts : List ℕ} {m : Made} {es vs p : List ℕ} (M : MadeOf
           (λ l i. fits-not-short (length out) made (omega (arith, l, (cleanup-reread bs small none) .size)) (c .0))
           (fitting bs out t none ∙ c .0 ∙ ap refused (sym (c .1 .0))) R (c .1 .1)
 
-      pub cleans-accepted : {a : CleanupAnswer} → s .number ≡ 0 → AcceptsCleanup (s .length) n (m .cleaned .rewrites) t a
+      pub cleans-accepted : {a : CleanupAnswer} → s .number ≡ 0 → AcceptsCleanup (s .length) n (g .rewrites) t a
           → Cleans bs out t a out′
       cleans-accepted i A =
           let c = sent-whole sends i in
-          let Z = M .answers ok in
+          let Z = M .answers g ok in
           accepted-with bs out t small none (fitting bs out t none
           ∙ c .0) (A .is made (cleanupSeqGraph (decode bs)) (sym (c .1 .0)) (sym status-is) (sym (Z .rewrites))) (c .1 .1)

@@ -1,5 +1,4 @@
 // cleanup_seq_graph: a record in, its cleanup's record out. Nothing is asked of the caller.
-ghost use mathlib.Core.Path.{_≡_};
 ghost use Prim.Native.Nat.{_≤_};
 ghost use lib.ListN.{length};
 ghost use Rattle.defs.specs.Cleanup.{statusNumber};
@@ -7,16 +6,16 @@ ghost use Rattle.arrays.specs.Sized.{Lent};
 ghost use Rattle.cleanup.specs.CleanUp.{cleanupStatusOf};
 ghost use Rattle.cleanup_seq_graph.specs.Cleans.{Cleans};
 ghost use Rattle.cleanup_seq_graph.specs.MadeOf.{MadeOf};
+use accept::Read;
 use calls::CleanupAnswer;
 use calls::Tally;
 use cleanup::CleanedUp;
 use cleanup::SeqGraphCleanupStatus;
-use memory::Held;
 
-// A record's refusal number, or 0 and its cleanup, which the slices hold.
-pub struct Made {
-    pub number: u32,
-    pub cleaned: CleanedUp,
+// What was made of a record: its cleanup, which the slices hold, or the number of the refusal.
+pub enum Made {
+    Graph(CleanedUp),
+    Refused(u32),
 }
 
 // The number of a status, as a record has it.
@@ -26,22 +25,6 @@ fn status_number(status: SeqGraphCleanupStatus) -> u32
     match status {
         SeqGraphCleanupStatus::JustAssembledReference => 1,
         SeqGraphCleanupStatus::AssembledSomeVariation => 2,
-    }
-}
-
-// Nothing was cleaned: the status says nothing.
-fn refuse(number: u32, held: Held) -> Made
-    ensures { λ r. ⌜ r .number ≡ number ⌝ }
-{
-    let status = SeqGraphCleanupStatus::JustAssembledReference;
-    let none = CleanedUp {
-        held: held,
-        status: status,
-        rewrites: 0,
-    };
-    Made {
-        number: number,
-        cleaned: none,
     }
 }
 
@@ -61,13 +44,12 @@ fn read_and_clean(
     requires { ⌜ Lent (now rec) (now es) (now vs) (now p) (now heads) (now nexts) (now nodes) (now map) (now starts) (now tried) (now sig) ⌝ }
     ensures { λ r. ⌜ MadeOf (now (rec .entry)) (now (heads .entry)) (now (nexts .entry)) r (now (es .exit)) (now (vs .exit)) (now (p .exit)) ⌝ }
 {
-    let read = accept::read_sequence_graph(rec, es, vs, p, heads, nexts, nodes, map);
-    let number = read.number;
-    if number != 0 {
-        return refuse(number, read.held);
-    }
+    let held = match accept::read_sequence_graph(rec, es, vs, p, heads, nexts, nodes, map) {
+        Read::Graph(held) => held,
+        Read::Refused(number) => return Made::Refused(number),
+    };
     let c = cleanup::cleanup_seq_graph(
-        read.held,
+        held,
         es,
         vs,
         p,
@@ -79,10 +61,7 @@ fn read_and_clean(
         tried,
         sig,
     );
-    Made {
-        number: 0,
-        cleaned: c,
-    }
+    Made::Graph(c)
 }
 
 fn cleanup_seq_graph_in(
@@ -103,12 +82,10 @@ fn cleanup_seq_graph_in(
     requires { ⌜ Lent (now rec) (now es) (now vs) (now p) (now heads) (now nexts) (now nodes) (now map) (now starts) (now tried) (now sig) ⌝ }
     ensures { λ r. ⌜ Cleans (now (rec .entry)) (now (out .entry)) tally r (now (out .exit)) ⌝ }
 {
-    let made = read_and_clean(rec, es, vs, p, heads, nexts, nodes, map, starts, tried, sig);
-    let number = made.number;
-    if number != 0 {
-        return calls::refuse_cleanup(number, tally);
-    }
-    let c = made.cleaned;
+    let c = match read_and_clean(rec, es, vs, p, heads, nexts, nodes, map, starts, tried, sig) {
+        Made::Graph(cleaned) => cleaned,
+        Made::Refused(number) => return calls::refuse_cleanup(number, tally),
+    };
     let end = c.status;
     let status = status_number(end);
     let sent = calls::send_record(out, status, c.held, es, vs, p);

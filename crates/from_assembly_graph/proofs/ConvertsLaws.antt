@@ -26,6 +26,7 @@ use Rattle.reread.specs.Recordable.{SequenceInput, KmerInput}
 use Rattle.reread.proofs.Graphs.{input-reaccepted}
 use Rattle.reread.proofs.Read.{Bytes, record-most, kmer-input}
 use Rattle.memory.specs.Memory.{graphOf}
+use Rattle.memory.specs.declared.Held.{Held}
 use Rattle.convert.proofs.SortLaws.{of-sort, length-sort, single-sort}
 use Rattle.calls.specs.Answers.{tallyOf, answerOf, Refuses, Accepts}
 use Rattle.calls.specs.Sending.{Sends}
@@ -37,7 +38,9 @@ use Rattle.calls.proofs.CauseLaws.{behind-refused, behind-present, behind-absen
 use Rattle.calls.proofs.SendLaws.{sent-short, sent-whole}
 use Rattle.read_kmers.proofs.KmerLaws.{kmer-bytes-least, kmer-bytes-most}
 use Rattle.from_kmers.specs.Conversion.{Roomy, ConvertedAs}
-use Rattle.from_kmers.specs.declared.Converted.{Converted}
+use Rattle.accept.specs.declared.Read.{Read}
+use Rattle.accept.specs.declared.Read.the-variants as read
+use Rattle.accept.proofs.AcceptLaws.{number-graph, number-refused}
 use Rattle.from_kmers.proofs.ConversionLaws.{none-early, none-late}
 use Rattle.from_assembly_graph.specs.Converts.{Converts, Large, Small}
 
@@ -149,18 +152,20 @@ module _ (bs out : List ℕ) (t : Tally) where
 
 -- ---- the whole call
 
-module _ {bs : List ℕ} {c : Converted} {sorted vs p : List ℕ} (C : ConvertedAs bs c sorted vs p) (t : Tally) where
-  pub converts-refused : (out : List ℕ) {a : Answer} → (c .number ≡ 0 → ⊥) → Refuses (c .number) t a → Converts bs out t a out
-  converts-refused out o R =
-      refused-with bs out t (c .number) o (λ l i. never-11 bs (sym (C .number) ∙ i)) (stopped bs out t (c .number) (sym (C .number)) o) R refl
+module _ {bs : List ℕ} {c : Read} {sorted vs p : List ℕ} (C : ConvertedAs bs c sorted vs p) (t : Tally) where
+  pub converts-refused : (out : List ℕ) {a : Answer} {n : ℕ} → c ≡ read.Refused n → Refuses n t a → Converts bs out t a out
+  converts-refused out {n = n} f R =
+      let o = C .refused n f in
+      let is = sym (C .number) ∙ number-refused f in
+      refused-with bs out t n o (λ l i. never-11 bs (is ∙ i)) (stopped bs out t n is o) R refl
 
-  module _ (small : Bytes bs) (ok : c .number ≡ 0) {out out′ : List ℕ} {s : Sent} (S :
-      Sends (encode sequenceGraph 0 (graphOf (c .held) sorted vs p)) out s out′) where
+  module _ (small : Bytes bs) {h : Held} (ok : c ≡ read.Graph h) {out out′ : List ℕ} {s : Sent} (S :
+      Sends (encode sequenceGraph 0 (graphOf h sorted vs p)) out s out′) where
     none : refusalOf (conversionCauses bs) ≡ 0
-    none = sym (C .number) ∙ ok
+    none = sym (C .number) ∙ number-graph ok
 
     sends : Sends (encode sequenceGraph 0 (fromAssemblyGraph (decode bs))) out s out′
-    sends = subst (λ (g : Graph). Sends (encode sequenceGraph 0 g) out s out′) (C .is ok) S
+    sends = subst (λ (g : Graph). Sends (encode sequenceGraph 0 g) out s out′) (C .is h ok) S
 
     pub converts-short : {a : Answer} → (s .number ≡ 0 → ⊥) → Refuses (s .number) t a → Converts bs out t a out′
     converts-short o R =

@@ -3,6 +3,7 @@ ghost use Prim.Native.Nat.{_≤_};
 ghost use lib.ListN.{length};
 ghost use Rattle.from_kmers.specs.Conversion.{Roomy};
 ghost use Rattle.from_assembly_graph.specs.Converts.{Converts};
+use accept::Read;
 use calls::Answer;
 use calls::Tally;
 
@@ -35,11 +36,10 @@ fn from_assembly_graph_in(
         place,
         sorted,
     );
-    let number = converted.number;
-    let held = converted.held;
-    if number != 0 {
-        return calls::refuse(number, tally);
-    }
+    let held = match converted {
+        Read::Graph(held) => held,
+        Read::Refused(number) => return calls::refuse(number, tally),
+    };
     let sent = calls::send_record(out, 0, held, sorted, vs, p);
     let short = sent.number;
     if short != 0 {

@@ -1,5 +1,5 @@
 -- Conversion, step by step. Assumes nothing.
-use mathlib.Core.Path.{_≡_, refl, sym, ap, _∙_}
+use mathlib.Core.Path.{_≡_, refl, sym, ap, subst, _∙_}
 use mathlib.Core.List.{List, []}
 use Prim.Native.Nat.{ℕ, _+_, _*_, _≤_, _<_}
 use native.Mathlib.Omega.{arith}
@@ -29,12 +29,15 @@ use Rattle.convert.proofs.CopyLaws.{converted}
 use Rattle.write_record.specs.Written.{Measured}
 use Rattle.write_record.proofs.WriteLaws.{bytes-are}
 use Rattle.calls.proofs.CauseLaws.{behind-refused, behind-present, behind-absent}
+use Rattle.calls.specs.Sending.{Sendable}
 use Rattle.accept.specs.declared.Read.{Read}
+use Rattle.accept.specs.declared.Read.the-variants as read
+use Rattle.accept.specs.declared.Read.the-variants.{Refused}
+use Rattle.accept.proofs.AcceptLaws.{not-both, number-graph, number-refused, same-held}
 use Rattle.read_kmers.specs.Kmers as K
 use Rattle.read_kmers.specs.Kmers.{HoldsKmers, KmersRead}
 use Rattle.read_kmers.proofs.KmerLaws.{sum-most}
 use Rattle.from_kmers.specs.Conversion.{Roomy, ConvertedAs}
-use Rattle.from_kmers.specs.declared.Converted.{Converted}
 
 -- ---- the causes
 
@@ -91,30 +94,37 @@ module _ {bs : List ℕ} {h : Held} {es vs p heads nexts order : List ℕ} (H : 
     ];
   }
 
+refused-as : (bs : List ℕ) (n : ℕ) → n ≡ refusalOf (conversionCauses bs) → (n ≡ 0 → ⊥) → {es vs p : List ℕ} → ConvertedAs bs (Refused n) es vs p
+refused-as bs n q o = record {
+  number = number-refused refl ∙ q;
+  is = λ h e. not-both e refl;
+  sendable = λ h e. not-both e refl;
+  refused = λ m e z. o (sym (number-refused refl) ∙ number-refused e ∙ z);
+}
+
 -- ---- the steps
 
 module _ {bs es vs p heads nexts order scratch place sorted : List ℕ} (R : Roomy bs es vs p heads nexts order scratch place sorted) {r :
     Read} {es′ vs′ p′ heads′ nexts′ order′ : List ℕ} (A : KmersRead bs r es′ vs′ p′ heads′ nexts′ order′) where
-  pub refused : {c : Converted} {es₂ vs₂ p₂ : List ℕ} → (r .number ≡ 0 → ⊥) → c .number ≡ r .number → ConvertedAs bs c es₂ vs₂ p₂
-  refused o q = record {
-    number = q ∙ sym (early bs (sym (A .number)) o);
-    is = λ z. absurd (o (sym q ∙ z));
-    sendable = λ z. absurd (o (sym q ∙ z));
-  }
+  pub refused : {n : ℕ} {es₂ vs₂ p₂ : List ℕ} → r ≡ Refused n → ConvertedAs bs (Refused n) es₂ vs₂ p₂
+  refused {n} f = let o = A .refused n f in refused-as bs n (sym (early bs (sym (A .number) ∙ number-refused f) o)) o
 
-  module _ (ok : r .number ≡ 0) where
-    held : HoldsKmers bs (r .held) es′ vs′ p′ heads′ nexts′ order′
-    held = A .holds ok
+  module _ {h : Held} (ok : r ≡ read.Graph h) where
+    held : HoldsKmers bs h es′ vs′ p′ heads′ nexts′ order′
+    held = A .holds h ok
+
+    none : recordRefusal kmerOnly bs ≡ 0
+    none = sym (A .number) ∙ number-graph ok
 
     formed : WellFormed bs
-    formed = accepted-layout kmerOnly bs (sym (A .number) ∙ ok)
+    formed = accepted-layout kmerOnly bs none
 
     room : K.Room bs es vs p heads nexts order scratch place
-    room = R .reading .room formed (kmer-kind bs (accepted-early kmerOnly bs (sym (A .number) ∙ ok)))
+    room = R .reading .room formed (kmer-kind bs (accepted-early kmerOnly bs none))
 
     pub convertible : {scratch′ place′ : List ℕ} → length es′ ≡ length es → length order′ ≡ length order → length scratch′ ≡ length scratch
         → length place′ ≡ length place
-        → Convertible (r .held .m) (r .held .n) es′ order′ scratch′ place′ sorted
+        → Convertible (h .m) (h .n) es′ order′ scratch′ place′ sorted
     convertible a b c d = record {
       numbers = held .ordered .numbers;
       ends = held .ends;
@@ -127,65 +137,65 @@ module _ {bs es vs p heads nexts order scratch place sorted : List ℕ} (R : Roo
       few-edges = omega (arith, held .edges);
     }
 
-    pub trimmable : length vs′ ≡ length vs → Trimmable (r .held .n) vs′
+    pub trimmable : length vs′ ≡ length vs → Trimmable (h .n) vs′
     trimmable l = record {
       vs-room = omega (arith, held .n-is, room .vs-room);
       whole = λ v b. omega (arith, held .sizes v b, held .k-least);
       small = λ v b. omega (arith, held .within .at v b, held .used-most);
     }
 
-    module _ {vs″ : List ℕ} (T : Trimmed (r .held .m) (r .held .n) es′ vs′ vs″) where
-      bytes-most : bytesIn (r .held .n) vs″ < 4294967296
+    module _ {vs″ : List ℕ} (T : Trimmed (h .m) (h .n) es′ vs′ vs″) where
+      bytes-most : bytesIn (h .n) vs″ < 4294967296
       bytes-most =
-          let w = T .within (r .held .used) (held .within) in
-          omega (arith, held .vertices, sum-most 262144 (r .held .n) (λ (v : ℕ). getD vs″ (2 * v + 1) 0) (λ v b. omega (arith, w .at v b, held .used-most)))
+          let w = T .within (h .used) (held .within) in
+          omega (arith, held .vertices, sum-most 262144 (h .n) (λ (v : ℕ). getD vs″ (2 * v + 1) 0) (λ v b. omega (arith, w .at v b, held .used-most)))
 
-      pub countable : length vs″ ≡ length vs′ → length vs′ ≡ length vs → (2 * r .held .n ≤ length vs″) × (bytesIn (r .held .n) vs″ < 4294967296)
+      pub countable : length vs″ ≡ length vs′ → length vs′ ≡ length vs → (2 * h .n ≤ length vs″) × (bytesIn (h .n) vs″ < 4294967296)
       countable a b = (omega (arith, held .n-is, room .vs-room), bytes-most)
 
-      module _ {sorted′ : List ℕ} (S : EdgesSorted (r .held .m) (r .held .n) es′ order′ sorted′) where
-        within : Within (length p′) (r .held .n) vs′
+      module _ {sorted′ : List ℕ} (S : EdgesSorted (h .m) (h .n) es′ order′ sorted′) where
+        within : Within (length p′) (h .n) vs′
         within = record { at = λ v b. omega (arith, held .within .at v b, held .used-room) }
 
-        graph-is : graphOf (r .held) sorted′ vs″ p′ ≡ fromAssemblyGraph (decode bs)
-        graph-is = converted (r .held .k .0) p′ within (separate held) (held .ordered) T S ∙ ap fromAssemblyGraph (held .is)
+        graph-is : graphOf h sorted′ vs″ p′ ≡ fromAssemblyGraph (decode bs)
+        graph-is = converted (h .k .0) p′ within (separate held) (held .ordered) T S ∙ ap fromAssemblyGraph (held .is)
 
-        bytes-is : sequenceBytes ((fromAssemblyGraph (decode bs)) .verts) ≡ bytesIn (r .held .n) vs″
+        bytes-is : sequenceBytes ((fromAssemblyGraph (decode bs)) .verts) ≡ bytesIn (h .n) vs″
         bytes-is = ap (λ (g : Graph). sequenceBytes (g .verts)) (sym graph-is)
-            ∙ bytes-are 0 (r .held .k .0) (r .held .n) (r .held .m) sorted′ vs″ p′ (T .within (length p′) within)
+            ∙ bytes-are 0 (h .k .0) (h .n) (h .m) sorted′ vs″ p′ (T .within (length p′) within)
 
-        module _ {b : ℕ} (q : b ≡ bytesIn (r .held .n) vs″) where
-          pub over : 8192 < b → {c : Converted} {es₂ vs₂ p₂ : List ℕ} → c .number ≡ 8 → ConvertedAs bs c es₂ vs₂ p₂
-          over l e = record {
-            number = e ∙ sym (too-long bs (sym (A .number) ∙ ok) (omega (arith, bytes-is)));
-            is = λ z. absurd (omega arith);
-            sendable = λ z. absurd (omega arith);
-          }
+        module _ {b : ℕ} (q : b ≡ bytesIn (h .n) vs″) where
+          pub over : 8192 < b → {es₂ vs₂ p₂ : List ℕ} → ConvertedAs bs (Refused 8) es₂ vs₂ p₂
+          over l = refused-as bs 8 (sym (too-long bs none (omega (arith, bytes-is)))) (λ z. omega arith)
 
           pub done : b ≤ 8192 → length vs″ ≡ length vs′ → length vs′ ≡ length vs → length sorted′ ≡ length sorted
-              → ConvertedAs bs record { number = 0; held = r .held } sorted′ vs″ p′
+              → ConvertedAs bs (read.Graph h) sorted′ vs″ p′
           done l lv lw ls = record {
-            number = sym (no-cause bs (sym (A .number) ∙ ok) (omega (arith, bytes-is)));
-            is = λ _. graph-is;
-            sendable = λ _. record {
-              measured = measured;
-              within = inside;
-              writable = λ out enough. record {
-                status-fits = omega arith;
-                n-fits = omega (arith, held .vertices);
-                m-fits = omega (arith, held .edges);
-                lengths-fit = λ v c. omega (arith, bytes-below (r .held .n) v vs″ c);
-                ends = S .ends;
-                es-room = omega (arith, held .m-is, R .sorted-room formed);
-                within = inside;
-                measured = measured;
-                room = enough;
-              };
-            };
+            number = number-graph refl ∙ sym (no-cause bs none (omega (arith, bytes-is)));
+            is = λ g e. subst (λ (x : Held). graphOf x sorted′ vs″ p′ ≡ fromAssemblyGraph (decode bs)) (same-held e) graph-is;
+            sendable = λ g e. subst (λ (x : Held). Sendable 0 x sorted′ vs″ p′) (same-held e) sendable;
+            refused = λ n e. not-both refl e;
           }
             where
-              inside : Within (length p′) (r .held .n) vs″
+              inside : Within (length p′) (h .n) vs″
               inside = T .within (length p′) within
 
-              measured : Measured (r .held) vs″
+              measured : Measured h vs″
               measured = record { vs-room = omega (arith, held .n-is, room .vs-room); small = omega (arith, held .vertices, held .edges) }
+
+              sendable : Sendable 0 h sorted′ vs″ p′
+              sendable = record {
+                measured = measured;
+                within = inside;
+                writable = λ out enough. record {
+                  status-fits = omega arith;
+                  n-fits = omega (arith, held .vertices);
+                  m-fits = omega (arith, held .edges);
+                  lengths-fit = λ v c. omega (arith, bytes-below (h .n) v vs″ c);
+                  ends = S .ends;
+                  es-room = omega (arith, held .m-is, R .sorted-room formed);
+                  within = inside;
+                  measured = measured;
+                  room = enough;
+                };
+              }

@@ -1,11 +1,6 @@
 // The conversion of a k-mer record (`from_assembly_graph`): the number of its refusal, 1 to 8, or the sequence graph in the slices.
 ghost use Rattle.from_kmers.specs.Conversion.{Roomy, ConvertedAs};
-use memory::Held;
-
-pub struct Converted {
-    pub number: u32,
-    pub held: Held,
-}
+use accept::Read;
 
 // The edges of the sequence graph are in `sorted`.
 pub fn read_and_convert(
@@ -19,31 +14,30 @@ pub fn read_and_convert(
     scratch: &mut [u32],
     place: &mut [u32],
     sorted: &mut [u32],
-) -> Converted
+) -> Read
     requires { ⌜ Roomy (now rec) (now es) (now vs) (now p) (now heads) (now nexts) (now order) (now scratch) (now place) (now sorted) ⌝ }
     ensures { λ r. ⌜ ConvertedAs (now (rec .entry)) r (now (sorted .exit)) (now (vs .exit)) (now (p .exit)) ⌝ }
 {
-    let read = read_kmers::read_kmer_graph(rec, es, vs, p, heads, nexts, order, scratch, place);
-    let number = read.number;
-    let held = read.held;
-    if number != 0 {
-        return Converted {
-            number: number,
-            held: held,
-        };
-    }
+    let held = match read_kmers::read_kmer_graph(
+        rec,
+        es,
+        vs,
+        p,
+        heads,
+        nexts,
+        order,
+        scratch,
+        place,
+    ) {
+        Read::Graph(held) => held,
+        Read::Refused(number) => return Read::Refused(number),
+    };
     let n = held.n;
     let m = held.m;
     convert::edges_sorted(es, m, n, order, scratch, place, sorted);
     convert::additional_sequences(es, m, n, heads, nexts, vs);
     if 8192 < write_record::sequence_bytes(vs, n) {
-        return Converted {
-            number: 8,
-            held: held,
-        };
+        return Read::Refused(8);
     }
-    Converted {
-        number: 0,
-        held: held,
-    }
+    Read::Graph(held)
 }

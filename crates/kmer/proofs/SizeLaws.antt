@@ -1,10 +1,9 @@
 -- What each answer says of the number.
 -- Assumes nothing.
-use Prim.Native.Nat.{ℕ, _≤_}
-use mathlib.Core.Path.{_≡_, refl, sym, ap, _∙_}
+use Prim.Native.Nat.{ℕ}
+use mathlib.Core.Path.{_≡_, refl, sym, ap}
 use mathlib.Core.Bool.{Bool, true, false, cond}
 use native.Mathlib.Omega.{arith}
-use borrow.Author.Tests.{le-ltb}
 use Rattle.kmer.specs.Size.{kPastLimit, sizeOf}
 use Rattle.kmer.specs.declared.KmerSize.{KmerSize}
 use Rattle.kmer.specs.declared.MadeSize.{MadeSize}
@@ -38,10 +37,3 @@ made-value false n k e = sym (ap made e)
 pub made-is : (n : ℕ) {k : KmerSize} → sizeOf n ≡ Size k → k .0 ≡ n
 unfolding sizeOf
 made-is n {k} e = made-value (kPastLimit n) n k e
-
-within : (n : ℕ) → 2 ≤ n → n ≤ 128 → kPastLimit n ≡ false
-unfolding kPastLimit
-within n a b = simp (le-ltb n 2 a, le-ltb 128 n b)
-
-pub within-made : (n : ℕ) → 2 ≤ n → n ≤ 128 → sizeOf n ≡ Refused → ⊥
-within-made n a b e = let y : _≡_ {A = Bool} true false = sym (refused-past n e) ∙ within n a b in let z : _≡_ {A = ℕ} 0 1 = cc in omega arith

@@ -1,4 +1,4 @@
--- What makes a k-mer size, and the number of each answer.
+-- What makes a k-mer size.
 -- Assumes nothing.
 use Prim.Native.Nat.{ℕ}
 use mathlib.Core.Bool.{Bool, _||_, cond}
@@ -10,10 +10,6 @@ use Rattle.kmer.specs.declared.MadeSize.the-variants.{Size, Refused}
 unfoldable pub kPastLimit : ℕ → Bool
 kPastLimit n = ltb n 2 || ltb 128 n
 
+-- the size where n is within its limit; else none, which is refusal 3 of a record
 unfoldable pub sizeOf : ℕ → MadeSize
 sizeOf n = cond (kPastLimit n) Refused (Size record { 0 = n })
-
--- a k past its limit is refusal 3
-unfoldable pub numberOf : MadeSize → ℕ
-numberOf (Size k) = 0
-numberOf Refused = 3

@@ -1,8 +1,8 @@
 // A k-mer size is its own kind of number, as `KmerSize` of `bio_ids.rs` is.
 ghost use mathlib.Core.Path.{_≡_};
-ghost use Rattle.kmer.specs.Size.{sizeOf, numberOf};
+ghost use Rattle.kmer.specs.Size.{sizeOf};
 
-// A k-mer size, 2 to 128: made by `kmer_size` alone.
+// A k-mer size, 2 to 128. Its number is private here, and `kmer_size` alone makes one, behind the check.
 pub struct KmerSize(u16);
 
 pub enum MadeSize {
@@ -20,23 +20,6 @@ pub fn kmer_size(n: u16) -> MadeSize
         return MadeSize::Refused;
     }
     MadeSize::Size(KmerSize(n))
-}
-
-// The number of the refusal, 0 where there is none.
-pub fn number(m: MadeSize) -> u32
-    ensures { λ r. ⌜ r ≡ numberOf m ⌝ }
-{
-    match m {
-        MadeSize::Size(_) => 0,
-        MadeSize::Refused => 3,
-    }
-}
-
-// The least size: what stands where no graph was read.
-pub fn least() -> KmerSize
-    ensures { λ r. ⌜ r .0 ≡ 2 ⌝ }
-{
-    KmerSize(2)
 }
 
 pub fn value(k: KmerSize) -> u16

@@ -2,9 +2,10 @@
 ghost use mathlib.Core.Path.{_≡_};
 ghost use Prim.Native.Nat.{_+_, _*_, _≤_};
 ghost use lib.ListN.{length};
-ghost use Rattle.defs.specs.Record.{edgesOf, verticesOf};
+ghost use Rattle.defs.specs.Record.{kOf, edgesOf, verticesOf};
 ghost use Rattle.record.specs.Layout.{WellFormed};
 ghost use Rattle.load.specs.Loaded.{EdgesRead, VerticesRead, BytesRead, Loadable, Loaded};
+use kmer::KmerSize;
 use memory::Held;
 
 fn load_edges(rec: &[u8], es: &mut [u32], m: usize)
@@ -48,8 +49,9 @@ fn load_bytes(rec: &[u8], p: &mut [u8], at: usize, b: usize)
     }
 }
 
-pub fn load_graph(rec: &[u8], es: &mut [u32], vs: &mut [u32], p: &mut [u8]) -> Held
-    requires { ⌜ Loadable (now rec) (now es) (now vs) (now p) ⌝ }
+// The size k is the one that the check of the layout made.
+pub fn load_graph(rec: &[u8], k: KmerSize, es: &mut [u32], vs: &mut [u32], p: &mut [u8]) -> Held
+    requires { ⌜ (k .0 ≡ kOf (now rec)) × Loadable (now rec) (now es) (now vs) (now p) ⌝ }
     ensures { λ r. ⌜ Loaded (now (rec .entry)) r (now (es .exit)) (now (vs .exit)) (now (p .exit)) ⌝ }
 {
     let n = record::vertex_count(rec);
@@ -58,7 +60,6 @@ pub fn load_graph(rec: &[u8], es: &mut [u32], vs: &mut [u32], p: &mut [u8]) -> H
     load_edges(rec, es, m);
     load_vertices(rec, vs, n);
     load_bytes(rec, p, 32 + 2 * n + 9 * m, b);
-    let k = record::kmer_size(rec);
     Held {
         k: k,
         n: n,

@@ -1,5 +1,5 @@
 -- Reading a k-mer record, check by check. Assumes nothing.
-use mathlib.Core.Path.{_≡_, refl, sym, ap, _∙_}
+use mathlib.Core.Path.{_≡_, refl, sym, ap, subst, _∙_}
 use mathlib.Core.Bool.{Bool, true, false, _&&_, _||_}
 use mathlib.Core.List.{List, []}
 use Prim.Native.Nat.{ℕ, zero, suc, _+_, _*_, _≤_, _<_}
@@ -9,9 +9,10 @@ use lib.ListN.{length, getD, take}
 use lib.Dec.{eqb}
 use borrow.Author.Tests.{eq-eqb}
 use Rattle.defs.specs.Lists.{tab, sum}
-use Rattle.defs.specs.SeqGraph.{Graph, vertexSequence}
+use Rattle.defs.specs.SeqGraph as seq
+use Rattle.defs.specs.SeqGraph.{vertexSequence}
 use Rattle.defs.specs.Record.{kindOf, kOf, verticesOf, bytesOf, lengthAt, decode}
-use Rattle.defs.specs.Refusals.{kmerOnly, refusalOf, recordCauses, doubledEdge, equalKmers, doubled, hasCycle}
+use Rattle.defs.specs.Refusals.{kmerOnly, refusalOf, recordCauses, recordRefusal, doubledEdge, equalKmers, doubled, hasCycle}
 use Rattle.laws.proofs.ListLaws.{clash, byOrder}
 use Rattle.tabs.proofs.Tabs.{getD-tab}
 use Rattle.tabs.proofs.SumTabs.{sum-none, sum-suc}
@@ -21,8 +22,12 @@ use Rattle.pool.proofs.PoolLaws.{part-long}
 use Rattle.memory.specs.declared.Held.{Held}
 use Rattle.record.specs.Kinds.{takesOf}
 use Rattle.record.specs.declared.Takes.the-variants.{KmerOnly}
-use Rattle.record.specs.Layout.{WellFormed}
-use Rattle.record.proofs.Accepted.{well-formed, kmer-kind}
+use Rattle.kmer.specs.declared.KmerSize.{KmerSize}
+use Rattle.record.specs.Layout.{WellFormed, layoutOf}
+use Rattle.record.specs.declared.Layout.{Layout}
+use Rattle.record.specs.declared.Layout.the-variants.{Formed}
+use Rattle.record.specs.declared.Layout.the-variants as checked
+use Rattle.record.proofs.Accepted.{well-formed, kmer-kind, formed-none, formed-size, refused-number, refused-some}
 use Rattle.record.proofs.Tests.{or-false}
 use Rattle.record.proofs.Sequences.{vertex-is, length-sequence}
 use Rattle.load.specs.Loaded.{Loadable, Loaded}
@@ -31,8 +36,9 @@ use Rattle.cycle.specs.Peel.{Peelable, HasCycle}
 use Rattle.sound.proofs.Accepted.{refused-early, refused-6, refused-7, accepted, read-good}
 use Rattle.sort.specs.Sort.{Sortable}
 use Rattle.kmer_order.specs.Order.{Sequence, KmerOrder}
-use Rattle.accept.specs.declared.Read.{Read}
-use Rattle.read_kmers.specs.Kmers.{Room, Roomy, Doubles, KmersRead}
+use Rattle.accept.specs.declared.Read.the-variants.{Graph, Refused}
+use Rattle.accept.proofs.AcceptLaws.{not-both, number-graph, number-refused, same-held}
+use Rattle.read_kmers.specs.Kmers.{Room, Roomy, Doubles, HoldsKmers, KmersRead}
 
 -- ---- doubled edges and k-mers
 
@@ -62,12 +68,22 @@ module _ (bs : List ℕ) (W : WellFormed bs) (z : kindOf bs ≡ 0) where
   kmer-bytes-most = omega (arith, W .lengths, W .vertices, sum-most 128 (verticesOf bs) (lengthAt bs) (λ i b. omega (arith, W .kmers z i b, W .k-most)))
 
 module _ (bs : List ℕ) where
-  pub read-refused : {i : ℕ} {r : Read} {es vs p heads nexts order : List ℕ} → i ≡ refusalOf (take 5 (recordCauses kmerOnly bs))
-      → (i ≡ 0 → ⊥) → r .number ≡ i → KmersRead bs r es vs p heads nexts order
-  read-refused {i} e o q = record {
-    number = q ∙ sym (refused-early kmerOnly bs (sym e) (byOrder 1 i (λ b. b) (λ b. absurd (o (omega arith)))));
-    holds = λ z. absurd (o (sym q ∙ z));
+  refused-as : (n : ℕ) → n ≡ recordRefusal kmerOnly bs → (n ≡ 0 → ⊥) → {es vs p heads nexts order : List ℕ}
+      → KmersRead bs (Refused n) es vs p heads nexts order
+  refused-as n q o = record {
+    number = number-refused refl ∙ q;
+    holds = λ h e. not-both e refl;
+    refused = λ m e z. o (sym (number-refused refl) ∙ number-refused e ∙ z);
   }
+
+  pub read-refused : {r : Layout} {n : ℕ} {es vs p heads nexts order : List ℕ}
+      → r ≡ layoutOf (refusalOf (take 5 (recordCauses (takesOf KmerOnly) bs))) (kOf bs)
+      → r ≡ checked.Refused n → KmersRead bs (Refused n) es vs p heads nexts order
+  unfolding takesOf
+  read-refused {n = n} e f =
+      let some = refused-some kmerOnly bs e f in
+      refused-as n
+      (sym (refused-early kmerOnly bs (sym (refused-number kmerOnly bs e f)) (byOrder 1 n (λ b. b) (λ b. absurd (some (omega arith)))))) some
 
   module _ (layout : refusalOf (take 5 (recordCauses kmerOnly bs)) ≡ 0) {es vs p heads nexts order scratch place : List ℕ} (Y :
       Roomy bs es vs p heads nexts order scratch place) where
@@ -141,11 +157,11 @@ module _ (bs : List ℕ) where
           ∙ ap length (sequence-is ∙ vertex-is bs v below) ∙ length-sequence bs v below formed ∙ size-is v below ∙ sym (L .k)
         where
           sequence-is : seqIn vs′ p′ v ≡ vertexSequence (decode bs) v
-          sequence-is = unfold vertexSequence in (sym (getD-tab (h .n) (seqIn vs′ p′) v [] b) ∙ ap (λ (g : Graph). getD (g .verts) v []) (L .is))
+          sequence-is = unfold vertexSequence in (sym (getD-tab (h .n) (seqIn vs′ p′) v [] b) ∙ ap (λ (g : seq.Graph). getD (g .verts) v []) (L .is))
 
       module _ {d : Bool} {order′ : List ℕ} (D : Doubles (h .m) (h .n) es′ vs′ p′ d order′) where
-        pub read-6 : {r : Read} → d ≡ true → r .number ≡ 6 → {es₂ vs₂ p₂ heads₂ nexts₂ order₂ : List ℕ} → KmersRead bs r es₂ vs₂ p₂ heads₂ nexts₂ order₂
-        read-6 t q = record { number = q ∙ sym (refused-6 kmerOnly bs layout (doubled-is ∙ sym (D .is) ∙ t)); holds = λ y. absurd (omega arith) }
+        pub read-6 : d ≡ true → {es₂ vs₂ p₂ heads₂ nexts₂ order₂ : List ℕ} → KmersRead bs (Refused 6) es₂ vs₂ p₂ heads₂ nexts₂ order₂
+        read-6 t = refused-as 6 (sym (refused-6 kmerOnly bs layout (doubled-is ∙ sym (D .is) ∙ t))) (λ z. omega arith)
 
         module _ (t : d ≡ false) {c : Bool} (C : HasCycle (h .m) (h .n) es′ c) where
           none-doubled : doubled bs ≡ false
@@ -154,41 +170,43 @@ module _ (bs : List ℕ) where
           cycle-is : hasCycle (decode bs) ≡ c
           cycle-is = ap hasCycle (sym (L .is)) ∙ sym (C .is (h .k .0) vs′ p′)
 
-          pub read-7 : {r : Read} → c ≡ true → r .number ≡ 7 → {es₂ vs₂ p₂ heads₂ nexts₂ order₂ : List ℕ} → KmersRead bs r es₂ vs₂ p₂ heads₂ nexts₂ order₂
-          read-7 s q = record { number = q ∙ sym (refused-7 kmerOnly bs layout none-doubled (cycle-is ∙ s)); holds = λ y. absurd (omega arith) }
+          pub read-7 : c ≡ true → {es₂ vs₂ p₂ heads₂ nexts₂ order₂ : List ℕ} → KmersRead bs (Refused 7) es₂ vs₂ p₂ heads₂ nexts₂ order₂
+          read-7 s = refused-as 7 (sym (refused-7 kmerOnly bs layout none-doubled (cycle-is ∙ s))) (λ z. omega arith)
 
           pub read-0 : c ≡ false → length p′ ≡ length p → {heads′ nexts′ : List ℕ} → Indexed (h .m) (h .n) es′ heads′ nexts′
-              → KmersRead bs record { number = 0; held = h } es′ vs′ p′ heads′ nexts′ order′
-          read-0 s l I =
+              → KmersRead bs (Graph h) es′ vs′ p′ heads′ nexts′ order′
+          read-0 s l {heads′} {nexts′} I =
               let apart = or-false (doubledEdge (edgesIn (h .m) es′)) (equalKmers (seqsIn (h .n) vs′ p′)) (sym (D .is) ∙ t) in
+              let held : HoldsKmers bs h es′ vs′ p′ heads′ nexts′ order′ = record {
+                is = L .is;
+                n-is = L .n;
+                m-is = L .m;
+                good = read-good bs formed none-doubled (cycle-is ∙ s);
+                single = apart .0;
+                distinct = apart .1;
+                k-least = omega (arith, L .k, formed .k-least);
+                k-most = omega (arith, L .k, formed .k-most);
+                vertices = n-small;
+                edges = m-small;
+                sizes = size-held l;
+                within = L .within;
+                used-most = used-small;
+                used-room = omega (arith, L .used, l, R .p-room);
+                ends = L .ends;
+                indexed = I;
+                ordered = D .ordered t;
+              } in
               record {
-                number = sym (accepted kmerOnly bs layout none-doubled (cycle-is ∙ s));
-                holds = λ _. record {
-                  is = L .is;
-                  n-is = L .n;
-                  m-is = L .m;
-                  good = read-good bs formed none-doubled (cycle-is ∙ s);
-                  single = apart .0;
-                  distinct = apart .1;
-                  k-least = omega (arith, L .k, formed .k-least);
-                  k-most = omega (arith, L .k, formed .k-most);
-                  vertices = n-small;
-                  edges = m-small;
-                  sizes = size-held l;
-                  within = L .within;
-                  used-most = used-small;
-                  used-room = omega (arith, L .used, l, R .p-room);
-                  ends = L .ends;
-                  indexed = I;
-                  ordered = D .ordered t;
-                };
+                number = number-graph refl ∙ sym (accepted kmerOnly bs layout none-doubled (cycle-is ∙ s));
+                holds = λ g e. subst (λ (x : Held). HoldsKmers bs x es′ vs′ p′ heads′ nexts′ order′) (same-held e) held;
+                refused = λ n e. not-both refl e;
               }
 
--- the kinds that the call names are those of the definition
-pub layout-is : (bs : List ℕ) {i : ℕ} → i ≡ refusalOf (take 5 (recordCauses (takesOf KmerOnly) bs)) → i ≡ refusalOf (take 5 (recordCauses kmerOnly bs))
-unfolding takesOf
-layout-is bs e = e
+-- the layout that was checked
+module _ (bs : List ℕ) {r : Layout} (e : r ≡ layoutOf (refusalOf (take 5 (recordCauses (takesOf KmerOnly) bs))) (kOf bs)) where
+  pub layout-none : {k : KmerSize} → r ≡ Formed k → refusalOf (take 5 (recordCauses kmerOnly bs)) ≡ 0
+  unfolding takesOf
+  layout-none f = formed-none kmerOnly bs e f
 
-pub layout-zero : (bs : List ℕ) {i : ℕ} → i ≡ refusalOf (take 5 (recordCauses (takesOf KmerOnly) bs)) → i ≡ 0
-    → refusalOf (take 5 (recordCauses kmerOnly bs)) ≡ 0
-layout-zero bs e z = sym (layout-is bs e) ∙ z
+  pub layout-size : {k : KmerSize} → r ≡ Formed k → k .0 ≡ kOf bs
+  layout-size f = formed-size (takesOf KmerOnly) bs e f

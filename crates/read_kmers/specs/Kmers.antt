@@ -12,7 +12,9 @@ use Rattle.store.specs.Store.{edgesIn, seqsIn, EndsBelow, Within}
 use Rattle.index.specs.Index.{Indexed}
 use Rattle.memory.specs.Memory.{graphOf}
 use Rattle.memory.specs.declared.Held.{Held}
+use Rattle.accept.specs.Accept.{readNumber}
 use Rattle.accept.specs.declared.Read.{Read}
+use Rattle.accept.specs.declared.Read.the-variants.{Graph, Refused}
 use Rattle.kmer_order.specs.Order.{KmerOrder}
 
 -- room for the record's vertices, edges and bytes
@@ -55,7 +57,8 @@ pub record HoldsKmers (bs : List ℕ) (h : Held) (es vs p heads nexts order : Li
   pub indexed : Indexed (h .m) (h .n) es heads nexts
   pub ordered : KmerOrder (h .n) vs p order
 
--- the number, and with number 0 the record's graph, held
+-- the number is the definition's; a graph that was read is the record's, and held; a refusal has a number
 pub record KmersRead (bs : List ℕ) (r : Read) (es vs p heads nexts order : List ℕ) : Type 0 where
-  pub number : r .number ≡ recordRefusal kmerOnly bs
-  pub holds : r .number ≡ 0 → HoldsKmers bs (r .held) es vs p heads nexts order
+  pub number : readNumber r ≡ recordRefusal kmerOnly bs
+  pub holds : (h : Held) → r ≡ Graph h → HoldsKmers bs h es vs p heads nexts order
+  pub refused : (n : ℕ) → r ≡ Refused n → n ≡ 0 → ⊥

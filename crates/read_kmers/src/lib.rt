@@ -6,6 +6,7 @@ ghost use Rattle.sort.specs.Sort.{Sortable};
 ghost use Rattle.kmer_order.specs.Order.{Sequence};
 ghost use Rattle.read_kmers.specs.Kmers.{Roomy, Doubles, KmersRead};
 use accept::Read;
+use record::Layout;
 use record::Takes;
 
 // Whether two edges have the same ends, or two vertices the same k-mer: the cause of 6.
@@ -46,22 +47,19 @@ pub fn read_kmer_graph(
     ensures { λ r. ⌜ KmersRead (now (rec .entry)) r (now (es .exit)) (now (vs .exit)) (now (p .exit)) (now (heads .exit))
         (now (nexts .exit)) (now (order .exit)) ⌝ }
 {
-    let number = record::layout_refusal(rec, Takes::KmerOnly);
-    if number != 0 {
-        return accept::refuse(number);
-    }
-    let held = load::load_graph(rec, es, vs, p);
+    let k = match record::check_layout(rec, Takes::KmerOnly) {
+        Layout::Formed(k) => k,
+        Layout::Refused(number) => return Read::Refused(number),
+    };
+    let held = load::load_graph(rec, k, es, vs, p);
     let n = held.n;
     let m = held.m;
     index::build_index(es, m, n, heads, nexts);
     if is_doubled(es, m, n, vs, p, heads, nexts, order, scratch) {
-        return accept::refuse(6);
+        return Read::Refused(6);
     }
     if cycle::has_cycle(es, m, n, heads, nexts, scratch, place) {
-        return accept::refuse(7);
+        return Read::Refused(7);
     }
-    Read {
-        number: 0,
-        held: held,
-    }
+    Read::Graph(held)
 }

@@ -1,7 +1,7 @@
 -- What is known of a record that none of the refusals 1 to 5 meets.
 -- Assumes nothing.
-use Prim.Native.Nat.{ℕ, _≤_}
-use mathlib.Core.Path.{_≡_, refl, sym, _∙_}
+use Prim.Native.Nat.{ℕ, zero, suc, _≤_}
+use mathlib.Core.Path.{_≡_, refl, sym, ap, _∙_}
 use mathlib.Core.Bool.{Bool, true, false, not, _&&_}
 use mathlib.Core.List.{List, [], _∷_}
 use native.Mathlib.Omega.{arith}
@@ -12,7 +12,10 @@ use Rattle.defs.specs.Lists.{sameList}
 use Rattle.defs.specs.Record.{mark, kindOf, statusOf, kOf, verticesOf, edgesOf, bytesOf, u32At, edgeAt, flagAt}
 use Rattle.defs.specs.Refusals.{Takes, kmerOnly, sequenceOnly, bothKinds, refusalOf, recordCauses, takesKind, otherLength, wrongMark, pastLimit, badEdge}
 use Rattle.laws.proofs.ListLaws.{clash}
-use Rattle.record.specs.Layout.{otherKmerLength, GoodEdge, WellFormed}
+use Rattle.kmer.specs.declared.KmerSize.{KmerSize}
+use Rattle.record.specs.Layout.{otherKmerLength, GoodEdge, WellFormed, layoutOf}
+use Rattle.record.specs.declared.Layout.{Layout}
+use Rattle.record.specs.declared.Layout.the-variants.{Formed, Refused}
 use Rattle.record.proofs.TurnLaws.{any-false}
 use Rattle.record.proofs.Tests.{same-cons, or-false, no-cause, any-bad-is, offsets-agree, lengths-offset, edges-offset, bytes-offset}
 use Rattle.record.proofs.Tests.{whole-is, sum-is, kmers-are}
@@ -117,3 +120,41 @@ well-formed t bs h =
       kmers = λ z i below. eqb-true _ _ (not-false _ (any-false (otherKmerLength bs) (verticesOf bs) (kmers-are bs (n .3) z) i below));
       good = λ i below. good-edge bs i (any-false (badEdge bs) (edgesOf bs) (sym (any-bad-is bs) ∙ n .4) i below);
     }
+
+-- what each answer of the check says
+size-in : Layout → ℕ
+size-in (Formed k) = k .0
+size-in (Refused n) = 0
+
+number-in : Layout → ℕ
+number-in (Formed k) = 0
+number-in (Refused n) = n
+
+formed-zero : (n k : ℕ) {s : KmerSize} → layoutOf n k ≡ Formed s → n ≡ 0
+unfolding layoutOf
+formed-zero zero k e = refl
+formed-zero (suc n) k e = let z : _≡_ {A = ℕ} 0 1 = cc in absurd (omega arith)
+
+formed-k : (n k : ℕ) {s : KmerSize} → layoutOf n k ≡ Formed s → s .0 ≡ k
+unfolding layoutOf size-in
+formed-k zero k e = sym (ap size-in e)
+formed-k (suc n) k e = let z : _≡_ {A = ℕ} 0 1 = cc in absurd (omega arith)
+
+refused-n : (n k : ℕ) {m : ℕ} → layoutOf n k ≡ Refused m → (m ≡ n) × (m ≡ 0 → ⊥)
+unfolding layoutOf number-in
+refused-n zero k e = let z : _≡_ {A = ℕ} 0 1 = cc in absurd (omega arith)
+refused-n (suc n) k {m} e = let q : m ≡ suc n = sym (ap number-in e) in (q, λ z. omega arith)
+
+module _ (t : Takes) (bs : List ℕ) {r : Layout} (e : r ≡ layoutOf (refusalOf (take 5 (recordCauses t bs))) (kOf bs)) where
+  -- a well formed record has none of the causes, and its k is the size that was made
+  pub formed-none : {k : KmerSize} → r ≡ Formed k → refusalOf (take 5 (recordCauses t bs)) ≡ 0
+  formed-none f = formed-zero _ (kOf bs) (sym e ∙ f)
+
+  pub formed-size : {k : KmerSize} → r ≡ Formed k → k .0 ≡ kOf bs
+  formed-size f = formed-k (refusalOf (take 5 (recordCauses t bs))) _ (sym e ∙ f)
+
+  pub refused-number : {n : ℕ} → r ≡ Refused n → n ≡ refusalOf (take 5 (recordCauses t bs))
+  refused-number f = refused-n _ (kOf bs) (sym e ∙ f) .0
+
+  pub refused-some : {n : ℕ} → r ≡ Refused n → n ≡ 0 → ⊥
+  refused-some f = refused-n (refusalOf (take 5 (recordCauses t bs))) (kOf bs) (sym e ∙ f) .1

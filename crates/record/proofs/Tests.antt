@@ -15,10 +15,12 @@ use Rattle.defs.specs.Refusals.{Cause, Takes, refusalOf, recordCauses, takesKin
 use Rattle.laws.proofs.ListLaws.{clash}
 use Rattle.tabs.proofs.Tabs.{take-tab}
 use Rattle.kmer.specs.Size.{kPastLimit}
+use Rattle.kmer.specs.declared.KmerSize.{KmerSize}
 use Rattle.record.specs.declared.Takes as declared
 use Rattle.record.specs.declared.Takes.the-variants.{KmerOnly, SequenceOnly, BothKinds}
 use Rattle.record.specs.Kinds.{takesOf}
-use Rattle.record.specs.Layout.{otherKmerLength, offsetsDisagree}
+use Rattle.record.specs.Layout.{countPastLimit, otherKmerLength, offsetsDisagree, layoutOf}
+use Rattle.record.specs.declared.Layout.the-variants.{Formed, Refused}
 use Rattle.record.proofs.Fields.{edgesAt-is, bytesAt-is, wholeLength-is}
 
 both : (t a : Bool) → elim t [ true ↦ a | false ↦ false ] ≡ (t && a)
@@ -101,26 +103,32 @@ module _ (t : Takes) (bs : List ℕ) where
 
 -- 3
 module _ (bs : List ℕ) where
-  pub limit-is : pastLimit bs ≡ (kPastLimit (kOf bs) || (ltb 2048 (verticesOf bs) || (ltb 4096 (edgesOf bs) || (eqb (kindOf bs) 1 && ltb 8192 (bytesOf bs)))))
-  unfolding pastLimit kPastLimit
+  limit-is : pastLimit bs ≡ (kPastLimit (kOf bs) || countPastLimit bs)
+  unfolding pastLimit kPastLimit countPastLimit
   limit-is = or-assoc (ltb (kOf bs) 2) (ltb 128 (kOf bs)) _
 
-  pub k-past : kPastLimit (kOf bs) ≡ true → true ≡ pastLimit bs
+  pub k-past : kPastLimit (kOf bs) ≡ true → pastLimit bs ≡ true
   k-past k = simp (limit-is, k)
 
-  module _ (k : kPastLimit (kOf bs) ≡ false) where
-    pub vertices-past : 2048 < verticesOf bs → true ≡ pastLimit bs
-    vertices-past v = simp (limit-is, k, lt-ltb 2048 (verticesOf bs) v)
+  pub count-past : {c : Bool} → kPastLimit (kOf bs) ≡ false → countPastLimit bs ≡ c → pastLimit bs ≡ c
+  count-past k e = simp (limit-is, k, e)
 
-    module _ (v : verticesOf bs ≤ 2048) where
-      pub edges-past : 4096 < edgesOf bs → true ≡ pastLimit bs
-      edges-past e = simp (limit-is, k, le-ltb 2048 (verticesOf bs) v, lt-ltb 4096 (edgesOf bs) e)
+  pub vertices-past : 2048 < verticesOf bs → true ≡ countPastLimit bs
+  unfolding countPastLimit
+  vertices-past v = simp (lt-ltb 2048 (verticesOf bs) v)
 
-      pub bytes-past : edgesOf bs ≤ 4096 → kindOf bs ≡ 1 → ltb 8192 (bytesOf bs) ≡ pastLimit bs
-      bytes-past e o = simp (limit-is, k, le-ltb 2048 (verticesOf bs) v, le-ltb 4096 (edgesOf bs) e, eq-eqb (kindOf bs) 1 o)
+  module _ (v : verticesOf bs ≤ 2048) where
+    pub edges-past : 4096 < edgesOf bs → true ≡ countPastLimit bs
+    unfolding countPastLimit
+    edges-past e = simp (le-ltb 2048 (verticesOf bs) v, lt-ltb 4096 (edgesOf bs) e)
 
-      pub kmers-within : edgesOf bs ≤ 4096 → (kindOf bs ≡ 1 → ⊥) → false ≡ pastLimit bs
-      kmers-within e o = simp (limit-is, k, le-ltb 2048 (verticesOf bs) v, le-ltb 4096 (edgesOf bs) e, ne-eqb (kindOf bs) 1 o)
+    pub bytes-past : edgesOf bs ≤ 4096 → kindOf bs ≡ 1 → ltb 8192 (bytesOf bs) ≡ countPastLimit bs
+    unfolding countPastLimit
+    bytes-past e o = simp (le-ltb 2048 (verticesOf bs) v, le-ltb 4096 (edgesOf bs) e, eq-eqb (kindOf bs) 1 o)
+
+    pub kmers-within : edgesOf bs ≤ 4096 → (kindOf bs ≡ 1 → ⊥) → false ≡ countPastLimit bs
+    unfolding countPastLimit
+    kmers-within e o = simp (le-ltb 2048 (verticesOf bs) v, le-ltb 4096 (edgesOf bs) e, ne-eqb (kindOf bs) 1 o)
 
 -- 4
 or-four : (a b c d e : Bool) → (a || (b || (c || (d || e)))) ≡ ((a || (b || (c || d))) || e)
@@ -292,27 +300,37 @@ module _ (t : Takes) (bs : List ℕ) where
   unfolding recordCauses
   first-five = simp (refusal-cons, refusal-nil)
 
-  pub refusal-1 : otherLength bs ≡ true → 1 ≡ refusalOf (take 5 (recordCauses t bs))
-  refusal-1 a = simp (first-five, a)
+  -- what the check gives for the number m
+  layout-as : (m : ℕ) → m ≡ refusalOf (take 5 (recordCauses t bs)) → layoutOf m (kOf bs) ≡ layoutOf (refusalOf (take 5 (recordCauses t bs))) (kOf bs)
+  layout-as m e = ap (λ (n : ℕ). layoutOf n (kOf bs)) e
+
+  pub refusal-1 : otherLength bs ≡ true → Refused 1 ≡ layoutOf (refusalOf (take 5 (recordCauses t bs))) (kOf bs)
+  unfolding layoutOf
+  refusal-1 a = layout-as 1 (simp (first-five, a))
 
   module _ (a : otherLength bs ≡ false) where
-    pub refusal-2 : wrongMark t bs ≡ true → 2 ≡ refusalOf (take 5 (recordCauses t bs))
-    refusal-2 b = simp (first-five, a, b)
+    pub refusal-2 : wrongMark t bs ≡ true → Refused 2 ≡ layoutOf (refusalOf (take 5 (recordCauses t bs))) (kOf bs)
+    unfolding layoutOf
+    refusal-2 b = layout-as 2 (simp (first-five, a, b))
 
     module _ (b : wrongMark t bs ≡ false) where
-      pub refusal-3 : pastLimit bs ≡ true → 3 ≡ refusalOf (take 5 (recordCauses t bs))
-      refusal-3 c = simp (first-five, a, b, c)
+      pub refusal-3 : pastLimit bs ≡ true → Refused 3 ≡ layoutOf (refusalOf (take 5 (recordCauses t bs))) (kOf bs)
+      unfolding layoutOf
+      refusal-3 c = layout-as 3 (simp (first-five, a, b, c))
 
       module _ (c : pastLimit bs ≡ false) where
-        pub refusal-4 : layoutDisagrees bs ≡ true → 4 ≡ refusalOf (take 5 (recordCauses t bs))
-        refusal-4 d = simp (first-five, a, b, c, d)
+        pub refusal-4 : layoutDisagrees bs ≡ true → Refused 4 ≡ layoutOf (refusalOf (take 5 (recordCauses t bs))) (kOf bs)
+        unfolding layoutOf
+        refusal-4 d = layout-as 4 (simp (first-five, a, b, c, d))
 
         module _ (d : layoutDisagrees bs ≡ false) where
-          pub refusal-5 : anyBadEdge bs ≡ true → 5 ≡ refusalOf (take 5 (recordCauses t bs))
-          refusal-5 e = simp (first-five, a, b, c, d, e)
+          pub refusal-5 : anyBadEdge bs ≡ true → Refused 5 ≡ layoutOf (refusalOf (take 5 (recordCauses t bs))) (kOf bs)
+          unfolding layoutOf
+          refusal-5 e = layout-as 5 (simp (first-five, a, b, c, d, e))
 
-          pub accepted : anyBadEdge bs ≡ false → 0 ≡ refusalOf (take 5 (recordCauses t bs))
-          accepted e = simp (first-five, a, b, c, d, e)
+          pub accepted : {k : KmerSize} → k .0 ≡ kOf bs → anyBadEdge bs ≡ false → Formed k ≡ layoutOf (refusalOf (take 5 (recordCauses t bs))) (kOf bs)
+          unfolding layoutOf
+          accepted q e = (λ i. Formed record { 0 = q i }) ∙ layout-as 0 (simp (first-five, a, b, c, d, e))
 
   not-there : (b : Bool) (m n : ℕ) → 0 < m → cond b m n ≡ 0 → (b ≡ false) × (n ≡ 0)
   not-there true m n h e = absurd (omega arith)

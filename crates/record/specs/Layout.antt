@@ -1,14 +1,25 @@
--- What is known of a record that none of the refusals 1 to 5 meets.
+-- The check of a record's layout, and what is known of a record that none of the refusals 1 to 5 meets.
 -- Assumes nothing.
-use Prim.Native.Nat.{ℕ, _<_, _≤_}
+use Prim.Native.Nat.{ℕ, zero, suc, _<_, _≤_}
 use mathlib.Core.Path.{_≡_}
-use mathlib.Core.Bool.{Bool, not, _||_}
+use mathlib.Core.Bool.{Bool, not, _&&_, _||_}
 use mathlib.Core.List.{List}
-use lib.Dec.{eqb}
+use lib.Dec.{eqb, ltb}
 use lib.ListN.{length, take}
 use Rattle.defs.specs.Lists.{tab, sum}
 use Rattle.defs.specs.Record.{mark, kindOf, statusOf, kOf, verticesOf, edgesOf, bytesOf, u32At, lengthsAt, edgesAt, bytesAt, wholeLength}
 use Rattle.defs.specs.Record.{lengthAt, edgeAt, flagAt}
+use Rattle.record.specs.declared.Layout.{Layout}
+use Rattle.record.specs.declared.Layout.the-variants.{Formed, Refused}
+
+-- what the check gives, by the number of the refusal: with 0 the k-mer size k
+unfoldable pub layoutOf : ℕ → ℕ → Layout
+layoutOf zero k = Formed record { 0 = k }
+layoutOf (suc n) k = Refused (suc n)
+
+-- the tests of cause 3 that k does not enter
+unfoldable pub countPastLimit : List ℕ → Bool
+countPastLimit bs = ltb 2048 (verticesOf bs) || (ltb 4096 (edgesOf bs) || (eqb (kindOf bs) 1 && ltb 8192 (bytesOf bs)))
 
 -- the test of cause 4 that each vertex of a k-mer graph has k bytes, at one vertex
 abbrev pub otherKmerLength : List ℕ → ℕ → Bool
@@ -27,6 +38,7 @@ pub record GoodEdge (bs : List ℕ) (i : ℕ) : Type 0 where
   pub to : (edgeAt bs i) .to < verticesOf bs
   pub flag : flagAt bs i ≤ 1
 
+-- none of the causes 1 to 5 is there
 pub record WellFormed (bs : List ℕ) : Type 0 where
   pub marked : take 4 bs ≡ mark
   pub kind : kindOf bs ≤ 1

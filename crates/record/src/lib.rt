@@ -4,10 +4,10 @@ ghost use Prim.Native.Nat.{_+_, _*_, _<_, _≤_};
 ghost use lib.ListN.{length, take};
 ghost use Rattle.defs.specs.Lists.{anyOf, upFrom, tab, sum, sameList};
 ghost use Rattle.defs.specs.Record.{mark, kOf, verticesOf, edgesOf, bytesOf, bytesAt, lengthAt, edgeStart, edgeAt, flagAt};
-ghost use Rattle.defs.specs.Refusals.{refusalOf, recordCauses, takesKind, otherLength, wrongMark, pastLimit, layoutDisagrees, badEdge, anyBadEdge};
+ghost use Rattle.defs.specs.Refusals.{refusalOf, recordCauses, takesKind, otherLength, wrongMark, layoutDisagrees, badEdge, anyBadEdge};
 ghost use Rattle.kmer.specs.Size.{sizeOf};
 ghost use Rattle.record.specs.Kinds.{takesOf};
-ghost use Rattle.record.specs.Layout.{WellFormed, otherKmerLength, offsetsDisagree};
+ghost use Rattle.record.specs.Layout.{countPastLimit, otherKmerLength, offsetsDisagree, layoutOf};
 use kmer::KmerSize;
 use kmer::MadeSize;
 
@@ -18,7 +18,13 @@ pub enum Takes {
     BothKinds,
 }
 
-pub fn kmer_size_of(rec: &[u8]) -> MadeSize
+// What the check of a record's layout gives: the k-mer size, which the check has made, or the number of the refusal, 1 to 5.
+pub enum Layout {
+    Formed(KmerSize),
+    Refused(u32),
+}
+
+fn kmer_size_of(rec: &[u8]) -> MadeSize
     requires { ⌜ 32 ≤ length (now rec) ⌝ }
     ensures { λ r. ⌜ r ≡ sizeOf (kOf (now (rec .entry))) ⌝ }
 {
@@ -153,26 +159,11 @@ fn wrong_mark(rec: &[u8], takes: Takes) -> bool
     false
 }
 
-// The size of a well formed record, which has passed the check.
-pub fn kmer_size(rec: &[u8]) -> KmerSize
-    requires { ⌜ WellFormed (now rec) ⌝ }
-    ensures { λ r. ⌜ r .0 ≡ kOf (now (rec .entry)) ⌝ }
-{
-    match kmer_size_of(rec) {
-        MadeSize::Size(k) => k,
-        MadeSize::Refused => kmer::least(),
-    }
-}
-
-// 3: a count or k past a limit.
-fn past_limit(rec: &[u8]) -> bool
+// 3: a count past a limit. That of k is `kmer_size_of`.
+fn count_past_limit(rec: &[u8]) -> bool
     requires { ⌜ 32 ≤ length (now rec) ⌝ }
-    ensures { λ r. ⌜ r ≡ pastLimit (now (rec .entry)) ⌝ }
+    ensures { λ r. ⌜ r ≡ countPastLimit (now (rec .entry)) ⌝ }
 {
-    let k = kmer_size_of(rec);
-    if let MadeSize::Refused = k {
-        return true;
-    }
     if 2048 < vertex_count(rec) {
         return true;
     }
@@ -200,16 +191,16 @@ fn total_length(rec: &[u8], v: usize) -> usize
 }
 
 // Whether one of the first v lengths is not k.
-fn other_kmer_length(rec: &[u8], v: usize) -> bool
-    requires { ⌜ 32 + 2 * v ≤ length (now rec) ⌝ }
+fn other_kmer_length(rec: &[u8], k: KmerSize, v: usize) -> bool
+    requires { ⌜ (k .0 ≡ kOf (now rec)) × (32 + 2 * v ≤ length (now rec)) ⌝ }
     ensures { λ r. ⌜ r ≡ anyOf (otherKmerLength (now (rec .entry))) (upFrom 0 v) ⌝ }
 {
-    let k = le::u16_at(rec, 6) as usize;
+    let size = kmer::value(k) as usize;
     let mut i = 0;
     while i < v {
         let j = i;
         i += 1;
-        if length_at(rec, j) != k {
+        if length_at(rec, j) != size {
             return true;
         }
     }
@@ -236,8 +227,8 @@ fn offsets_disagree(rec: &[u8]) -> bool
 }
 
 // 4: offsets, whole length, lengths or byte count disagree. The lengths are read once they are known to lie in the record.
-fn layout_disagrees(rec: &[u8]) -> bool
-    requires { ⌜ 32 ≤ length (now rec) ⌝ }
+fn layout_disagrees(rec: &[u8], k: KmerSize) -> bool
+    requires { ⌜ (k .0 ≡ kOf (now rec)) × (32 ≤ length (now rec)) ⌝ }
     ensures { λ r. ⌜ r ≡ layoutDisagrees (now (rec .entry)) ⌝ }
 {
     if offsets_disagree(rec) {
@@ -248,7 +239,7 @@ fn layout_disagrees(rec: &[u8]) -> bool
         return true;
     }
     if rec[4] == 0 {
-        return other_kmer_length(rec, v);
+        return other_kmer_length(rec, k, v);
     }
     false
 }
@@ -284,24 +275,27 @@ fn any_bad_edge(rec: &[u8]) -> bool
     false
 }
 
-// The first of the refusals 1 to 5 whose cause the record has, 0 where there is none.
-pub fn layout_refusal(rec: &[u8], takes: Takes) -> u32
-    ensures { λ r. ⌜ r ≡ refusalOf (take 5 (recordCauses (takesOf takes) (now (rec .entry)))) ⌝ }
+// The first of the refusals 1 to 5 whose cause the record has; where there is none, its k-mer size.
+pub fn check_layout(rec: &[u8], takes: Takes) -> Layout
+    ensures { λ r. ⌜ r ≡ layoutOf (refusalOf (take 5 (recordCauses (takesOf takes) (now (rec .entry))))) (kOf (now (rec .entry))) ⌝ }
 {
     if other_length(rec) {
-        return 1;
+        return Layout::Refused(1);
     }
     if wrong_mark(rec, takes) {
-        return 2;
+        return Layout::Refused(2);
     }
-    if past_limit(rec) {
-        return 3;
+    let MadeSize::Size(k) = kmer_size_of(rec) else {
+        return Layout::Refused(3);
+    };
+    if count_past_limit(rec) {
+        return Layout::Refused(3);
     }
-    if layout_disagrees(rec) {
-        return 4;
+    if layout_disagrees(rec, k) {
+        return Layout::Refused(4);
     }
     if any_bad_edge(rec) {
-        return 5;
+        return Layout::Refused(5);
     }
-    0
+    Layout::Formed(k)
 }

@@ -14,7 +14,7 @@ use Rattle.defs.specs.Refusals.{Takes, kmerOnly, sequenceOnly, bothKinds, takes
 use Rattle.record.proofs.Fields.{wholeLength-is, bytesAt-is}
 use Rattle.codec.specs.Encodable.{Encodable}
 use Rattle.codec.proofs.RoundTrip.{decode-encode, answer-encodable, within-encodable}
-use Rattle.reread.specs.Reread.{countPastLimit, RereadAs, ReacceptedAs}
+use Rattle.reread.specs.Reread.{pastInputCount, RereadAs, ReacceptedAs}
 use Rattle.reread.specs.Recordable.{graphPastLimit, Recordable, SequenceInput, KmerInput, SequenceAnswer}
 use Rattle.reread.proofs.Fields.{length-written}
 use Rattle.reread.proofs.Written.{written-refusal}
@@ -58,8 +58,8 @@ module _ (g : Graph) (A : SequenceAnswer g) where
   }
 
   -- k and the bytes are within the limits of input
-  answer-limit : graphPastLimit sequenceGraph g ≡ countPastLimit g
-  unfolding graphPastLimit countPastLimit recordKindNumber
+  answer-limit : graphPastLimit sequenceGraph g ≡ pastInputCount g
+  unfolding graphPastLimit pastInputCount recordKindNumber
   answer-limit =
       let v = ltb 2048 (nodeCount g) in
       let e = ltb 4096 (length (g .edges)) in
@@ -69,7 +69,7 @@ module _ (g : Graph) (A : SequenceAnswer g) where
       (λ i. small i || (large i || (v || (e || long i)))) ∙ or-none v e
 
   answer-refusal : (status : ℕ) → status ≤ 2 → (t : Takes) → takesKind t (recordKindNumber sequenceGraph) ≡ true
-      → recordRefusal t (encode sequenceGraph status g) ≡ cond (countPastLimit g) 3 0
+      → recordRefusal t (encode sequenceGraph status g) ≡ cond (pastInputCount g) 3 0
   answer-refusal status s t k =
       written-refusal sequenceGraph status g (answer-recordable status s) t k ∙ ap (λ (b : Bool). cond b 3 0) answer-limit
 
@@ -97,8 +97,8 @@ module _ (g : Graph) (I : SequenceInput g) where
     supports = I .supports;
   }
 
-  none-past : _≡_ {A = ℕ} (cond (countPastLimit g) 3 0) 0
-  unfolding countPastLimit
+  none-past : _≡_ {A = ℕ} (cond (pastInputCount g) 3 0) 0
+  unfolding pastInputCount
   none-past = λ i. cond (le-ltb 2048 (nodeCount g) (I .vertices) i || le-ltb 4096 (length (g .edges)) (I .edges) i) 3 0
 
   pub input-reaccepted : (status : ℕ) → status ≤ 2 → ReacceptedAs g (encode sequenceGraph status g)

@@ -11,8 +11,8 @@ use Rattle.defs.specs.Record.{decode}
 use Rattle.defs.specs.Refusals.{sequenceOnly, bothKinds, recordRefusal}
 
 -- more vertices or edges than a record handed in may have
-unfoldable pub countPastLimit : Graph → Bool
-countPastLimit g = ltb 2048 (nodeCount g) || ltb 4096 (length (g .edges))
+unfoldable pub pastInputCount : Graph → Bool
+pastInputCount g = ltb 2048 (nodeCount g) || ltb 4096 (length (g .edges))
 
 -- The record r is read as the graph g, which keeps the limits of answers. Where g has more vertices or edges than input may have, every call that
 -- takes sequence graphs refuses r with 3; else they all accept it. It is at most 32 + 2 · 10,240 + 9 · 16,384 + 8,192 bytes long.
@@ -22,8 +22,8 @@ pub record RereadAs (g : Graph) (r : List ℕ) : Type 0 where
   pub edges : length (g .edges) ≤ 16384
   pub bytes : sequenceBytes (g .verts) ≤ 8192
   pub size : length r ≤ 176160
-  pub refusal : recordRefusal sequenceOnly r ≡ cond (countPastLimit g) 3 0
-  pub refusal-both : recordRefusal bothKinds r ≡ cond (countPastLimit g) 3 0
+  pub refusal : recordRefusal sequenceOnly r ≡ cond (pastInputCount g) 3 0
+  pub refusal-both : recordRefusal bothKinds r ≡ cond (pastInputCount g) 3 0
 
 -- The record r is read as the graph g, which keeps the limits of input: every call that takes sequence graphs accepts r. It is at most
 -- 32 + 2 · 2,048 + 9 · 4,096 + 8,192 bytes long.

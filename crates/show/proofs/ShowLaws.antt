@@ -1,19 +1,16 @@
 -- What is put is the text of the input. Assumes nothing.
 use mathlib.Core.Path.{_≡_, refl, sym, ap, _∙_}
 use mathlib.Core.List.{List, _++_}
-use Prim.Native.Nat.{ℕ, zero, suc, _+_, _*_, _≤_, _<_}
+use Prim.Native.Nat.{ℕ, _+_, _*_, _≤_, _<_}
 use native.Mathlib.Omega.{arith}
-use native.Mathlib.Decide.{ℕ-discrete}
-use lib.Dec.{ltb}
 use lib.ListN.{length, drop, length-append}
 use lib.Seq.{sets-eq}
-use borrow.Author.Tests.{ltb-true, ltb-false, lt-ltb, le-ltb}
-use Rattle.laws.proofs.Walks.{byTest}
+use borrow.Author.Tests.{lt-ltb, le-ltb}
 use Rattle.defs.specs.Simplify as S
 use Rattle.defs.specs.Simplify.{simplifyGraphFull, minTailSuffixLen}
 use Rattle.defs.specs.Record.{sequenceGraph, encode, decode}
-use Rattle.defs.specs.Refusals.{Cause, refusalOf, sequenceOnly, recordRefusal}
-use Rattle.defs.specs.Calls.{Response, refused, accepted, fits, respondTo, respond}
+use Rattle.defs.specs.Refusals.{refusalOf, sequenceOnly, recordRefusal}
+use Rattle.defs.specs.Calls.{Response, refused, accepted, fits}
 use Rattle.store.specs.Store.{Within}
 use Rattle.pool.specs.Pool.{bytesIn}
 use Rattle.memory.specs.Memory.{graphOf, Holds}
@@ -28,6 +25,8 @@ use Rattle.write_record.proofs.WriteLaws.{encode-length}
 use Rattle.arrays.specs.Sized.{Lent}
 use Rattle.simplify_graph.specs.MadeOf.{MadeOf}
 use Rattle.simplify_graph.specs.declared.Made.{Made}
+use Rattle.simplify_graph.specs.declared.Made.the-variants.{Graph, Refused}
+use Rattle.simplify_graph.proofs.MadeLaws.{number-graph, number-refused}
 use Rattle.text.specs.Printed.{printedGraph, printedRefusal, printedAnswer, inputCauses, shown}
 use Rattle.text.specs.Put.{Put}
 use Rattle.text.proofs.TextLaws.{put-as, put-most}
@@ -37,30 +36,15 @@ use Rattle.show.specs.Show.{Bounded, answerText, Printing, Shown}
 
 -- ---- the number
 
-pub causes-long : (bs : List ℕ) → 65536 < length bs → 1 ≡ refusalOf (inputCauses bs)
+causes-long : (bs : List ℕ) → 65536 < length bs → 1 ≡ refusalOf (inputCauses bs)
 unfolding inputCauses refusalOf
 causes-long bs h = rw (lt-ltb 65536 (length bs) h, refusalOf)
 
-pub causes-record : (bs : List ℕ) → length bs ≤ 65536 → recordRefusal sequenceOnly bs ≡ refusalOf (inputCauses bs)
+causes-record : (bs : List ℕ) → length bs ≤ 65536 → recordRefusal sequenceOnly bs ≡ refusalOf (inputCauses bs)
 unfolding inputCauses refusalOf recordRefusal
 causes-record bs h = rw (le-ltb 65536 (length bs) h, refusalOf)
 
-causes-none : (bs : List ℕ) → refusalOf (inputCauses bs) ≡ 0 → recordRefusal sequenceOnly bs ≡ 0
-causes-none bs q = byTest (ltb 65536 (length bs))
-    (λ t. absurd (omega (arith, q, causes-long bs (ltb-true 65536 (length bs) t))))
-    (λ t. causes-record bs (ltb-false 65536 (length bs) t) ∙ q)
-
 -- ---- the answer's text
-
-number-text : (n : ℕ) (result : List ℕ) (z : S.Simplified) → (n ≡ 0 → ⊥) → printedAnswer (respondTo n 65536 result) z ≡ printedRefusal n
-unfolding printedAnswer respondTo
-number-text zero result z ne = absurd (ne refl)
-number-text (suc n) result z ne = refl
-
-zero-text : {n : ℕ} (result : List ℕ) (z : S.Simplified) {a : Response} → n ≡ 0 → fits 65536 result ≡ a
-    → printedAnswer (respondTo n 65536 result) z ≡ printedAnswer a z
-unfolding respondTo
-zero-text result z q e = ap (λ (n : ℕ). printedAnswer (respondTo n 65536 result) z) q ∙ ap (λ (a : Response). printedAnswer a z) e
 
 refused-text : (n : ℕ) (z : S.Simplified) → printedAnswer (refused n) z ≡ printedRefusal n
 unfolding printedAnswer
@@ -70,26 +54,33 @@ accepted-text : (result : List ℕ) (z : S.Simplified) → printedAnswer (accept
 unfolding printedAnswer
 accepted-text result z = refl
 
-module _ {number : ℕ} {s : Simplified} {es vs p text : List ℕ} (P : Printing number s es vs p text) where
-  pub answer-refused : {text′ : List ℕ} {r : ℕ} → (number ≡ 0 → ⊥) → Put 19 (printedRefusal number) text 0 r text′
-      → Put 340000 (answerText number s es vs p) text 0 r text′
-  answer-refused ne W = put-as (sym (number-text number (encode sequenceGraph 0 (graphOf (s .held) es vs p)) _ ne)) (put-most (omega arith) W)
+module _ {made : Made} {es vs p text : List ℕ} (P : Printing made es vs p text) where
+  pub answer-refused : {n : ℕ} → made ≡ Refused n → {text′ : List ℕ} {r : ℕ} → Put 19 (printedRefusal n) text 0 r text′
+      → Put 340000 (answerText made es vs p) text 0 r text′
+  unfolding answerText
+  answer-refused f W = put-as (sym (ap (λ (m : Made). answerText m es vs p) f)) (put-most (omega arith) W)
 
-  module _ (ok : number ≡ 0) where
+  module _ {s : Simplified} (ok : made ≡ Graph s) where
     B : Bounded (s .held) es vs p
-    B = P .bounded ok
+    B = P .bounded s ok
 
     long-is : length (encode sequenceGraph 0 (graphOf (s .held) es vs p)) ≡ 32 + 2 * s .held .n + 9 * s .held .m + bytesIn (s .held .n) vs
     long-is = encode-length 0 (s .held .k .0) (s .held .n) (s .held .m) es vs p (B .within)
+
+    text-is : {a : Response} → fits 65536 (encode sequenceGraph 0 (graphOf (s .held) es vs p)) ≡ a → answerText made es vs p
+        ≡ printedAnswer a (simplifiedIn (s .held) (s .rewrites) (s .rounds) (s .end) es vs p)
+    unfolding answerText
+    text-is e =
+        ap (λ (m : Made). answerText m es vs p) ok
+        ∙ ap (λ (a : Response). printedAnswer a (simplifiedIn (s .held) (s .rewrites) (s .rounds) (s .end) es vs p)) e
 
     pub answer-measured : Measured (s .held) vs
     answer-measured = record { vs-room = B .vs-room; small = omega (arith, B .vertices, B .edges, B .bytes) }
 
     module _ {len : ℕ} (q : len ≡ 32 + 2 * s .held .n + 9 * s .held .m + bytesIn (s .held .n) vs) where
       pub answer-over : {text′ : List ℕ} {r : ℕ} → 65536 < len → Put 19 (printedRefusal 11) text 0 r text′
-          → Put 340000 (answerText number s es vs p) text 0 r text′
-      answer-over h W = put-as (sym (zero-text (encode sequenceGraph 0 (graphOf (s .held) es vs p)) _ ok
-          (fits-short 65536 _ (omega (arith, long-is, q))) ∙ refused-text 11 _)) (put-most (omega arith) W)
+          → Put 340000 (answerText made es vs p) text 0 r text′
+      answer-over h W = put-as (sym (text-is (fits-short 65536 _ (omega (arith, long-is, q))) ∙ refused-text 11 _)) (put-most (omega arith) W)
 
       module _ (h : len ≤ 65536) where
         text-fits : graphMost (s .held) vs ≤ 340000
@@ -108,9 +99,9 @@ module _ {number : ℕ} {s : Simplified} {es vs p text : List ℕ} (P : Printing
 
         pub answer-graph : {text′ : List ℕ} {r : ℕ} → Put (graphMost (s .held) vs)
             (printedGraph (simplifiedIn (s .held) (s .rewrites) (s .rounds) (s .end) es vs p)) text 0 r text′
-            → Put 340000 (answerText number s es vs p) text 0 r text′
-        answer-graph W = put-as (sym (zero-text (encode sequenceGraph 0 (graphOf (s .held) es vs p)) _ ok
-            (fits-enough 65536 _ (omega (arith, long-is, q))) ∙ accepted-text _ _)) (put-most text-fits W)
+            → Put 340000 (answerText made es vs p) text 0 r text′
+        answer-graph W =
+            put-as (sym (text-is (fits-enough 65536 _ (omega (arith, long-is, q))) ∙ accepted-text _ _)) (put-most text-fits W)
 
 -- ---- the whole
 
@@ -129,18 +120,14 @@ module _ {bs es vs p heads nexts nodes mp starts tried sig : List ℕ} (Z : Lent
       in-pool : Within (length p′) (h .n) vs′
       in-pool = record { at = λ v w. omega (arith, H .within .at v w, H .used-room, c, Z .graph .room .p-room) }
 
-  pub made-printing : {r : Made} {es′ vs′ p′ text : List ℕ} {number : ℕ} → MadeOf bs heads nexts r es′ vs′ p′ → number ≡ refusalOf (inputCauses bs)
-      → length es′ ≡ length es → length vs′ ≡ length vs → length p′ ≡ length p → 340000 ≤ length text → Printing number (r .simplified) es′ vs′ p′ text
-  made-printing A q a b c h = record { bounded = λ z. bounded (A .holds (A .number ∙ causes-none bs (sym q ∙ z))) a b c; room = h }
+  pub made-printing : {r : Made} {es′ vs′ p′ text : List ℕ} → MadeOf bs heads nexts r es′ vs′ p′
+      → length es′ ≡ length es → length vs′ ≡ length vs → length p′ ≡ length p → 340000 ≤ length text → Printing r es′ vs′ p′ text
+  made-printing A a b c h = record { bounded = λ s e. bounded (A .holds s e) a b c; room = h }
 
 -- the simplification that is held is the definition's
 simplified-is : {z : S.Simplified} {s : Simplified} {es vs p : List ℕ} → Answers z s es vs p
     → simplifiedIn (s .held) (s .rewrites) (s .rounds) (s .end) es vs p ≡ z
 simplified-is {z} A = λ i. record { graph = A .graph i; rewrites = A .rewrites i; rounds = A .rounds i; end = (ap endOf (A .end) ∙ end-back (z .end)) i }
-
-respond-is : (causes : List Cause) (result : List ℕ) (n : ℕ) → refusalOf causes ≡ n → respond causes 65536 result ≡ respondTo n 65536 result
-unfolding respond
-respond-is causes result n q = ap (λ (i : ℕ). respondTo i 65536 result) q
 
 abbrev answerFor : List ℕ → S.Simplified
 answerFor bs = simplifyGraphFull minTailSuffixLen (decode bs)
@@ -150,22 +137,38 @@ put-front {s} {text} {text′} {r} h P =
     let e : 0 + length s ≡ r = omega (arith, P .end) in
     P .is ∙ sets-eq s text 0 (omega (arith, P .size)) ∙ ap (λ (x : ℕ). s ++ drop x text) e
 
-module _ {bs heads nexts : List ℕ} {made : Made} {es vs p : List ℕ} (A : MadeOf bs heads nexts made es vs p) {number : ℕ} (q : number
-    ≡ refusalOf (inputCauses bs)) where
-  by-number : shown bs ≡ printedAnswer (respondTo number 65536 (encode sequenceGraph 0 (answerFor bs .graph))) (answerFor bs)
-  unfolding shown
-  by-number = ap (λ (a : Response). printedAnswer a (answerFor bs)) (respond-is (inputCauses bs) (encode sequenceGraph 0 (answerFor bs .graph)) number (sym q))
+-- what is shown, by the number of the refusal
+shown-refused : (bs : List ℕ) {n : ℕ} → refusalOf (inputCauses bs) ≡ n → (n ≡ 0 → ⊥) → printedRefusal n ≡ shown bs
+unfolding shown printedAnswer
+shown-refused bs {n} q o =
+    sym (ap (λ (a : Response). printedAnswer a (answerFor bs))
+    (respond-refused (inputCauses bs) 65536 (encode sequenceGraph 0 (answerFor bs .graph)) n q o))
 
-  made-is : answerText number (made .simplified) es vs p ≡ shown bs
-  made-is = elim (ℕ-discrete number 0) [
-    | yes z ↦ (let e = simplified-is (A .answers (A .number ∙ causes-none bs (sym q ∙ z))) in λ i.
-        printedAnswer (respondTo number 65536 (encode sequenceGraph 0 (e i .graph))) (e i)) ∙ sym by-number
-    | no ne ↦ number-text number _ _ ne ∙ sym (number-text number _ _ ne) ∙ sym by-number
-  ]
+shown-fitting : (bs : List ℕ) → refusalOf (inputCauses bs) ≡ 0
+    → printedAnswer (fits 65536 (encode sequenceGraph 0 (answerFor bs .graph))) (answerFor bs) ≡ shown bs
+unfolding shown
+shown-fitting bs q =
+    sym (ap (λ (a : Response). printedAnswer a (answerFor bs))
+    (respond-fits (inputCauses bs) 65536 (encode sequenceGraph 0 (answerFor bs .graph)) q))
 
-  pub made-shown : {text text′ : List ℕ} {r : ℕ} → 340000 ≤ length text
-      → Put 340000 (answerText number (made .simplified) es vs p) text 0 r text′ → Shown bs text r text′
-  made-shown h P = let Q = put-as made-is P in record { long = omega (arith, Q .end); is = put-front h Q }
+put-shown : {bs text text′ : List ℕ} {r m : ℕ} {s : List ℕ} → s ≡ shown bs → m ≤ 340000 → 340000 ≤ length text → Put m s text 0 r text′
+    → Shown bs text r text′
+put-shown e l h P = let Q = put-as e (put-most l P) in record { long = omega (arith, Q .end); is = put-front h Q }
+
+pub long-shown : (bs : List ℕ) {text text′ : List ℕ} {r : ℕ} → 65536 < length bs → 340000 ≤ length text → Put 19 (printedRefusal 1) text 0 r text′
+    → Shown bs text r text′
+long-shown bs l h P = put-shown (shown-refused bs (sym (causes-long bs l)) (λ z. omega arith)) (omega arith) h P
+
+module _ {bs heads nexts : List ℕ} {made : Made} {es vs p : List ℕ} (A : MadeOf bs heads nexts made es vs p) (short : length bs ≤ 65536) where
+  made-is : (m : Made) → made ≡ m → answerText m es vs p ≡ shown bs
+  unfolding answerText
+  made-is (Graph s) f =
+      (let e = simplified-is (A .answers s f) in λ i. printedAnswer (fits 65536 (encode sequenceGraph 0 (e i .graph))) (e i))
+      ∙ shown-fitting bs (sym (causes-record bs short) ∙ sym (A .number) ∙ number-graph f)
+  made-is (Refused n) f = shown-refused bs (sym (causes-record bs short) ∙ sym (A .number) ∙ number-refused f) (A .refused n f)
+
+  pub made-shown : {text text′ : List ℕ} {r : ℕ} → 340000 ≤ length text → Put 340000 (answerText made es vs p) text 0 r text′ → Shown bs text r text′
+  made-shown h P = put-shown (made-is made refl) (omega arith) h P
 
 -- the text ends within the slice
 pub shown-fits : {bs text text′ : List ℕ} {r : ℕ} → Shown bs text r text′ → r ≤ length text′

@@ -4,13 +4,15 @@ use mathlib.Core.List.{List, _++_}
 use Prim.Native.Nat.{ℕ, _*_, _≤_}
 use lib.ListN.{length, drop}
 use Rattle.defs.specs.Record.{sequenceGraph, encode}
-use Rattle.defs.specs.Calls.{respondTo}
+use Rattle.defs.specs.Calls.{fits}
 use Rattle.store.specs.Store.{Within}
 use Rattle.pool.specs.Pool.{bytesIn}
 use Rattle.memory.specs.Memory.{graphOf}
 use Rattle.memory.specs.declared.Held.{Held}
 use Rattle.rounds.specs.declared.Simplified.{Simplified}
-use Rattle.text.specs.Printed.{printedAnswer, shown}
+use Rattle.simplify_graph.specs.declared.Made.{Made}
+use Rattle.simplify_graph.specs.declared.Made.the-variants.{Graph, Refused}
+use Rattle.text.specs.Printed.{printedRefusal, printedAnswer, shown}
 use Rattle.graph_text.specs.GraphText.{simplifiedIn}
 
 -- a held graph of at most 10,240 vertices, 16,384 edges and 10,240 bytes
@@ -22,14 +24,16 @@ pub record Bounded (h : Held) (es vs p : List ℕ) : Type 0 where
   pub vs-room : 2 * h .n ≤ length vs
   pub within : Within (length p) (h .n) vs
 
-abbrev pub answerText : ℕ → Simplified → List ℕ → List ℕ → List ℕ → List ℕ
-answerText number s es vs p =
-    printedAnswer (respondTo number 65536 (encode sequenceGraph 0 (graphOf (s .held) es vs p)))
+-- the text of what was made of a record; an answer record over 65,536 bytes counts as 11
+unfoldable pub answerText : Made → List ℕ → List ℕ → List ℕ → List ℕ
+answerText (Graph s) es vs p =
+    printedAnswer (fits 65536 (encode sequenceGraph 0 (graphOf (s .held) es vs p)))
     (simplifiedIn (s .held) (s .rewrites) (s .rounds) (s .end) es vs p)
+answerText (Refused n) es vs p = printedRefusal n
 
 -- room for every text
-pub record Printing (number : ℕ) (s : Simplified) (es vs p text : List ℕ) : Type 0 where
-  pub bounded : number ≡ 0 → Bounded (s .held) es vs p
+pub record Printing (made : Made) (es vs p text : List ℕ) : Type 0 where
+  pub bounded : (s : Simplified) → made ≡ Graph s → Bounded (s .held) es vs p
   pub room : 340000 ≤ length text
 
 -- the text stands at the front, r bytes long; the rest is as it was

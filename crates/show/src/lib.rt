@@ -1,37 +1,20 @@
 // The text of what simplification makes of a record. Nothing is asked of the caller.
-ghost use mathlib.Core.Path.{_≡_};
 ghost use Prim.Native.Nat.{_≤_};
 ghost use lib.ListN.{length};
-ghost use Rattle.defs.specs.Refusals.{refusalOf, sequenceOnly, recordRefusal};
 ghost use Rattle.arrays.specs.Sized.{Lent};
-ghost use Rattle.text.specs.Printed.{inputCauses};
 ghost use Rattle.text.specs.Put.{Put};
 ghost use Rattle.show.specs.Show.{answerText, Printing, Shown};
-use rounds::Simplified;
+use simplify_graph::Made;
 
-// Input of more than 65,536 bytes counts as 1, whatever it is.
-fn input_refusal(rec: &[u8], number: u32) -> u32
-    requires { ⌜ number ≡ recordRefusal sequenceOnly (now rec) ⌝ }
-    ensures { λ r. ⌜ r ≡ refusalOf (inputCauses (now (rec .entry))) ⌝ }
+// The text of what was made of a record, at the front. An answer record over 65,536 bytes is told as 11, though none is written here.
+fn put_answer(text: &mut [u8], made: Made, es: &[u32], vs: &[u32], p: &[u8]) -> usize
+    requires { ⌜ Printing made (now es) (now vs) (now p) (now text) ⌝ }
+    ensures { λ r. ⌜ Put 340000 (answerText made (now (es .entry)) (now (vs .entry)) (now (p .entry))) (now (text .entry)) 0 r (now (text .exit)) ⌝ }
 {
-    if 65536 < rec.len() { 1 } else { number }
-}
-
-// The text of a refusal's number, or of the simplification with number 0, at the front. An answer record over 65,536 bytes is told as 11, though none is written here.
-fn put_answer(
-    text: &mut [u8],
-    number: u32,
-    s: Simplified,
-    es: &[u32],
-    vs: &[u32],
-    p: &[u8],
-) -> usize
-    requires { ⌜ Printing number s (now es) (now vs) (now p) (now text) ⌝ }
-    ensures { λ r. ⌜ Put 340000 (answerText number s (now (es .entry)) (now (vs .entry)) (now (p .entry))) (now (text .entry)) 0 r (now (text .exit)) ⌝ }
-{
-    if number != 0 {
-        return graph_text::put_refusal(text, number);
-    }
+    let s = match made {
+        Made::Graph(simplified) => simplified,
+        Made::Refused(number) => return graph_text::put_refusal(text, number),
+    };
     let held = s.held;
     if 65536 < write_record::record_length(held, vs) {
         return graph_text::put_refusal(text, 11);
@@ -39,6 +22,7 @@ fn put_answer(
     graph_text::put_graph(text, held, s.rewrites, s.rounds, s.end, es, vs, p)
 }
 
+// Input of more than 65,536 bytes counts as 1, whatever it is.
 fn show_in(
     rec: &[u8],
     text: &mut [u8],
@@ -57,6 +41,9 @@ fn show_in(
         (now starts) (now tried) (now sig) ⌝ }
     ensures { λ r. ⌜ Shown (now (rec .entry)) (now (text .entry)) r (now (text .exit)) ⌝ }
 {
+    if 65536 < rec.len() {
+        return graph_text::put_refusal(text, 1);
+    }
     let made = simplify_graph::read_and_simplify(
         rec,
         es,
@@ -70,9 +57,7 @@ fn show_in(
         tried,
         sig,
     );
-    let number = input_refusal(rec, made.number);
-    let s = made.simplified;
-    put_answer(text, number, s, es, vs, p)
+    put_answer(text, made, es, vs, p)
 }
 
 // Whole arrays, whose lengths are known.

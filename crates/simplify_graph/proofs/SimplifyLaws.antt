@@ -26,6 +26,8 @@ use Rattle.memory.specs.Memory.{graphOf}
 use Rattle.memory.proofs.RoomLaws.{holds-kept}
 use Rattle.accept.specs.Accept.{ReadAs}
 use Rattle.accept.specs.declared.Read.{Read}
+use Rattle.accept.specs.declared.Read.the-variants as read
+use Rattle.accept.proofs.AcceptLaws.{read-none, read-number}
 use Rattle.rounds.specs.Rounds.{Answers, Full}
 use Rattle.rounds.specs.declared.Simplified.{Simplified}
 use Rattle.calls.specs.Answers.{tallyOf, simplifyAnswerOf, RefusesSimplify, AcceptsSimplify}
@@ -38,20 +40,30 @@ use Rattle.calls.proofs.SendLaws.{sent-short, sent-whole}
 use Rattle.simplify_graph.specs.MadeOf.{MadeOf}
 use Rattle.simplify_graph.specs.Simplifies.{Simplifies}
 use Rattle.simplify_graph.specs.declared.Made.{Made}
+use Rattle.simplify_graph.specs.declared.Made.the-variants as outcome
+use Rattle.simplify_graph.proofs.MadeLaws.{not-both, number-graph, number-refused, same-made}
 
 -- reading, then simplifying
 module _ {bs heads nexts : List ℕ} {r : Read} {es vs p : List ℕ} (A : ReadAs bs heads nexts r es vs p) where
-  pub made-refused : (r .number ≡ 0 → ⊥) → {m : Made} {es′ vs′ p′ : List ℕ} → m .number ≡ r .number → MadeOf bs heads nexts m es′ vs′ p′
-  made-refused o q = record { number = q ∙ A .number; answers = λ z. absurd (o (sym q ∙ z)); holds = λ z. absurd (o (sym q ∙ z)) }
-
-  pub made-whole : r .number ≡ 0 → {heads′ nexts′ : List ℕ} {s : Simplified} {es′ vs′ p′ : List ℕ} → length heads′ ≡ length heads
-      → length nexts′ ≡ length nexts → Full 10 (r .held) es vs p heads′ nexts′ s es′ vs′ p′
-      → MadeOf bs heads nexts record { number = 0; simplified = s } es′ vs′ p′
-  made-whole ok {s = s} {es′} {vs′} {p′} d e F = record {
-    number = sym ok ∙ A .number;
-    answers = λ _. subst (λ (g : Graph). Answers (simplifyGraphFull 10 g) s es′ vs′ p′) (A .is ok) (F .answers);
-    holds = λ _. holds-kept (F .holds) (sym d) (sym e);
+  pub made-refused : {n : ℕ} → r ≡ read.Refused n → {es′ vs′ p′ : List ℕ} → MadeOf bs heads nexts (outcome.Refused n) es′ vs′ p′
+  made-refused {n} f = record {
+    number = number-refused refl ∙ sym (read-number A f);
+    answers = λ s e. not-both e refl;
+    holds = λ s e. not-both e refl;
+    refused = λ m e z. A .refused n f (sym (number-refused refl) ∙ number-refused e ∙ z);
   }
+
+  pub made-whole : {h : Held} → r ≡ read.Graph h → {heads′ nexts′ : List ℕ} {s : Simplified} {es′ vs′ p′ : List ℕ} → length heads′ ≡ length heads
+      → length nexts′ ≡ length nexts → Full 10 h es vs p heads′ nexts′ s es′ vs′ p′
+      → MadeOf bs heads nexts (outcome.Graph s) es′ vs′ p′
+  made-whole {h} ok {s = s} {es′} {vs′} {p′} d e F =
+      let answers = subst (λ (g : Graph). Answers (simplifyGraphFull 10 g) s es′ vs′ p′) (A .is h ok) (F .answers) in
+      record {
+        number = number-graph refl ∙ sym (read-none A ok);
+        answers = λ x q. subst (λ (y : Simplified). Answers (simplifyGraphFull 10 (decode bs)) y es′ vs′ p′) (same-made q) answers;
+        holds = λ x q. subst (λ (y : Simplified). Holds (y .held) es′ vs′ p′ heads nexts) (same-made q) (holds-kept (F .holds) (sym d) (sym e));
+        refused = λ n q. not-both refl q;
+      }
 
 -- the answer goes by the response
 answer-by : (bs : List ℕ) (room : ℕ) (t : D.Tally) {x : Response} → simplifyGraphResponse bs room ≡ x
@@ -120,18 +132,19 @@ module _ (bs out : List ℕ) (t : Tally) where
 
 -- the whole call
 module _ {bs heads nexts : List ℕ} {m : Made} {es vs p : List ℕ} (M : MadeOf bs heads nexts m es vs p) (t : Tally) where
-  pub simplifies-refused : (out : List ℕ) {a : SimplifyAnswer} → (m .number ≡ 0 → ⊥) → RefusesSimplify (m .number) t a → Simplifies bs out t a out
-  simplifies-refused out o R =
-      refused-with bs out t (m .number) o (λ l i. omega (arith, i, M .number, record-most sequenceOnly bs))
-      (stopped bs out t (m .number) (sym (M .number)) o) R refl
+  pub simplifies-refused : (out : List ℕ) {a : SimplifyAnswer} {n : ℕ} → m ≡ outcome.Refused n → RefusesSimplify n t a → Simplifies bs out t a out
+  simplifies-refused out {n = n} f R =
+      let o = M .refused n f in
+      refused-with bs out t n o (λ l i. omega (arith, i, M .number, number-refused f, record-most sequenceOnly bs))
+      (stopped bs out t n (sym (M .number) ∙ number-refused f) o) R refl
 
-  module _ (small : Bytes bs) (ok : m .number ≡ 0) where
+  module _ (small : Bytes bs) {g : Simplified} (ok : m ≡ outcome.Graph g) where
     none : recordRefusal sequenceOnly bs ≡ 0
-    none = sym (M .number) ∙ ok
+    none = sym (M .number) ∙ number-graph ok
 
-    module _ {out out′ : List ℕ} {s : Sent} (S : Sends (encode sequenceGraph 0 (graphOf (m .simplified .held) es vs p)) out s out′) where
+    module _ {out out′ : List ℕ} {s : Sent} (S : Sends (encode sequenceGraph 0 (graphOf (g .held) es vs p)) out s out′) where
       sends : Sends (encode sequenceGraph 0 ((simplifyGraphFull 10 (decode bs)) .graph)) out s out′
-      sends = subst (λ (g : Graph). Sends (encode sequenceGraph 0 g) out s out′) (M .answers ok .graph) S
+      sends = subst (λ (g : Graph). Sends (encode sequenceGraph 0 g) out s out′) (M .answers g ok .graph) S
 
       pub simplifies-short : {a : SimplifyAnswer} → (s .number ≡ 0 → ⊥) → RefusesSimplify (s .number) t a → Simplifies bs out t a out′
       simplifies-short o R =
@@ -141,11 +154,11 @@ module _ {bs heads nexts : List ℕ} {m : Made} {es vs p : List ℕ} (M : MadeOf
           (fitting bs out t none ∙ c .0 ∙ ap refused (sym (c .1 .0))) R (c .1 .1)
 
       pub simplifies-accepted : {a : SimplifyAnswer} → s .number ≡ 0
-          → AcceptsSimplify (s .length) (m .simplified .rewrites) (m .simplified .rounds) (m .simplified .end) t a
+          → AcceptsSimplify (s .length) (g .rewrites) (g .rounds) (g .end) t a
           → Simplifies bs out t a out′
       simplifies-accepted i A =
           let c = sent-whole sends i in
-          let Z = M .answers ok in
+          let Z = M .answers g ok in
           accepted-with bs out t small none (fitting bs out t none
           ∙ c .0) (A .is (encode sequenceGraph 0 ((simplifyGraphFull 10 (decode bs)) .graph)) (simplifyGraphFull 10 (decode bs))
           (sym (c .1 .0)) (sym (Z .rewrites)) (sym (Z .rounds)) (sym (Z .end))) (c .1 .1)

@@ -1,34 +1,18 @@
 // simplify_graph: a record in, its simplification's record out. Nothing is asked of the caller.
-ghost use mathlib.Core.Path.{_≡_};
-ghost use Prim.Native.Nat.{ℕ, _≤_};
+ghost use Prim.Native.Nat.{_≤_};
 ghost use lib.ListN.{length};
 ghost use Rattle.arrays.specs.Sized.{Lent};
 ghost use Rattle.simplify_graph.specs.Simplifies.{Simplifies};
 ghost use Rattle.simplify_graph.specs.MadeOf.{MadeOf};
+use accept::Read;
 use calls::SimplifyAnswer;
 use calls::Tally;
-use memory::Held;
 use rounds::Simplified;
 
-// A record's refusal number, or 0 and its simplification, which the slices hold.
-pub struct Made {
-    pub number: u32,
-    pub simplified: Simplified,
-}
-
-fn refuse(number: u32, held: Held) -> Made
-    ensures { λ r. ⌜ r .number ≡ number ⌝ }
-{
-    let none = Simplified {
-        held: held,
-        rewrites: 0,
-        rounds: 0,
-        end: 0,
-    };
-    Made {
-        number: number,
-        simplified: none,
-    }
+// What was made of a record: its simplification, which the slices hold, or the number of the refusal.
+pub enum Made {
+    Graph(Simplified),
+    Refused(u32),
 }
 
 pub fn read_and_simplify(
@@ -47,13 +31,12 @@ pub fn read_and_simplify(
     requires { ⌜ Lent (now rec) (now es) (now vs) (now p) (now heads) (now nexts) (now nodes) (now map) (now starts) (now tried) (now sig) ⌝ }
     ensures { λ r. ⌜ MadeOf (now (rec .entry)) (now (heads .entry)) (now (nexts .entry)) r (now (es .exit)) (now (vs .exit)) (now (p .exit)) ⌝ }
 {
-    let read = accept::read_sequence_graph(rec, es, vs, p, heads, nexts, nodes, map);
-    let number = read.number;
-    if number != 0 {
-        return refuse(number, read.held);
-    }
+    let held = match accept::read_sequence_graph(rec, es, vs, p, heads, nexts, nodes, map) {
+        Read::Graph(held) => held,
+        Read::Refused(number) => return Made::Refused(number),
+    };
     let s = rounds::simplify_graph_full(
-        read.held,
+        held,
         10,
         es,
         vs,
@@ -66,10 +49,7 @@ pub fn read_and_simplify(
         tried,
         sig,
     );
-    Made {
-        number: 0,
-        simplified: s,
-    }
+    Made::Graph(s)
 }
 
 fn simplify_graph_in(
@@ -90,12 +70,10 @@ fn simplify_graph_in(
     requires { ⌜ Lent (now rec) (now es) (now vs) (now p) (now heads) (now nexts) (now nodes) (now map) (now starts) (now tried) (now sig) ⌝ }
     ensures { λ r. ⌜ Simplifies (now (rec .entry)) (now (out .entry)) tally r (now (out .exit)) ⌝ }
 {
-    let made = read_and_simplify(rec, es, vs, p, heads, nexts, nodes, map, starts, tried, sig);
-    let number = made.number;
-    if number != 0 {
-        return calls::refuse_simplify(number, tally);
-    }
-    let s = made.simplified;
+    let s = match read_and_simplify(rec, es, vs, p, heads, nexts, nodes, map, starts, tried, sig) {
+        Made::Graph(simplified) => simplified,
+        Made::Refused(number) => return calls::refuse_simplify(number, tally),
+    };
     let sent = calls::send_record(out, 0, s.held, es, vs, p);
     let short = sent.number;
     if short != 0 {

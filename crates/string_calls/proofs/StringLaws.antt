@@ -22,6 +22,8 @@ use Rattle.memory.proofs.RoomLaws.{held-vertices, held-edges, held-ends, fit-by
 use Rattle.index.specs.Index.{Indexable, Indexed}
 use Rattle.accept.specs.Accept.{ReadAs}
 use Rattle.accept.specs.declared.Read.{Read}
+use Rattle.accept.specs.declared.Read.the-variants as read
+use Rattle.accept.proofs.AcceptLaws.{not-both, same-held, read-none, read-number}
 use Rattle.spell.specs.Spell.{Told}
 use Rattle.spell.specs.declared.OptionBytes.{OptionBytes}
 use Rattle.spell.specs.declared.OptionBytes.the-variants.{Some, None}
@@ -58,29 +60,33 @@ module _ {bs es vs p heads nexts nodes mp : List ℕ} (Z : LentGraph bs es vs p 
 
 -- a record that was read and indexed
 module _ {bs heads nexts : List ℕ} {r : Read} {es vs p : List ℕ} (A : ReadAs bs heads nexts r es vs p) where
-  pub read-other : (r .number ≡ 0 → ⊥) → {heads′ nexts′ : List ℕ} → ReadIndexed bs heads nexts r es vs p heads′ nexts′
-  read-other o = record { read = A; indexed = λ z. absurd (o z) }
+  pub read-other : {n : ℕ} → r ≡ read.Refused n → {heads′ nexts′ : List ℕ} → ReadIndexed bs heads nexts (read.Refused n) es vs p heads′ nexts′
+  read-other f = record { read = subst (λ (x : Read). ReadAs bs heads nexts x es vs p) f A; indexed = λ h e. not-both e refl }
 
-  pub read-indexed : {heads′ nexts′ : List ℕ} → Indexed (r .held .m) (r .held .n) es heads′ nexts′ → ReadIndexed bs heads nexts r es vs p heads′ nexts′
-  read-indexed I = record { read = A; indexed = λ _. I }
+  pub read-indexed : {h : Held} → r ≡ read.Graph h → {heads′ nexts′ : List ℕ} → Indexed (h .m) (h .n) es heads′ nexts′
+      → ReadIndexed bs heads nexts (read.Graph h) es vs p heads′ nexts′
+  read-indexed ok {heads′} {nexts′} I = record {
+    read = subst (λ (x : Read). ReadAs bs heads nexts x es vs p) ok A;
+    indexed = λ g e. subst (λ (x : Held). Indexed (x .m) (x .n) es heads′ nexts′) (same-held e) I;
+  }
 
   -- what is told can be counted in 32 bits
-  module _ (ok : r .number ≡ 0) (room : vertexRoom heads < 4294967296) where
-    most : {o : Option (List ℕ)} → ((s : List ℕ) → o ≡ some s → length s ≤ sequenceBytes (graphOf (r .held) es vs p .verts))
+  module _ {h : Held} (ok : r ≡ read.Graph h) (room : vertexRoom heads < 4294967296) where
+    most : {o : Option (List ℕ)} → ((s : List ℕ) → o ≡ some s → length s ≤ sequenceBytes (graphOf h es vs p .verts))
         → {out out′ : List ℕ} {b : OptionBytes} → Told o out b out′ → (n : ℕ) → b ≡ Some n → n < 4294967296
-    most h T n e = let y = some-told T e in omega (arith, y .2 .size, h (y .0) (y .1), fit-bytes (A .holds ok .fit), room)
+    most f T n e = let y = some-told T e in omega (arith, y .2 .size, f (y .0) (y .1), fit-bytes (A .holds h ok .fit), room)
 
-    pub reference-counted : {out out′ : List ℕ} {b : OptionBytes} → Told (referencePathBytes (graphOf (r .held) es vs p)) out b out′ → (n : ℕ)
+    pub reference-counted : {out out′ : List ℕ} {b : OptionBytes} → Told (referencePathBytes (graphOf h es vs p)) out b out′ → (n : ℕ)
         → b ≡ Some n → n < 4294967296
-    reference-counted T = most (reference-most (graphOf (r .held) es vs p) (A .holds ok .fit .good .0)) T
+    reference-counted T = most (reference-most (graphOf h es vs p) (A .holds h ok .fit .good .0)) T
 
     pub path-counted : (start : ℕ) (list : List ℕ) {out out′ : List ℕ} {b : OptionBytes}
-        → Told (given (isPathOf (graphOf (r .held) es vs p) start list) (pathBasesBytes (graphOf (r .held) es vs p) start list)) out b out′
+        → Told (given (isPathOf (graphOf h es vs p) start list) (pathBasesBytes (graphOf h es vs p) start list)) out b out′
         → (n : ℕ) → b ≡ Some n → n < 4294967296
     path-counted start list T =
-        let g = graphOf (r .held) es vs p in
+        let g = graphOf h es vs p in
         most (λ s e. let y = given-some (isPathOf g start list) (pathBasesBytes g start list) s e in
-        omega (arith, ap length (y .1), path-most g (A .holds ok .fit .good .0) start list (y .0))) T
+        omega (arith, ap length (y .1), path-most g (A .holds h ok .fit .good .0) start list (y .0))) T
 
 byBytes : {A : Type 0} (b : OptionBytes) → ((n : ℕ) → b ≡ Some n → A) → (b ≡ None → A) → A
 byBytes (Some n) f g = f n refl
@@ -161,24 +167,24 @@ module _ {b : OptionBytes} {room missing : ℕ} {t : Tally} {a : Answer} where
 
 -- the two calls
 module _ {bs heads nexts : List ℕ} {r : Read} {es vs p : List ℕ} (A : ReadAs bs heads nexts r es vs p) {t : Tally} {a : Answer} where
-  pub reference-stopped : (out : List ℕ) → (r .number ≡ 0 → ⊥) → Refuses (r .number) t a → Responds (referencePathBytesResponse bs (length out)) out t a out
-  reference-stopped out o R = responds-refused (reference-refused bs (length out) (sym (A .number)) o) R refl
+  pub reference-stopped : (out : List ℕ) {n : ℕ} → r ≡ read.Refused n → Refuses n t a → Responds (referencePathBytesResponse bs (length out)) out t a out
+  reference-stopped out {n} f R = responds-refused (reference-refused bs (length out) (read-number A f) (A .refused n f)) R refl
 
-  pub path-stopped : (start : ℕ) (list out : List ℕ) → (r .number ≡ 0 → ⊥) → Refuses (r .number) t a
+  pub path-stopped : (start : ℕ) (list out : List ℕ) {n : ℕ} → r ≡ read.Refused n → Refuses n t a
       → Responds (pathBasesBytesResponse bs start list (length out)) out t a out
-  path-stopped start list out o R = responds-refused (path-refused bs start list (length out) (sym (A .number)) o) R refl
+  path-stopped start list out {n} f R = responds-refused (path-refused bs start list (length out) (read-number A f) (A .refused n f)) R refl
 
-  module _ (ok : r .number ≡ 0) where
-    pub reference-told : {out out′ : List ℕ} {b : OptionBytes} → Told (referencePathBytes (graphOf (r .held) es vs p)) out b out′ → length out′
+  module _ {h : Held} (ok : r ≡ read.Graph h) where
+    pub reference-told : {out out′ : List ℕ} {b : OptionBytes} → Told (referencePathBytes (graphOf h es vs p)) out b out′ → length out′
         ≡ length out → Tells b (length out′) 10 t a → Responds (referencePathBytesResponse bs (length out)) out t a out′
     reference-told {out} {out′} {b} T e S =
-        tells (subst (λ (g : Graph). Told (referencePathBytes g) out b out′) (A .is ok) T)
-        (reference-none bs (length out) (sym (A .number) ∙ ok)) (reference-some bs (length out) (sym (A .number) ∙ ok)) e S
+        tells (subst (λ (g : Graph). Told (referencePathBytes g) out b out′) (A .is h ok) T)
+        (reference-none bs (length out) (read-none A ok)) (reference-some bs (length out) (read-none A ok)) e S
 
     pub path-told : (start : ℕ) (list : List ℕ) {out out′ : List ℕ} {b : OptionBytes}
-        → Told (given (isPathOf (graphOf (r .held) es vs p) start list) (pathBasesBytes (graphOf (r .held) es vs p) start list)) out b out′
+        → Told (given (isPathOf (graphOf h es vs p) start list) (pathBasesBytes (graphOf h es vs p) start list)) out b out′
         → length out′ ≡ length out → Tells b (length out′) 9 t a
         → Responds (pathBasesBytesResponse bs start list (length out)) out t a out′
     path-told start list {out} {out′} {b} T e S =
-        tells (subst (λ (g : Graph). Told (given (isPathOf g start list) (pathBasesBytes g start list)) out b out′) (A .is ok) T)
-        (path-none bs start list (length out) (sym (A .number) ∙ ok)) (path-some bs start list (length out) (sym (A .number) ∙ ok)) e S
+        tells (subst (λ (g : Graph). Told (given (isPathOf g start list) (pathBasesBytes g start list)) out b out′) (A .is h ok) T)
+        (path-none bs start list (length out) (read-none A ok)) (path-some bs start list (length out) (read-none A ok)) e S

@@ -26,11 +26,12 @@ fn read_indexed(
     ensures { λ r. ⌜ ReadIndexed (now (rec .entry)) (now (heads .entry)) (now (nexts .entry)) r (now (es .exit)) (now (vs .exit))
         (now (p .exit)) (now (heads .exit)) (now (nexts .exit)) ⌝ }
 {
-    let read = accept::read_sequence_graph(rec, es, vs, p, heads, nexts, nodes, map);
-    if read.number == 0 {
-        index::build_index(es, read.held.m, read.held.n, heads, nexts);
-    }
-    read
+    let held = match accept::read_sequence_graph(rec, es, vs, p, heads, nexts, nodes, map) {
+        Read::Graph(held) => held,
+        Read::Refused(number) => return Read::Refused(number),
+    };
+    index::build_index(es, held.m, held.n, heads, nexts);
+    Read::Graph(held)
 }
 
 // The answer of a call that told bytes, or none; `missing` is the number for none.
@@ -62,12 +63,10 @@ fn reference_path_bytes_in(
     requires { ⌜ LentGraph (now rec) (now es) (now vs) (now p) (now heads) (now nexts) (now nodes) (now map) ⌝ }
     ensures { λ r. ⌜ Responds (referencePathBytesResponse (now (rec .entry)) (length (now (out .entry)))) (now (out .entry)) tally r (now (out .exit)) ⌝ }
 {
-    let read = read_indexed(rec, es, vs, p, heads, nexts, nodes, map);
-    let number = read.number;
-    if number != 0 {
-        return calls::refuse(number, tally);
-    }
-    let held = read.held;
+    let held = match read_indexed(rec, es, vs, p, heads, nexts, nodes, map) {
+        Read::Graph(held) => held,
+        Read::Refused(number) => return calls::refuse(number, tally),
+    };
     let told = reference::reference_path_bytes(held, es, vs, p, heads, nexts, nodes, out);
     tell(told, out.len(), 10, tally)
 }
@@ -186,12 +185,10 @@ fn path_bases_bytes_in(
     ensures { λ r. ⌜ Responds (pathBasesBytesResponse (now (rec .entry)) start (now (list .entry)) (length (now (out .entry))))
         (now (out .entry)) tally r (now (out .exit)) ⌝ }
 {
-    let read = read_indexed(rec, es, vs, p, heads, nexts, nodes, map);
-    let number = read.number;
-    if number != 0 {
-        return calls::refuse(number, tally);
-    }
-    let held = read.held;
+    let held = match read_indexed(rec, es, vs, p, heads, nexts, nodes, map) {
+        Read::Graph(held) => held,
+        Read::Refused(number) => return calls::refuse(number, tally),
+    };
     let told = paths::path_bases_bytes(held, es, vs, p, heads, nexts, start, list, nodes, out);
     tell(told, out.len(), 9, tally)
 }

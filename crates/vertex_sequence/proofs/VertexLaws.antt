@@ -9,15 +9,18 @@ use lib.ListN.{length, getD, take, drop}
 use lib.Dec.{eqb, leb}
 use borrow.Author.Tests.{eq-eqb, ne-eqb, eqb-true, le-leb, lt-leb}
 use Rattle.defs.specs.SeqGraph.{Graph, vertexSequence}
-use Rattle.defs.specs.Record.{kindOf, verticesOf, edgesOf, bytesOf, lengthAt, sequenceStart, sequenceAt, decode}
+use Rattle.defs.specs.Record.{kindOf, kOf, verticesOf, edgesOf, bytesOf, lengthAt, sequenceStart, sequenceAt, decode}
 use Rattle.defs.specs.Refusals.{bothKinds, refusalOf, recordCauses, recordRefusal, doubledEdge, equalKmers, doubled, hasCycle}
 use Rattle.defs.specs.Calls.{vertexSequenceNumber, vertexSequencePart}
 use Rattle.laws.proofs.Walks.{byTest}
 use Rattle.laws.proofs.ListLaws.{byOrder}
 use Rattle.record.specs.Kinds.{takesOf}
 use Rattle.record.specs.declared.Takes.the-variants.{BothKinds}
-use Rattle.record.specs.Layout.{WellFormed}
-use Rattle.record.proofs.Accepted.{well-formed}
+use Rattle.kmer.specs.declared.KmerSize.{KmerSize}
+use Rattle.record.specs.Layout.{WellFormed, layoutOf}
+use Rattle.record.specs.declared.Layout.{Layout}
+use Rattle.record.specs.declared.Layout.the-variants.{Formed, Refused}
+use Rattle.record.proofs.Accepted.{well-formed, formed-none, formed-size, refused-number, refused-some}
 use Rattle.record.proofs.Fields.{sequenceAt-is}
 use Rattle.record.proofs.Sequences.{vertex-is, sequence-inside, length-is}
 use Rattle.store.specs.Store.{edgesIn, seqsIn, graphIn}
@@ -101,13 +104,20 @@ module _ (bs : List ℕ) where
     };
   }
 
-  pub number-early : {i : ℕ} → i ≡ refusalOf (take 5 (recordCauses (takesOf BothKinds) bs)) → (i ≡ 0 → ⊥) → i ≡ recordRefusal bothKinds bs
-  unfolding takesOf
-  number-early {i} e o = sym (refused-early bothKinds bs (sym e) (byOrder 1 i (λ b. b) (λ b. absurd (o (omega arith)))))
+  -- the layout that was checked
+  module _ {r : Layout} (e : r ≡ layoutOf (refusalOf (take 5 (recordCauses (takesOf BothKinds) bs))) (kOf bs)) where
+    pub number-early : {n : ℕ} → r ≡ Refused n → n ≡ recordRefusal bothKinds bs
+    unfolding takesOf
+    number-early {n} f =
+        sym (refused-early bothKinds bs (sym (refused-number bothKinds bs e f))
+        (byOrder 1 n (λ b. b) (λ b. absurd (refused-some bothKinds bs e f (omega arith)))))
 
-  pub layout-zero : {i : ℕ} → i ≡ refusalOf (take 5 (recordCauses (takesOf BothKinds) bs)) → i ≡ 0 → refusalOf (take 5 (recordCauses bothKinds bs)) ≡ 0
-  unfolding takesOf
-  layout-zero e z = sym e ∙ z
+    pub layout-none : {k : KmerSize} → r ≡ Formed k → refusalOf (take 5 (recordCauses bothKinds bs)) ≡ 0
+    unfolding takesOf
+    layout-none f = formed-none bothKinds bs e f
+
+    pub layout-size : {k : KmerSize} → r ≡ Formed k → k .0 ≡ kOf bs
+    layout-size f = formed-size (takesOf BothKinds) bs e f
 
   module _ (layout : refusalOf (take 5 (recordCauses bothKinds bs)) ≡ 0) where
     formed : WellFormed bs

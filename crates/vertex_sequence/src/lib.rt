@@ -10,6 +10,7 @@ ghost use Rattle.sort.specs.Sort.{Sortable};
 ghost use Rattle.kmer_order.specs.Order.{Sequence};
 ghost use Rattle.vertex_sequence.specs.Checks.{Roomy, Checkable, Checks};
 ghost use Rattle.vertex_sequence.specs.Handed.{Handed, Placed};
+use record::Layout;
 use record::Takes;
 
 // Where a vertex's sequence stands in the record, and how long it is.
@@ -83,11 +84,11 @@ fn record_number(
     requires { ⌜ Roomy (now rec) (now es) (now vs) (now p) (now heads) (now nexts) (now order) (now scratch) (now place) ⌝ }
     ensures { λ r. ⌜ r ≡ recordRefusal bothKinds (now (rec .entry)) ⌝ }
 {
-    let number = record::layout_refusal(rec, Takes::BothKinds);
-    if number != 0 {
-        return number;
-    }
-    let held = load::load_graph(rec, es, vs, p);
+    let k = match record::check_layout(rec, Takes::BothKinds) {
+        Layout::Formed(k) => k,
+        Layout::Refused(number) => return number,
+    };
+    let held = load::load_graph(rec, k, es, vs, p);
     index::build_index(es, held.m, held.n, heads, nexts);
     graph_number(
         rec[4] == 0,

@@ -19,53 +19,78 @@ refuse-requires : tie.Need-refuse-requires
 refuse-requires c κs = search needs
 
 same-length : tie.Need-same-length
-same-length c = search needs
+same-length c = at-read-and-clean .read-and-clean .kept .1 .0
+  where
+    at-read-and-clean : tie.After-read-and-clean
+    at-read-and-clean = let c : tie.After-nexts = search in search
 
 same-length-2 : tie.Need-same-length-2
-same-length-2 c = search needs
+same-length-2 c = at-read-and-clean .read-and-clean .kept .1 .1 .0
+  where
+    at-read-and-clean : tie.After-read-and-clean
+    at-read-and-clean = let c : tie.After-nexts = search in search
 
 same-length-3 : tie.Need-same-length-3
-same-length-3 c = search needs
+same-length-3 c = at-read-and-clean .read-and-clean .kept .1 .1 .1 .0
+  where
+    at-read-and-clean : tie.After-read-and-clean
+    at-read-and-clean = let c : tie.After-nexts = search in search
 
 same-length-4 : tie.Need-same-length-4
-same-length-4 c = search needs
+same-length-4 c = at-read-and-clean .read-and-clean .kept .1 .1 .1 .1 .0
+  where
+    at-read-and-clean : tie.After-read-and-clean
+    at-read-and-clean = let c : tie.After-nexts = search in search
 
 same-length-5 : tie.Need-same-length-5
-same-length-5 c = search needs
+same-length-5 c = at-read-and-clean .read-and-clean .kept .1 .1 .1 .1 .1 .0
+  where
+    at-read-and-clean : tie.After-read-and-clean
+    at-read-and-clean = let c : tie.After-nexts = search in search
 
 same-length-6 : tie.Need-same-length-6
-same-length-6 c = search needs
+same-length-6 c = at-read-and-clean .read-and-clean .kept .1 .1 .1 .1 .1 .1 .0
+  where
+    at-read-and-clean : tie.After-read-and-clean
+    at-read-and-clean = let c : tie.After-nexts = search in search
 
 same-length-7 : tie.Need-same-length-7
-same-length-7 c = search needs
+same-length-7 c = at-read-and-clean .read-and-clean .kept .1 .1 .1 .1 .1 .1 .1 .0
+  where
+    at-read-and-clean : tie.After-read-and-clean
+    at-read-and-clean = let c : tie.After-nexts = search in search
 
 same-length-8 : tie.Need-same-length-8
-same-length-8 c = search needs
+same-length-8 c = at-read-and-clean .read-and-clean .kept .1 .1 .1 .1 .1 .1 .1 .1 .0
+  where
+    at-read-and-clean : tie.After-read-and-clean
+    at-read-and-clean = let c : tie.After-nexts = search in search
 
 returns : tie.Need-returns
-returns c = paths-refused (at-read-and-clean .read-and-clean .ensures) _ _ (at-if1 .if1 .taken) (c .refuse .ensures)
+returns c =
+    paths-refused (at-read-and-clean .read-and-clean .ensures) _ _ (at-number .number .given .1) (c .refuse .ensures)
   where
-    at-if1 : tie.Then1
-    at-if1 = search
+    at-number : tie.After-number
+    at-number = search
 
     at-read-and-clean : tie.After-read-and-clean
-    at-read-and-clean = let c = at-if1 in let c : tie.After-p = search in search
+    at-read-and-clean = let c = at-number in let c : tie.After-heads = search in search
 
 send-record-requires : tie.Need-send-record-requires
 send-record-requires c κs =
     lent-sendable
     (start .pre .graph) 0
     (omega arith)
-    (at-read-and-clean .read-and-clean .ensures .holds (at-if1 .if1 .left))
+    (at-read-and-clean .read-and-clean .ensures .holds _ (at-held .held .given .1))
     (at-read-and-clean .read-and-clean .kept .1 .0)
     (at-read-and-clean .read-and-clean .kept .1 .1 .0)
     (at-read-and-clean .read-and-clean .kept .1 .1 .1 .0)
   where
-    at-if1 : tie.Else1
-    at-if1 = search
+    at-held : tie.After-held
+    at-held = search
 
     at-read-and-clean : tie.After-read-and-clean
-    at-read-and-clean = let c = at-if1 in let c : tie.After-p = search in search
+    at-read-and-clean = let c = at-held in let c : tie.After-heads = search in search
 
     start : tie.Start
     start = let c = at-read-and-clean in let c : tie.After-slice-known6 = search in search
@@ -77,50 +102,74 @@ same-length-9 : tie.Need-same-length-9
 same-length-9 c = search needs
 
 same-length-10 : tie.Need-same-length-10
-same-length-10 c = search needs
+same-length-10 c = at-read-and-clean .read-and-clean .kept .1 .0
+  where
+    at-read-and-clean : tie.After-read-and-clean
+    at-read-and-clean = let c : tie.At-match-keys1 = search in let c : tie.After-p = search in search
 
 same-length-11 : tie.Need-same-length-11
-same-length-11 c = search needs
+same-length-11 c = at-read-and-clean .read-and-clean .kept .1 .1 .0
+  where
+    at-read-and-clean : tie.After-read-and-clean
+    at-read-and-clean = let c : tie.At-match-keys1 = search in let c : tie.After-p = search in search
 
 same-length-12 : tie.Need-same-length-12
-same-length-12 c = search needs
+same-length-12 c = at-read-and-clean .read-and-clean .kept .1 .1 .1 .0
+  where
+    at-read-and-clean : tie.After-read-and-clean
+    at-read-and-clean = let c : tie.At-match-keys1 = search in let c : tie.After-p = search in search
 
 same-length-13 : tie.Need-same-length-13
-same-length-13 c = search needs
+same-length-13 c = at-read-and-clean .read-and-clean .kept .1 .1 .1 .1 .0
+  where
+    at-read-and-clean : tie.After-read-and-clean
+    at-read-and-clean = let c : tie.At-match-keys1 = search in let c : tie.After-p = search in search
 
 same-length-14 : tie.Need-same-length-14
-same-length-14 c = search needs
+same-length-14 c = at-read-and-clean .read-and-clean .kept .1 .1 .1 .1 .1 .0
+  where
+    at-read-and-clean : tie.After-read-and-clean
+    at-read-and-clean = let c : tie.At-match-keys1 = search in let c : tie.After-p = search in search
 
 same-length-15 : tie.Need-same-length-15
-same-length-15 c = search needs
+same-length-15 c = at-read-and-clean .read-and-clean .kept .1 .1 .1 .1 .1 .1 .0
+  where
+    at-read-and-clean : tie.After-read-and-clean
+    at-read-and-clean = let c : tie.At-match-keys1 = search in let c : tie.After-p = search in search
 
 same-length-16 : tie.Need-same-length-16
-same-length-16 c = search needs
+same-length-16 c = at-read-and-clean .read-and-clean .kept .1 .1 .1 .1 .1 .1 .1 .0
+  where
+    at-read-and-clean : tie.After-read-and-clean
+    at-read-and-clean = let c : tie.At-match-keys1 = search in let c : tie.After-p = search in search
 
 same-length-17 : tie.Need-same-length-17
-same-length-17 c = search needs
+same-length-17 c = at-read-and-clean .read-and-clean .kept .1 .1 .1 .1 .1 .1 .1 .1 .0
+  where
+    at-read-and-clean : tie.After-read-and-clean
+    at-read-and-clean = let c : tie.At-match-keys1 = search in let c : tie.After-p = search in search
 
 returns-2 : tie.Need-returns-2
 returns-2 c =
     paths-short
     (at-read-and-clean .read-and-clean .ensures) _
     (λ i. omega (arith, at-ssk .shared-slice-known .given i))
-    (at-if1 .if1 .left)
+    (at-held .held .given .1)
     (at-send-record .send-record .ensures)
-    (at-if2 .if2 .taken)
+    (at-if1 .if1 .taken)
     (c .refuse2 .ensures)
   where
-    at-if2 : tie.Then2
-    at-if2 = search
+    at-if1 : tie.Then1
+    at-if1 = search
 
     at-send-record : tie.After-send-record
-    at-send-record = let c = at-if2 in search
+    at-send-record = let c = at-if1 in search
 
-    at-if1 : tie.Else1
-    at-if1 = let c = at-send-record in search
+    at-held : tie.After-held
+    at-held = let c = at-send-record in search
 
     at-read-and-clean : tie.After-read-and-clean
-    at-read-and-clean = let c = at-if1 in let c : tie.After-p = search in search
+    at-read-and-clean = let c = at-held in let c : tie.After-heads = search in search
 
     at-ssk : tie.After-shared-slice-known
     at-ssk = let c = at-read-and-clean in let c : tie.After-slice-known6 = search in search
@@ -132,50 +181,74 @@ same-length-18 : tie.Need-same-length-18
 same-length-18 c = search needs
 
 same-length-19 : tie.Need-same-length-19
-same-length-19 c = search needs
+same-length-19 c = at-read-and-clean .read-and-clean .kept .1 .0
+  where
+    at-read-and-clean : tie.After-read-and-clean
+    at-read-and-clean = let c : tie.At-match-keys1 = search in let c : tie.After-p = search in search
 
 same-length-20 : tie.Need-same-length-20
-same-length-20 c = search needs
+same-length-20 c = at-read-and-clean .read-and-clean .kept .1 .1 .0
+  where
+    at-read-and-clean : tie.After-read-and-clean
+    at-read-and-clean = let c : tie.At-match-keys1 = search in let c : tie.After-p = search in search
 
 same-length-21 : tie.Need-same-length-21
-same-length-21 c = search needs
+same-length-21 c = at-read-and-clean .read-and-clean .kept .1 .1 .1 .0
+  where
+    at-read-and-clean : tie.After-read-and-clean
+    at-read-and-clean = let c : tie.At-match-keys1 = search in let c : tie.After-p = search in search
 
 same-length-22 : tie.Need-same-length-22
-same-length-22 c = search needs
+same-length-22 c = at-read-and-clean .read-and-clean .kept .1 .1 .1 .1 .0
+  where
+    at-read-and-clean : tie.After-read-and-clean
+    at-read-and-clean = let c : tie.At-match-keys1 = search in let c : tie.After-p = search in search
 
 same-length-23 : tie.Need-same-length-23
-same-length-23 c = search needs
+same-length-23 c = at-read-and-clean .read-and-clean .kept .1 .1 .1 .1 .1 .0
+  where
+    at-read-and-clean : tie.After-read-and-clean
+    at-read-and-clean = let c : tie.At-match-keys1 = search in let c : tie.After-p = search in search
 
 same-length-24 : tie.Need-same-length-24
-same-length-24 c = search needs
+same-length-24 c = at-read-and-clean .read-and-clean .kept .1 .1 .1 .1 .1 .1 .0
+  where
+    at-read-and-clean : tie.After-read-and-clean
+    at-read-and-clean = let c : tie.At-match-keys1 = search in let c : tie.After-p = search in search
 
 same-length-25 : tie.Need-same-length-25
-same-length-25 c = search needs
+same-length-25 c = at-read-and-clean .read-and-clean .kept .1 .1 .1 .1 .1 .1 .1 .0
+  where
+    at-read-and-clean : tie.After-read-and-clean
+    at-read-and-clean = let c : tie.At-match-keys1 = search in let c : tie.After-p = search in search
 
 same-length-26 : tie.Need-same-length-26
-same-length-26 c = search needs
+same-length-26 c = at-read-and-clean .read-and-clean .kept .1 .1 .1 .1 .1 .1 .1 .1 .0
+  where
+    at-read-and-clean : tie.After-read-and-clean
+    at-read-and-clean = let c : tie.At-match-keys1 = search in let c : tie.After-p = search in search
 
 returns-3 : tie.Need-returns-3
 returns-3 c =
     paths-accepted
     (at-read-and-clean .read-and-clean .ensures) _
     (λ i. omega (arith, at-ssk .shared-slice-known .given i))
-    (at-if1 .if1 .left)
+    (at-held .held .given .1)
     (at-send-record .send-record .ensures)
-    (at-if2 .if2 .left)
+    (at-if1 .if1 .left)
     (c .accept .ensures)
   where
-    at-if2 : tie.Else2
-    at-if2 = search
+    at-if1 : tie.Else1
+    at-if1 = search
 
     at-send-record : tie.After-send-record
-    at-send-record = let c = at-if2 in search
+    at-send-record = let c = at-if1 in search
 
-    at-if1 : tie.Else1
-    at-if1 = let c = at-send-record in search
+    at-held : tie.After-held
+    at-held = let c = at-send-record in search
 
     at-read-and-clean : tie.After-read-and-clean
-    at-read-and-clean = let c = at-if1 in let c : tie.After-p = search in search
+    at-read-and-clean = let c = at-held in let c : tie.After-heads = search in search
 
     at-ssk : tie.After-shared-slice-known
     at-ssk = let c = at-read-and-clean in let c : tie.After-slice-known6 = search in search
@@ -185,6 +258,8 @@ clean-non-ref-paths-in-spec =
     tie.close
     (tie.spec
     read-and-clean-requires
+    (λ c. search needs)
+    (λ c. search needs)
     refuse-requires
     same-length
     same-length-2

@@ -37,16 +37,20 @@ same-length-7 : tie.Need-same-length-7
 same-length-7 c = search needs
 
 returns : tie.Need-returns
-returns c =
-    let at-rsg : tie.After-read-sequence-graph = let c : tie.After-p = search in search in
-    made-refused (at-rsg .read-sequence-graph .ensures) (c .if1 .taken)
+returns c = made-refused (at-rsg .read-sequence-graph .ensures) (at-number .number .given .1)
+  where
+    at-number : tie.After-number
+    at-number = search
+
+    at-rsg : tie.After-read-sequence-graph
+    at-rsg = let c = at-number in let c : tie.After-p = search in search
 
 clean-non-ref-paths-requires : tie.Need-clean-non-ref-paths-requires
 clean-non-ref-paths-requires c κs =
     lent-walkable
     (start .pre)
     (at-rsg .read-sequence-graph .ensures)
-    (at-if1 .if1 .left)
+    (at-held .held .given .1)
     (at-rsg .read-sequence-graph .kept .1 .0)
     (at-rsg .read-sequence-graph .kept .1 .1 .0)
     (at-rsg .read-sequence-graph .kept .1 .1 .1 .0)
@@ -55,11 +59,11 @@ clean-non-ref-paths-requires c κs =
     (at-rsg .read-sequence-graph .kept .1 .1 .1 .1 .1 .1 .0)
     (at-rsg .read-sequence-graph .kept .1 .1 .1 .1 .1 .1 .1 .0)
   where
-    at-if1 : tie.Else1
-    at-if1 = search
+    at-held : tie.After-held
+    at-held = search
 
     at-rsg : tie.After-read-sequence-graph
-    at-rsg = let c = at-if1 in let c : tie.After-p = search in search
+    at-rsg = let c = at-held in let c : tie.After-p = search in search
 
     start : tie.Start
     start = let c = at-rsg in let c : tie.After-slice-known4 = search in search
@@ -83,13 +87,29 @@ same-length-9 c = at-cnrp .clean-non-ref-paths .kept .1 .1 .0 ∙ at-rsg .read-s
     at-rsg = let c = at-cnrp in let c : tie.After-map = search in let c : tie.After-es = search in search
 
 same-length-10 : tie.Need-same-length-10
-same-length-10 c = search needs
+same-length-10 c = at-rsg .read-sequence-graph .kept .1 .1 .1 .0
+  where
+    at-rsg : tie.After-read-sequence-graph
+    at-rsg = let c : tie.After-vs2 = search in let c : tie.After-held = search in let c : tie.After-p = search in search
 
 same-length-11 : tie.Need-same-length-11
-same-length-11 c = search needs
+same-length-11 c = at-cnrp .clean-non-ref-paths .kept .1 .1 .1 .0 ∙ at-rsg .read-sequence-graph .kept .1 .1 .1 .1 .0
+  where
+    at-cnrp : tie.After-clean-non-ref-paths
+    at-cnrp = let c : tie.After-vs2 = search in search
+
+    at-rsg : tie.After-read-sequence-graph
+    at-rsg = let c = at-cnrp in let c : tie.After-map = search in let c : tie.After-es = search in search
 
 same-length-12 : tie.Need-same-length-12
-same-length-12 c = search needs
+same-length-12 c =
+    at-cnrp .clean-non-ref-paths .kept .1 .1 .1 .1 .0 ∙ at-rsg .read-sequence-graph .kept .1 .1 .1 .1 .1 .0
+  where
+    at-cnrp : tie.After-clean-non-ref-paths
+    at-cnrp = let c : tie.After-vs2 = search in search
+
+    at-rsg : tie.After-read-sequence-graph
+    at-rsg = let c = at-cnrp in let c : tie.After-map = search in let c : tie.After-es = search in search
 
 same-length-13 : tie.Need-same-length-13
 same-length-13 c = search needs
@@ -105,17 +125,17 @@ returns-2 c =
     made-whole
     (at-rsg .read-sequence-graph .ensures)
     (lent-read (start .pre .graph) .1)
-    (at-if1 .if1 .left)
+    (at-held .held .given .1)
     (at-cnrp .clean-non-ref-paths .ensures)
   where
     at-cnrp : tie.After-clean-non-ref-paths
     at-cnrp = let c : tie.After-vs2 = search in search
 
-    at-if1 : tie.Else1
-    at-if1 = let c = at-cnrp in search
+    at-held : tie.After-held
+    at-held = let c = at-cnrp in search
 
     at-rsg : tie.After-read-sequence-graph
-    at-rsg = let c = at-if1 in let c : tie.After-p = search in search
+    at-rsg = let c = at-held in let c : tie.After-p = search in search
 
     start : tie.Start
     start = let c = at-rsg in let c : tie.After-slice-known4 = search in search
@@ -125,6 +145,8 @@ read-and-clean-spec =
     tie.close
     (tie.spec
     read-sequence-graph-requires
+    (λ c. search needs)
+    (λ c. search needs)
     same-length
     same-length-2
     same-length-3

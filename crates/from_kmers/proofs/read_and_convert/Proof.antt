@@ -31,10 +31,13 @@ same-length-8 c =
     at-read-kmer-graph .read-kmer-graph .kept .1 .1 .1 .1 .1 .1 .1 .1 .0
 
 returns : tie.Need-returns
-returns c = refused (start .pre) (at-read-kmer-graph .read-kmer-graph .ensures) (c .if1 .taken) refl
+returns c = refused (start .pre) (at-read-kmer-graph .read-kmer-graph .ensures) (at-number .number .given .1)
   where
+    at-number : tie.After-number
+    at-number = search
+
     at-read-kmer-graph : tie.After-read-kmer-graph
-    at-read-kmer-graph = let c : tie.After-heads = search in search
+    at-read-kmer-graph = let c = at-number in let c : tie.After-heads = search in search
 
     start : tie.Start
     start = let c = at-read-kmer-graph in let c : tie.After-slice-known6 = search in search
@@ -44,33 +47,33 @@ edges-sorted-requires c κs =
     convertible
     (start .pre)
     (at-read-kmer-graph .read-kmer-graph .ensures)
-    (at-if1 .if1 .left)
+    (at-held .held .given .1)
     (at-read-kmer-graph .read-kmer-graph .kept .1 .0)
     (at-read-kmer-graph .read-kmer-graph .kept .1 .1 .1 .1 .1 .1 .0)
     (at-read-kmer-graph .read-kmer-graph .kept .1 .1 .1 .1 .1 .1 .1 .0)
     (at-read-kmer-graph .read-kmer-graph .kept .1 .1 .1 .1 .1 .1 .1 .1 .0)
   where
-    at-if1 : tie.Else1
-    at-if1 = search
+    at-held : tie.After-held
+    at-held = search
 
     at-read-kmer-graph : tie.After-read-kmer-graph
-    at-read-kmer-graph = let c = at-if1 in let c : tie.After-heads = search in search
+    at-read-kmer-graph = let c = at-held in let c : tie.After-heads = search in search
 
     start : tie.Start
     start = let c = at-read-kmer-graph in let c : tie.After-slice-known6 = search in search
 
 additional-sequences-requires : tie.Need-additional-sequences-requires
 additional-sequences-requires c κs = (
-  trimmable (start .pre) (at-read-kmer-graph .read-kmer-graph .ensures) (at-if1 .if1 .left)
+  trimmable (start .pre) (at-read-kmer-graph .read-kmer-graph .ensures) (at-held .held .given .1)
       (at-read-kmer-graph .read-kmer-graph .kept .1 .1 .0),
-  at-read-kmer-graph .read-kmer-graph .ensures .holds (at-if1 .if1 .left) .indexed,
+  at-read-kmer-graph .read-kmer-graph .ensures .holds _ (at-held .held .given .1) .indexed,
 )
   where
-    at-if1 : tie.Else1
-    at-if1 = let c : tie.After-edges-sorted = search in search
+    at-held : tie.After-held
+    at-held = let c : tie.After-edges-sorted = search in search
 
     at-read-kmer-graph : tie.After-read-kmer-graph
-    at-read-kmer-graph = let c = at-if1 in let c : tie.After-heads = search in search
+    at-read-kmer-graph = let c = at-held in let c : tie.After-heads = search in search
 
     start : tie.Start
     start = let c = at-read-kmer-graph in let c : tie.After-slice-known6 = search in search
@@ -80,7 +83,7 @@ sequence-bytes-requires c κs =
     countable
     (start .pre)
     (at-read-kmer-graph .read-kmer-graph .ensures)
-    (at-if1 .if1 .left)
+    (at-held .held .given .1)
     (at-as .additional-sequences .ensures)
     (at-as .additional-sequences .kept .1 .1 .1 .1 .1 .0)
     (at-read-kmer-graph .read-kmer-graph .kept .1 .1 .0)
@@ -88,11 +91,11 @@ sequence-bytes-requires c κs =
     at-as : tie.After-additional-sequences
     at-as = search
 
-    at-if1 : tie.Else1
-    at-if1 = let c = at-as in let c : tie.After-order2 = search in search
+    at-held : tie.After-held
+    at-held = let c = at-as in let c : tie.After-order2 = search in search
 
     at-read-kmer-graph : tie.After-read-kmer-graph
-    at-read-kmer-graph = let c = at-if1 in let c : tie.After-heads = search in search
+    at-read-kmer-graph = let c = at-held in let c : tie.After-heads = search in search
 
     start : tie.Start
     start = let c = at-read-kmer-graph in let c : tie.After-slice-known6 = search in search
@@ -119,8 +122,8 @@ same-length-10 c =
     at-read-kmer-graph =
         let c = at-as in
         let c : tie.After-order2 = search in
-        let c : tie.After-scratch = search in
-        let c : tie.After-es = search in
+        let c : tie.After-place = search in
+        let c : tie.After-vs = search in
         search
 
 same-length-11 : tie.Need-same-length-11
@@ -199,11 +202,11 @@ returns-2 c =
     over
     (start .pre)
     (at-read-kmer-graph .read-kmer-graph .ensures)
-    (at-if1 .if1 .left)
+    (at-held .held .given .1)
     (at-as .additional-sequences .ensures)
     (at-edges-sorted .edges-sorted .ensures)
     (at-sequence-bytes .sequence-bytes .ensures)
-    (c .if2 .taken) refl
+    (c .if1 .taken)
   where
     at-sequence-bytes : tie.After-sequence-bytes
     at-sequence-bytes = search
@@ -214,11 +217,11 @@ returns-2 c =
     at-edges-sorted : tie.After-edges-sorted
     at-edges-sorted = let c = at-as in let c : tie.After-order2 = search in search
 
-    at-if1 : tie.Else1
-    at-if1 = let c = at-edges-sorted in search
+    at-held : tie.After-held
+    at-held = let c = at-edges-sorted in search
 
     at-read-kmer-graph : tie.After-read-kmer-graph
-    at-read-kmer-graph = let c = at-if1 in let c : tie.After-heads = search in search
+    at-read-kmer-graph = let c = at-held in let c : tie.After-heads = search in search
 
     start : tie.Start
     start = let c = at-read-kmer-graph in let c : tie.After-slice-known6 = search in search
@@ -245,8 +248,8 @@ same-length-19 c =
     at-read-kmer-graph =
         let c = at-as in
         let c : tie.After-order2 = search in
-        let c : tie.After-scratch = search in
-        let c : tie.After-es = search in
+        let c : tie.After-place = search in
+        let c : tie.After-vs = search in
         search
 
 same-length-20 : tie.Need-same-length-20
@@ -325,11 +328,11 @@ returns-3 c =
     done
     (start .pre)
     (at-read-kmer-graph .read-kmer-graph .ensures)
-    (at-if1 .if1 .left)
+    (at-held .held .given .1)
     (at-as .additional-sequences .ensures)
     (at-edges-sorted .edges-sorted .ensures)
     (at-sequence-bytes .sequence-bytes .ensures)
-    (c .if2 .left)
+    (c .if1 .left)
     (at-as .additional-sequences .kept .1 .1 .1 .1 .1 .0)
     (at-read-kmer-graph .read-kmer-graph .kept .1 .1 .0)
     (at-edges-sorted .edges-sorted .kept .1 .1 .1 .1 .1 .1 .0)
@@ -343,11 +346,11 @@ returns-3 c =
     at-edges-sorted : tie.After-edges-sorted
     at-edges-sorted = let c = at-as in let c : tie.After-order2 = search in search
 
-    at-if1 : tie.Else1
-    at-if1 = let c = at-edges-sorted in search
+    at-held : tie.After-held
+    at-held = let c = at-edges-sorted in search
 
     at-read-kmer-graph : tie.After-read-kmer-graph
-    at-read-kmer-graph = let c = at-if1 in let c : tie.After-heads = search in search
+    at-read-kmer-graph = let c = at-held in let c : tie.After-heads = search in search
 
     start : tie.Start
     start = let c = at-read-kmer-graph in let c : tie.After-slice-known6 = search in search
@@ -372,6 +375,8 @@ read-and-convert-spec =
     tie.close
     (tie.spec
     (λ c κs. search needs)
+    (λ c. search needs)
+    (λ c. search needs)
     same-length
     same-length-2
     same-length-3

@@ -11,12 +11,12 @@ load-bytes-requires : tie.Need-load-bytes-requires
 load-bytes-requires c κs = (
   omega (
     arith,
-    length-is _ (start .pre .good),
+    length-is _ (start .pre .1 .good),
     at-vertex-count .vertex-count .ensures .0,
     at-edge-count .edge-count .ensures .0,
     at-byte-count .byte-count .ensures .0,
   ),
-  omega (arith, start .pre .p-room, at-byte-count .byte-count .ensures .0),
+  omega (arith, start .pre .1 .p-room, at-byte-count .byte-count .ensures .0),
 )
   where
     at-byte-count : tie.After-byte-count
@@ -34,12 +34,12 @@ load-bytes-requires c κs = (
 returns : tie.Need-returns
 returns c =
     loaded
-    (start .pre .good)
-    (c .kmer-size .ensures)
+    (start .pre .1 .good)
+    (start .pre .0)
     (at-vertex-count .vertex-count .ensures .0)
     (at-edge-count .edge-count .ensures .0)
     (at-byte-count .byte-count .ensures .0) refl
-    (omega (arith, start .pre .p-room, at-load-bytes .load-bytes .kept))
+    (omega (arith, start .pre .1 .p-room, at-load-bytes .load-bytes .kept))
     (at-load-edges .load-edges .ensures)
     (at-load-vertices .load-vertices .ensures)
     (at-load-bytes .load-bytes .ensures)
@@ -69,9 +69,9 @@ pub load-graph-spec : {M : Type 1} → statement M
 load-graph-spec =
     tie.close
     (tie.spec
-    (λ c κs. let start : tie.Start = search in omega (arith, length-is _ (start .pre .good)))
-    (λ c κs. let start : tie.Start = search in omega (arith, length-is _ (start .pre .good)))
-    (λ c κs. let start : tie.Start = search in omega (arith, length-is _ (start .pre .good)))
+    (λ c κs. let start : tie.Start = search in omega (arith, length-is _ (start .pre .1 .good)))
+    (λ c κs. let start : tie.Start = search in omega (arith, length-is _ (start .pre .1 .good)))
+    (λ c κs. let start : tie.Start = search in omega (arith, length-is _ (start .pre .1 .good)))
     (λ c κs. search needs)
     (λ c κs. search needs)
     (λ c. search needs)
@@ -79,7 +79,6 @@ load-graph-spec =
     (λ c. search needs)
     (λ c. search needs)
     load-bytes-requires
-    (λ c κs. search needs)
     (λ c. search needs)
     (λ c. search needs)
     (λ c. search needs)

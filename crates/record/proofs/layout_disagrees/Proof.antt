@@ -36,11 +36,11 @@ other-kmer-length-requires c κs =
     let at-vertex-count : tie.After-vertex-count = search in
     let at-if1 : tie.Else1 = search in
     let at-offsets-disagree : tie.After-offsets-disagree = search in
-    let start : tie.Start = search in
-    lengths-inside
-    (start .args .rec .now)
-    (sym (at-offsets-disagree .offsets-disagree .ensures) ∙ at-if1 .if1 .left)
-    (at-vertex-count .vertex-count .ensures .0)
+    let start : tie.Start = search in (
+      start .pre .0,
+      lengths-inside (start .args .rec .now) (sym (at-offsets-disagree .offsets-disagree .ensures) ∙ at-if1 .if1 .left)
+          (at-vertex-count .vertex-count .ensures .0),
+    )
 
 returns-3 : tie.Need-returns-3
 returns-3 c =

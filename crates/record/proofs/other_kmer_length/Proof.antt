@@ -6,36 +6,37 @@ use Rattle.record.specs.Layout.{otherKmerLength}
 use Rattle.record.proofs.TurnLaws.{any-start, any-turn, any-found, any-none}
 use Rattle.record.proofs.Tests.{length-other, length-k}
 use native.Mathlib.Omega.{arith}
+use borrow.Author.Needs.{needs}
 use Rattle.record.proofs.other_kmer_length.Statement.{statement}
 use Rattle.record.proofs.other_kmer_length.Tie as tie
 
 abbrev Inv-loop : tie.InvT-loop
-Inv-loop rec v k i₀ i = (i ≤ v) × (anyOf (otherKmerLength rec) (upFrom i (v - i)) ≡ anyOf (otherKmerLength rec) (upFrom 0 v))
+Inv-loop rec v size i₀ i = (i ≤ v) × (anyOf (otherKmerLength rec) (upFrom i (v - i)) ≡ anyOf (otherKmerLength rec) (upFrom 0 v))
 
 abbrev μ-loop : tie.MeasureT-loop
-μ-loop rec v k i₀ i = v - i
+μ-loop rec v size i₀ i = v - i
 
 returns : tie.Need-returns Inv-loop μ-loop
 returns c =
     let at-length-at : tie.After-length-at Inv-loop μ-loop = search in
     let at-loop-test : tie.In-loop Inv-loop μ-loop = search in
     let at-loop : tie.At-loop Inv-loop μ-loop = search in
-    let at-u16-at : tie.After-u16-at Inv-loop μ-loop = search in
+    let at-value : tie.After-value Inv-loop μ-loop = search in
     let start : tie.Start Inv-loop μ-loop = search in
     sym
     (any-found (otherKmerLength (start .args .rec .now)) (at-loop .loop .i) (start .args .v)
     (at-loop-test .loop-test .taken)
     (length-other (start .args .rec .now) (at-loop .loop .i) (at-length-at .length-at .result)
-    (at-u16-at .u16-at .result) (at-length-at .length-at .ensures .0) (at-u16-at .u16-at .ensures) (c .if1 .taken)))
-    ∙ at-loop .loop .inv .1
+    (at-value .value .result) (at-length-at .length-at .ensures .0) (at-value .value .ensures ∙ start .pre .0)
+    (c .if1 .taken))) ∙ at-loop .loop .inv .1
 
 loop-again : tie.Need-loop-again Inv-loop μ-loop
 loop-again c = (
   omega arith,
   sym (any-turn (otherKmerLength (start .args .rec .now)) (at-loop .loop .i) (start .args .v)
       (at-loop-test .loop-test .taken)
-      (length-k (start .args .rec .now) (at-loop .loop .i) (at-length-at .length-at .result) (at-u16-at .u16-at .result)
-      (at-length-at .length-at .ensures .0) (at-u16-at .u16-at .ensures) (c .if1 .left)))
+      (length-k (start .args .rec .now) (at-loop .loop .i) (at-length-at .length-at .result) (at-value .value .result)
+      (at-length-at .length-at .ensures .0) (at-value .value .ensures ∙ start .pre .0) (c .if1 .left)))
       ∙ at-loop .loop .inv .1,
 )
   where
@@ -48,11 +49,11 @@ loop-again c = (
     at-loop : tie.At-loop Inv-loop μ-loop
     at-loop = let c = at-loop-test in search
 
-    at-u16-at : tie.After-u16-at Inv-loop μ-loop
-    at-u16-at = let c = at-loop in search
+    at-value : tie.After-value Inv-loop μ-loop
+    at-value = let c = at-loop in search
 
     start : tie.Start Inv-loop μ-loop
-    start = let c = at-u16-at in search
+    start = let c = at-value in search
 
 returns-2 : tie.Need-returns-2 Inv-loop μ-loop
 returns-2 c =
@@ -73,7 +74,7 @@ other-kmer-length-spec =
     (tie.spec
     Inv-loop
     μ-loop
-    (λ c κs. omega arith)
+    (λ c κs. search needs)
     (λ c. omega arith)
     loop-holds
     (λ c. omega arith)

@@ -6,57 +6,91 @@ use Rattle.show.proofs.put_answer.Tie as tie
 
 returns-2 : tie.Need-returns-2
 returns-2 c =
-    let at-put-refusal2 : tie.After-put-refusal2 = search in
-    let at-if2 : tie.Then2 = search in
-    let at-record-length : tie.After-record-length = search in
-    let at-if1 : tie.Else1 = search in
-    let start : tie.Start = search in
     answer-over
     (start .pre)
-    (at-if1 .if1 .left)
+    (at-made .made .given .1)
     (at-record-length .record-length .ensures)
-    (at-if2 .if2 .taken)
+    (at-if1 .if1 .taken)
     (at-put-refusal2 .put-refusal2 .ensures)
+  where
+    at-put-refusal2 : tie.After-put-refusal2
+    at-put-refusal2 = search
+
+    at-if1 : tie.Then1
+    at-if1 = let c = at-put-refusal2 in search
+
+    at-record-length : tie.After-record-length
+    at-record-length = let c = at-if1 in search
+
+    at-made : tie.After-made
+    at-made = let c = at-record-length in search
+
+    start : tie.Start
+    start = let c = at-made in search
 
 put-graph-requires : tie.Need-put-graph-requires
 put-graph-requires c κs =
-    let at-if2 : tie.Else2 = search in
-    let at-record-length : tie.After-record-length = search in
-    let at-if1 : tie.Else1 = search in
-    let start : tie.Start = search in
-    answer-printable (start .pre) (at-if1 .if1 .left) (at-record-length .record-length .ensures) (at-if2 .if2 .left)
+    answer-printable
+    (start .pre)
+    (at-made .made .given .1)
+    (at-record-length .record-length .ensures)
+    (at-if1 .if1 .left)
+  where
+    at-if1 : tie.Else1
+    at-if1 = search
+
+    at-record-length : tie.After-record-length
+    at-record-length = let c = at-if1 in search
+
+    at-made : tie.After-made
+    at-made = let c = at-record-length in search
+
+    start : tie.Start
+    start = let c = at-made in search
 
 returns-3 : tie.Need-returns-3
 returns-3 c =
-    let at-put-graph : tie.After-put-graph = search in
-    let at-if2 : tie.Else2 = search in
-    let at-record-length : tie.After-record-length = search in
-    let at-if1 : tie.Else1 = search in
-    let start : tie.Start = search in
     answer-graph
     (start .pre)
-    (at-if1 .if1 .left)
+    (at-made .made .given .1)
     (at-record-length .record-length .ensures)
-    (at-if2 .if2 .left)
+    (at-if1 .if1 .left)
     (at-put-graph .put-graph .ensures)
+  where
+    at-put-graph : tie.After-put-graph
+    at-put-graph = search
+
+    at-if1 : tie.Else1
+    at-if1 = let c = at-put-graph in search
+
+    at-record-length : tie.After-record-length
+    at-record-length = let c = at-if1 in search
+
+    at-made : tie.After-made
+    at-made = let c = at-record-length in search
+
+    start : tie.Start
+    start = let c = at-made in search
 
 returns : tie.Need-returns
 returns c =
     let at-put-refusal : tie.After-put-refusal = search in
-    let at-if1 : tie.Then1 = search in
+    let at-made2 : tie.After-made2 = search in
     let start : tie.Start = search in
-    answer-refused (start .pre) (at-if1 .if1 .taken) (at-put-refusal .put-refusal .ensures)
+    answer-refused (start .pre) (at-made2 .made2 .given .1) (at-put-refusal .put-refusal .ensures)
 
 record-length-requires : tie.Need-record-length-requires
 record-length-requires c κs =
-    let at-if1 : tie.Else1 = search in
+    let at-made : tie.After-made = search in
     let start : tie.Start = search in
-    answer-measured (start .pre) (at-if1 .if1 .left)
+    answer-measured (start .pre) (at-made .made .given .1)
 
 pub put-answer-spec : {M : Type 1} → statement M
 put-answer-spec =
     tie.close
     (tie.spec
+    (λ c. search needs)
+    (λ c. search needs)
     (λ c κs. search needs)
     (λ c. search needs)
     returns

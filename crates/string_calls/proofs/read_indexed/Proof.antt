@@ -20,18 +20,18 @@ build-index-requires : tie.Need-build-index-requires
 build-index-requires c κs =
     told-indexable
     (start .pre)
-    (at-rsg .read-sequence-graph .ensures .holds (at-if1 .if1 .taken))
+    (at-rsg .read-sequence-graph .ensures .holds _ (at-held .held .given .1))
     (at-rsg .read-sequence-graph .kept .1 .0)
     (at-rsg .read-sequence-graph .kept .1 .1 .0)
     (at-rsg .read-sequence-graph .kept .1 .1 .1 .0)
     (at-rsg .read-sequence-graph .kept .1 .1 .1 .1 .0)
     (at-rsg .read-sequence-graph .kept .1 .1 .1 .1 .1 .0)
   where
-    at-if1 : tie.Then1
-    at-if1 = search
+    at-held : tie.After-held
+    at-held = search
 
     at-rsg : tie.After-read-sequence-graph
-    at-rsg = let c = at-if1 in let c : tie.After-p = search in search
+    at-rsg = let c = at-held in let c : tie.After-p = search in search
 
     start : tie.Start
     start = let c = at-rsg in let c : tie.After-slice-known3 = search in search
@@ -57,14 +57,18 @@ same-length-6 c = search needs
 same-length-7 : tie.Need-same-length-7
 same-length-7 c = search needs
 
-returns : tie.Need-returns
-returns c = read-indexed (at-rsg .read-sequence-graph .ensures) (at-build-index .build-index .ensures)
+returns-2 : tie.Need-returns-2
+returns-2 c =
+    read-indexed (at-rsg .read-sequence-graph .ensures) (at-held .held .given .1) (at-build-index .build-index .ensures)
   where
     at-build-index : tie.After-build-index
     at-build-index = search
 
+    at-held : tie.After-held
+    at-held = let c = at-build-index in search
+
     at-rsg : tie.After-read-sequence-graph
-    at-rsg = let c = at-build-index in let c : tie.After-nexts = search in search
+    at-rsg = let c = at-held in let c : tie.After-p = search in search
 
 same-length-8 : tie.Need-same-length-8
 same-length-8 c = search needs
@@ -87,17 +91,22 @@ same-length-13 c = search needs
 same-length-14 : tie.Need-same-length-14
 same-length-14 c = search needs
 
-returns-2 : tie.Need-returns-2
-returns-2 c =
-    let at-rsg : tie.After-read-sequence-graph = let c : tie.After-p = search in search in
-    read-other (at-rsg .read-sequence-graph .ensures) (c .if1 .left)
+returns : tie.Need-returns
+returns c = read-other (at-rsg .read-sequence-graph .ensures) (at-number .number .given .1)
+  where
+    at-number : tie.After-number
+    at-number = search
+
+    at-rsg : tie.After-read-sequence-graph
+    at-rsg = let c = at-number in let c : tie.After-p = search in search
 
 pub read-indexed-spec : {M : Type 1} → statement M
 read-indexed-spec =
     tie.close
     (tie.spec
     read-sequence-graph-requires
-    build-index-requires
+    (λ c. search needs)
+    (λ c. search needs)
     same-length
     same-length-2
     same-length-3
@@ -106,6 +115,7 @@ read-indexed-spec =
     same-length-6
     same-length-7
     returns
+    build-index-requires
     same-length-8
     same-length-9
     same-length-10

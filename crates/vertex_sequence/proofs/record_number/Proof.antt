@@ -3,7 +3,8 @@ use native.Mathlib.Omega.{arith}
 use mathlib.Core.Path.{refl}
 use Rattle.vertex_sequence.proofs.VertexLaws.{
   number-early,
-  layout-zero,
+  layout-none,
+  layout-size,
   long-enough,
   number-loadable,
   number-indexable,
@@ -17,84 +18,87 @@ use Rattle.vertex_sequence.proofs.record_number.Reads as reads
 use Rattle.vertex_sequence.proofs.record_number.Lts as lts
 use Rattle.index.proofs.build_index.Reads as build-index-reads
 use Rattle.load.proofs.load_graph.Reads as load-graph-reads
-use Rattle.record.proofs.layout_refusal.Reads as layout-refusal-reads
+use Rattle.record.proofs.check_layout.Reads as check-layout-reads
 use Rattle.vertex_sequence.proofs.graph_number.Reads as graph-number-reads
 
-layout-refusal-requires : tie.Need-layout-refusal-requires
-layout-refusal-requires c κs = search needs
+check-layout-requires : tie.Need-check-layout-requires
+check-layout-requires c κs = search needs
 
 returns : tie.Need-returns
-returns c = number-early (start .args .rec .now) (at-layout-refusal .layout-refusal .ensures) (c .if1 .taken)
+returns c = number-early (start .args .rec .now) (at-check-layout .check-layout .ensures) (at-number .number .given .1)
   where
-    at-layout-refusal : tie.After-layout-refusal
-    at-layout-refusal = search
+    at-number : tie.After-number
+    at-number = search
+
+    at-check-layout : tie.After-check-layout
+    at-check-layout = let c = at-number in search
 
     start : tie.Start
-    start = let c = at-layout-refusal in search
+    start = let c = at-check-layout in search
 
 load-graph-requires : tie.Need-load-graph-requires
-load-graph-requires c κs =
-    number-loadable
-    (start .args .rec .now)
-    (layout-zero (start .args .rec .now) (at-layout-refusal .layout-refusal .ensures) (at-if1 .if1 .left))
-    (start .pre)
+load-graph-requires c κs = (
+  layout-size (start .args .rec .now) (at-check-layout .check-layout .ensures) (at-k .k .given .1),
+  number-loadable (start .args .rec .now)
+      (layout-none (start .args .rec .now) (at-check-layout .check-layout .ensures) (at-k .k .given .1)) (start .pre),
+)
   where
-    at-if1 : tie.Else1
-    at-if1 = search
+    at-k : tie.After-k
+    at-k = search
 
-    at-layout-refusal : tie.After-layout-refusal
-    at-layout-refusal = let c = at-if1 in search
+    at-check-layout : tie.After-check-layout
+    at-check-layout = let c = at-k in search
 
     start : tie.Start
-    start = let c = at-layout-refusal in search
+    start = let c = at-check-layout in search
 
 build-index-requires : tie.Need-build-index-requires
 build-index-requires c κs =
     number-indexable
     (start .args .rec .now)
-    (layout-zero (start .args .rec .now) (at-layout-refusal .layout-refusal .ensures) (at-if1 .if1 .left))
+    (layout-none (start .args .rec .now) (at-check-layout .check-layout .ensures) (at-k .k .given .1))
     (start .pre)
     (at-load-graph .load-graph .ensures)
-    (at-load-graph .load-graph .kept .1 .0)
+    (at-load-graph .load-graph .kept .1 .1 .0)
   where
     at-load-graph : tie.After-load-graph
     at-load-graph = search
 
-    at-if1 : tie.Else1
-    at-if1 = let c = at-load-graph in search
+    at-k : tie.After-k
+    at-k = let c = at-load-graph in search
 
-    at-layout-refusal : tie.After-layout-refusal
-    at-layout-refusal = let c = at-if1 in search
+    at-check-layout : tie.After-check-layout
+    at-check-layout = let c = at-k in search
 
     start : tie.Start
-    start = let c = at-layout-refusal in search
+    start = let c = at-check-layout in search
 
 shared-slice-read-graph-number : tie.Need-shared-slice-read-graph-number
 shared-slice-read-graph-number c =
     omega (
       arith,
       long-enough (start .args .rec .now)
-          (layout-zero (start .args .rec .now) (at-layout-refusal .layout-refusal .ensures) (at-if1 .if1 .left)),
+          (layout-none (start .args .rec .now) (at-check-layout .check-layout .ensures) (at-k .k .given .1)),
     )
   where
-    at-if1 : tie.Else1
-    at-if1 = let c : tie.After-vs = search in search
+    at-k : tie.After-k
+    at-k = let c : tie.After-vs = search in search
 
-    at-layout-refusal : tie.After-layout-refusal
-    at-layout-refusal = let c = at-if1 in search
+    at-check-layout : tie.After-check-layout
+    at-check-layout = let c = at-k in search
 
     start : tie.Start
-    start = let c = at-layout-refusal in search
+    start = let c = at-check-layout in search
 
 graph-number-requires : tie.Need-graph-number-requires
 graph-number-requires c κs =
     number-checkable
     (start .args .rec .now)
-    (layout-zero (start .args .rec .now) (at-layout-refusal .layout-refusal .ensures) (at-if1 .if1 .left))
+    (layout-none (start .args .rec .now) (at-check-layout .check-layout .ensures) (at-k .k .given .1))
     (start .pre)
     (at-load-graph .load-graph .ensures)
-    (at-load-graph .load-graph .kept .1 .1 .0)
     (at-load-graph .load-graph .kept .1 .1 .1 .0)
+    (at-load-graph .load-graph .kept .1 .1 .1 .1 .0)
     (at-build-index .build-index .ensures)
   where
     at-build-index : tie.After-build-index
@@ -103,14 +107,14 @@ graph-number-requires c κs =
     at-load-graph : tie.After-load-graph
     at-load-graph = let c = at-build-index in search
 
-    at-if1 : tie.Else1
-    at-if1 = let c = at-load-graph in search
+    at-k : tie.After-k
+    at-k = let c = at-load-graph in search
 
-    at-layout-refusal : tie.After-layout-refusal
-    at-layout-refusal = let c = at-if1 in search
+    at-check-layout : tie.After-check-layout
+    at-check-layout = let c = at-k in search
 
     start : tie.Start
-    start = let c = at-layout-refusal in search
+    start = let c = at-check-layout in search
 
 same-length : tie.Need-same-length
 same-length c = search needs
@@ -140,7 +144,7 @@ returns-2 : tie.Need-returns-2
 returns-2 c =
     number-late
     (start .args .rec .now)
-    (layout-zero (start .args .rec .now) (at-layout-refusal .layout-refusal .ensures) (at-if1 .if1 .left))
+    (layout-none (start .args .rec .now) (at-check-layout .check-layout .ensures) (at-k .k .given .1))
     (at-load-graph .load-graph .ensures) refl
     (at-graph-number .graph-number .ensures)
   where
@@ -150,20 +154,22 @@ returns-2 c =
     at-load-graph : tie.After-load-graph
     at-load-graph = let c = at-graph-number in let c : tie.After-nexts = search in let c : tie.After-es = search in search
 
-    at-if1 : tie.Else1
-    at-if1 = let c = at-load-graph in search
+    at-k : tie.After-k
+    at-k = let c = at-load-graph in search
 
-    at-layout-refusal : tie.After-layout-refusal
-    at-layout-refusal = let c = at-if1 in search
+    at-check-layout : tie.After-check-layout
+    at-check-layout = let c = at-k in search
 
     start : tie.Start
-    start = let c = at-layout-refusal in search
+    start = let c = at-check-layout in search
 
 pub record-number-spec : {M : Type 1} → statement M
 record-number-spec =
     tie.close
     (tie.spec
-    layout-refusal-requires
+    check-layout-requires
+    (λ c. search needs)
+    (λ c. search needs)
     returns
     load-graph-requires
     build-index-requires
