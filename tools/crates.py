@@ -1,12 +1,13 @@
 #!/usr/bin/env python3
 """Keeps crates.txt exact, and draws the floors from it.
 
-    tools/crates.py check     each line lists the crates that its crate names, and no other; imports go down the floors;
-                              docs/WORKING.md has the drawing
-    tools/crates.py fix       write the lists, and the drawing, as they have to be
+    tools/crates.py check     each line lists the crates that its crate names, and no other; imports go down the floors; the drawing in
+                              docs/WORKING.md and the table in README.md are those of crates.txt
+    tools/crates.py fix       write the lists, the drawing and the table as they have to be
     tools/crates.py draw      print the drawing
 
-A crate names another in `use` and `ghost use`, in a path of its code, or in a file of specs/ or proofs/. In crates.txt a line
+A crate names another in `use` and `ghost use`, in a path of its code, or in a file of specs/ or proofs/; and who makes a struct needs
+the crates of its fields' types, which the check has to name. In crates.txt a line
 `# floor N: what it is` begins a floor, any other comment line a group in it; a crate's line ends with what the crate is.
 """
 import glob
@@ -16,8 +17,8 @@ import sys
 
 ROOT = os.path.dirname(os.path.dirname(os.path.abspath(__file__)))
 LIST = os.path.join(ROOT, "crates.txt")
-PAPER = os.path.join(ROOT, "docs", "WORKING.md")
-BEGIN, END = "<!-- drawn by tools/crates.py -->\n", "<!-- end of the drawing -->\n"
+WORKING, README = os.path.join(ROOT, "docs", "WORKING.md"), os.path.join(ROOT, "README.md")
+BEGIN, END = "<!-- written by tools/crates.py fix -->\n", "<!-- end -->\n"
 KIT = {"bytes", "check", "io", "libc", "os"}
 
 
@@ -46,6 +47,29 @@ def read_list():
     return crates, floors
 
 
+def owners(text):
+    """Type to crate, for the types that a Rattle file brings in."""
+    return {name: crate for crate, name in re.findall(r"(?m)^use (\w+)::(\w+);", text)}
+
+
+def held_types():
+    """(crate, struct) to the crates whose types it holds, in a field or in a field's field: whoever makes one needs them too."""
+    fields = {}
+    for path in glob.glob(os.path.join(ROOT, "crates", "*", "src", "*.rt")):
+        with open(path, encoding="utf-8") as f:
+            text = f.read()
+        crate, owner = path.split(os.sep)[-3], owners(text)
+        for name, body in re.findall(r"(?:struct|enum) (\w+) \{([^}]*)\}", text):
+            fields[crate, name] = {(owner.get(t, crate), t) for t in re.findall(r"[:(]\s*([A-Z]\w+)", body)}
+
+    def held(kind):
+        return {kind[0]}.union(*(held(inner) for inner in fields.get(kind, ())))
+    return {kind: held(kind) - {kind[0]} for kind in fields}
+
+
+HELD = held_types()
+
+
 def named_by(crate, crates):
     """The crates and the kit's libraries that the files of a crate name, in the order of the list; the kit's first."""
     found = set()
@@ -57,6 +81,9 @@ def named_by(crate, crates):
         if path.endswith(".rt"):
             text = re.sub(r"//.*", "", text)
             found.update(re.findall(r"(?<![\w:])(\w+)::", text))
+            owner = owners(text)
+            for made in re.findall(r"(?<!struct )\b([A-Z]\w+) \{", text):
+                found.update(HELD.get((owner.get(made, crate), made), ()))
         else:
             text = re.sub(r"(?m)(^|(?<=\s))--.*$", "", text)
         found.update(re.findall(r"Rattle·(\w+)", text))
@@ -98,11 +125,21 @@ def drawing(crates, floors):
     return "\n".join(line.rstrip() for line in out[:-1]) + "\n"
 
 
-def paper_with(picture):
-    with open(PAPER, encoding="utf-8") as f:
-        text = f.read()
-    a, b = text.index(BEGIN) + len(BEGIN), text.index(END)
-    return text, text[:a] + "\n" + picture + "\n" + text[b:]
+def table(crates, floors):
+    """A line for each crate, the highest floor first."""
+    out = ["| crate | floor | what it is |", "|---|---|---|"]
+    for floor in sorted(floors, reverse=True):
+        out += ["| `%s` | %d | %s |" % (c.name, floor, c.what) for c in crates.values() if c.floor == floor]
+    return "\n".join(out) + "\n"
+
+
+def papers(crates, floors):
+    """Path, the text that stands there, and the text that has to."""
+    for path, part in ((WORKING, drawing(crates, floors)), (README, table(crates, floors))):
+        with open(path, encoding="utf-8") as f:
+            text = f.read()
+        a, b = text.index(BEGIN) + len(BEGIN), text.index(END)
+        yield path, text, text[:a] + "\n" + part + "\n" + text[b:]
 
 
 def fix(crates, floors):
@@ -116,16 +153,16 @@ def fix(crates, floors):
             lines.append(text)
     with open(LIST, "w", encoding="utf-8") as f:
         f.write("\n".join(lines))
-    _, new = paper_with(drawing(crates, floors))
-    with open(PAPER, "w", encoding="utf-8") as f:
-        f.write(new)
+    for path, _, new in papers(crates, floors):
+        with open(path, "w", encoding="utf-8") as f:
+            f.write(new)
 
 
 def check(crates, floors):
     found = list(faults(crates))
-    old, new = paper_with(drawing(crates, floors))
-    if old != new:
-        found.append("the drawing in docs/WORKING.md is not that of crates.txt: tools/crates.py fix")
+    for path, old, new in papers(crates, floors):
+        if old != new:
+            found.append("%s is not as crates.txt has it: tools/crates.py fix" % os.path.relpath(path, ROOT))
     if found:
         sys.exit("\n".join(found))
     print("crates.txt: %d crates on %d floors, each list exact" % (len(crates), len(floors)))

@@ -59,5 +59,6 @@ step sgshow tools/test_sgshow.py
 step 'the record tool' tools/test_sgr.py
 step 'what moved' tools/test_moved.py
 step layout tools/test_layout.py
+step crates.txt tools/crates.py check
 step 'the comparison with the Rust' compare
 cat "$verdict"
