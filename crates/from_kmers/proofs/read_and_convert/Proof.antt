@@ -1,5 +1,5 @@
 -- `from_kmers::read_and_convert` meets its contract. Assumes nothing.
-use mathlib.Core.Path.{refl, _∙_}
+use mathlib.Core.Path.{_∙_}
 use Rattle.from_kmers.proofs.ConversionLaws.{refused, convertible, trimmable, countable, over, done}
 use borrow.Author.Needs.{needs}
 use Rattle.from_kmers.proofs.read_and_convert.Statement.{statement}
