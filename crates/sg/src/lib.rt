@@ -1,11 +1,11 @@
 // The library for C: each public call under its C name, with the promise of the call itself. include/seq_graph.h declares them.
 ghost use lib.ListN.{length};
 ghost use Rattle.defs.specs.Calls.{referencePathBytesResponse, pathBasesBytesResponse};
-ghost use Rattle.calls.specs.Answers.{Responds};
 ghost use Rattle.simplify_graph.specs.Simplifies.{Simplifies};
 ghost use Rattle.from_assembly_graph.specs.Converts.{Converts};
 ghost use Rattle.cleanup_seq_graph.specs.Cleans.{Cleans};
 ghost use Rattle.clean_non_ref_paths.specs.CleansPaths.{CleansPaths};
+ghost use Rattle.string_calls.specs.TellsBytes.{TellsBytes};
 ghost use Rattle.vertex_sequence.specs.Handed.{Placed};
 use calls::Answer;
 use calls::CleanupAnswer;
@@ -50,7 +50,7 @@ pub extern "C" fn sg_clean_non_ref_paths(rec: &[u8], out: &mut [u8], tally: Tall
 
 #[no_mangle]
 pub extern "C" fn sg_reference_path_bytes(rec: &[u8], out: &mut [u8], tally: Tally) -> Answer
-    ensures { λ r. ⌜ Responds (referencePathBytesResponse (now (rec .entry)) (length (now (out .entry)))) (now (out .entry)) tally r (now (out .exit)) ⌝ }
+    ensures { λ r. ⌜ TellsBytes (referencePathBytesResponse (now (rec .entry)) (length (now (out .entry)))) (now (out .entry)) tally r (now (out .exit)) ⌝ }
 {
     string_calls::reference_path_bytes(rec, out, tally)
 }
@@ -63,7 +63,7 @@ pub extern "C" fn sg_path_bases_bytes(
     out: &mut [u8],
     tally: Tally,
 ) -> Answer
-    ensures { λ r. ⌜ Responds (pathBasesBytesResponse (now (rec .entry)) start (now (edges .entry)) (length (now (out .entry))))
+    ensures { λ r. ⌜ TellsBytes (pathBasesBytesResponse (now (rec .entry)) start (now (edges .entry)) (length (now (out .entry))))
         (now (out .entry)) tally r (now (out .exit)) ⌝ }
 {
     string_calls::path_bases_bytes(rec, start, edges, out, tally)

@@ -16,7 +16,12 @@ use Rattle.laws.proofs.Whole.{byOption}
 use Rattle.record.proofs.Accepted.{sequence-kind}
 use Rattle.sound.proofs.Accepted.{accepted-early, accepted-good, accepted-limits}
 use Rattle.reread.proofs.Read.{record-most}
+use Rattle.defs.specs.Calls as D
+use Rattle.calls.specs.Answers.{Responds}
+use Rattle.calls.specs.declared.Tally.{Tally}
+use Rattle.calls.specs.declared.Answer.{Answer}
 use Rattle.calls.proofs.AnswerLaws.{fits-enough}
+use Rattle.string_calls.specs.TellsBytes.{TellsBytes}
 use Rattle.string_calls.proofs.LengthLaws.{path-most, reference-most}
 use Rattle.string_calls.proofs.StringLaws.{reference-refused, reference-none, reference-some, path-refused, path-none, path-some}
 
@@ -50,3 +55,13 @@ path-room bs start list room l = elim (ℕ-discrete (recordRefusal sequenceOnly 
       whole room s (path-some bs start list room z s e)
       (omega (arith, l, few bs z, ap length (y .1), path-most (decode bs) (accepted-good sequenceOnly bs z .0) start list (y .0))))
 ]
+
+-- the promise of a call, from its response and that 11 is not its number
+pub tells-bytes : {x : Response} {out : List ℕ} {t : Tally} {r : Answer} {out′ : List ℕ} → (8192 ≤ length out → numberOf x ≡ 11 → ⊥)
+    → Responds x out t r out′ → TellsBytes x out t r out′
+unfolding D.answer
+tells-bytes h R = record {
+  answer = R .answer;
+  written = R .written;
+  room = λ l i. h l (sym (ap (λ (a : D.Answer). a .number) (R .answer)) ∙ i);
+}

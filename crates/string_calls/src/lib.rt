@@ -6,6 +6,7 @@ ghost use Rattle.defs.specs.Calls.{referencePathBytesResponse, pathBasesBytesRe
 ghost use Rattle.arrays.specs.Sized.{LentGraph};
 ghost use Rattle.calls.specs.Answers.{Responds};
 ghost use Rattle.string_calls.specs.Telling.{ReadIndexed, Tells};
+ghost use Rattle.string_calls.specs.TellsBytes.{TellsBytes};
 use accept::Read;
 use calls::Answer;
 use calls::Tally;
@@ -159,7 +160,7 @@ fn reference_small(rec: &[u8], out: &mut [u8], tally: Tally) -> Answer
 
 // 10 where there is no reference path.
 pub fn reference_path_bytes(rec: &[u8], out: &mut [u8], tally: Tally) -> Answer
-    ensures { λ r. ⌜ Responds (referencePathBytesResponse (now (rec .entry)) (length (now (out .entry)))) (now (out .entry)) tally r (now (out .exit)) ⌝ }
+    ensures { λ r. ⌜ TellsBytes (referencePathBytesResponse (now (rec .entry)) (length (now (out .entry)))) (now (out .entry)) tally r (now (out .exit)) ⌝ }
 {
     if rec.len() <= 1024 {
         return reference_small(rec, out, tally);
@@ -325,7 +326,7 @@ pub fn path_bases_bytes(
     out: &mut [u8],
     tally: Tally,
 ) -> Answer
-    ensures { λ r. ⌜ Responds (pathBasesBytesResponse (now (rec .entry)) start (now (list .entry)) (length (now (out .entry))))
+    ensures { λ r. ⌜ TellsBytes (pathBasesBytesResponse (now (rec .entry)) start (now (list .entry)) (length (now (out .entry))))
         (now (out .entry)) tally r (now (out .exit)) ⌝ }
 {
     if rec.len() <= 1024 {
