@@ -6,8 +6,8 @@
     tools/crates.py fix       write the lists, the drawing and the table as they have to be
     tools/crates.py draw      print the drawing
 
-A crate names another in `use` and `ghost use`, in a path of its code, or in a file of specs/ or proofs/; and who makes a struct needs
-the crates of its fields' types, which the check has to name. In crates.txt a line
+A crate names another in `use` and `ghost use`, in a path of its code, or in a file of specs/ or proofs/; and who makes a struct or an
+enum, or takes an enum apart, needs the crates of the types that it holds, which the check has to name. In crates.txt a line
 `# floor N: what it is` begins a floor, any other comment line a group in it; a crate's line ends with what the crate is.
 """
 import glob
@@ -53,7 +53,7 @@ def owners(text):
 
 
 def held_types():
-    """(crate, struct) to the crates whose types it holds, in a field or in a field's field: whoever makes one needs them too."""
+    """(crate, type) to the crates whose types it holds, in a field or in a field's field: whoever makes one needs them too."""
     fields = {}
     for path in glob.glob(os.path.join(ROOT, "crates", "*", "src", "*.rt")):
         with open(path, encoding="utf-8") as f:
@@ -82,7 +82,7 @@ def named_by(crate, crates):
             text = re.sub(r"//.*", "", text)
             found.update(re.findall(r"(?<![\w:])(\w+)::", text))
             owner = owners(text)
-            for made in re.findall(r"(?<!struct )\b([A-Z]\w+) \{", text):
+            for made in re.findall(r"(?<!struct )\b([A-Z]\w+)(?: \{|::[A-Z]\w*\()", text):
                 found.update(HELD.get((owner.get(made, crate), made), ()))
         else:
             text = re.sub(r"(?m)(^|(?<=\s))--.*$", "", text)

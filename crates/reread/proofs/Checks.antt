@@ -25,6 +25,7 @@ use Rattle.laws.proofs.Cycles.{anyOf-true, below-upFrom}
 use Rattle.record.specs.Layout.{otherKmerLength, offsetsDisagree}
 use Rattle.record.proofs.Fields.{edgesAt-is, bytesAt-is, wholeLength-is}
 use Rattle.record.proofs.Tests as T
+use Rattle.record.proofs.Accepted.{formed-none, refused-number}
 use Rattle.cycle.proofs.CycleLaws.{ranked-no-cycle}
 use Rattle.sound.specs.Alike.{SameEnds, SameKmers}
 use Rattle.sound.proofs.Accepted as S
@@ -129,5 +130,5 @@ pub three-decides : (t : Takes) (bs : List ℕ) → otherLength bs ≡ false →
     ≡ false → doubled bs ≡ false → hasCycle (decode bs) ≡ false
     → recordRefusal t bs ≡ cond (pastLimit bs) 3 0
 three-decides t bs a b d e f h = byTest (pastLimit bs)
-    (λ c. S.refused-early t bs (sym (T.refusal-3 t bs a b c)) (omega arith) ∙ rw c)
-    (λ c. S.accepted t bs (sym (T.accepted t bs a b c d e)) f h ∙ rw c)
+    (λ c. S.refused-early t bs (sym (refused-number t bs (T.refusal-3 t bs a b c) refl)) (omega arith) ∙ rw c)
+    (λ c. S.accepted t bs (formed-none t bs (T.accepted t bs a b c d {k = record { 0 = kOf bs }} refl e) refl) f h ∙ rw c)

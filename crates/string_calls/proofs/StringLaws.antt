@@ -92,8 +92,8 @@ byBytes : {A : Type 0} (b : OptionBytes) → ((n : ℕ) → b ≡ Some n → A) 
 byBytes (Some n) f g = f n refl
 byBytes None f g = g refl
 
-not-both : {A : Type 0} {b : OptionBytes} {n : ℕ} → b ≡ None → b ≡ Some n → A
-not-both p q = absurd (let z : _≡_ {A = ℕ} 0 1 = cc in omega arith)
+some-or-none : {A : Type 0} {b : OptionBytes} {n : ℕ} → b ≡ None → b ≡ Some n → A
+some-or-none p q = absurd (let z : _≡_ {A = ℕ} 0 1 = cc in omega arith)
 
 -- a call that tells o, or the number n where there is none
 module _ {o : Option (List ℕ)} {out out′ : List ℕ} {b : OptionBytes} (T : Told o out b out′) {x : Response} {n : ℕ} (none-is : o ≡ none → x
@@ -149,18 +149,18 @@ module _ (bs : List ℕ) (start : ℕ) (list : List ℕ) (room : ℕ) where
 -- the answer that tells
 module _ {b : OptionBytes} {room missing : ℕ} {t : Tally} {a : Answer} where
   pub tell-none : b ≡ None → Refuses missing t a → Tells b room missing t a
-  tell-none f R = record { none = λ _. R; short = λ n e. not-both f e; whole = λ n e. not-both f e }
+  tell-none f R = record { none = λ _. R; short = λ n e. some-or-none f e; whole = λ n e. some-or-none f e }
 
   pub tell-short : {k : ℕ} → b ≡ Some k → room < k → Refuses 11 t a → Tells b room missing t a
   tell-short {k} f l R = record {
-    none = λ e. not-both e f;
+    none = λ e. some-or-none e f;
     short = λ _ _ _. R;
     whole = λ n e h. absurd (let z : n ≡ k = cc in omega arith);
   }
 
   pub tell-whole : {k : ℕ} → b ≡ Some k → k ≤ room → Accepts k t a → Tells b room missing t a
   tell-whole {k} f l A = record {
-    none = λ e. not-both e f;
+    none = λ e. some-or-none e f;
     short = λ n e h. absurd (let z : n ≡ k = cc in omega arith);
     whole = λ n e _. let z : k ≡ n = cc in subst (λ (x : ℕ). Accepts x t a) z A;
   }
