@@ -7,7 +7,7 @@ set -uo pipefail
 cd "$(dirname "$0")/.." || exit 1
 
 # More checks at once than cores: rt waits for the longest of a batch, and meanwhile the others have the cores. A check takes up to 1 GB.
-export RT_JOBS=${RT_JOBS:-6}
+export RT_JOBS=${RT_JOBS:-4}
 
 # Runs a step and tells how long it took; if it does not pass, nothing more is run.
 step() { # NAME COMMAND..

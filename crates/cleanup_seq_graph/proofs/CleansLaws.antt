@@ -174,8 +174,8 @@ module _ {bs heads nexts : List ℕ} {m : Made} {es vs p : List ℕ} (M : MadeOf
       refused-with bs out t n o (λ l i. omega (arith, i, M .number, number-refused f, record-most sequenceOnly bs))
       (stopped bs out t n (sym (M .number) ∙ number-refused f) o) R refl
 
-  pub made-status : (g : CleanedUp) {n : ℕ} → n ≡ statusNumber (cleanupStatusOf (g .status)) → n < 256
-  made-status g q = omega (arith, q, status-small (cleanupStatusOf (g .status)))
+  pub made-status : {g : CleanedUp} {n : ℕ} → m ≡ outcome.Graph g → n ≡ statusNumber (cleanupStatusOf (g .status)) → n < 256
+  made-status {g} _ q = omega (arith, q, status-small (cleanupStatusOf (g .status)))
 
   module _ (small : Bytes bs) {g : CleanedUp} (ok : m ≡ outcome.Graph g) where
     none : recordRefusal sequenceOnly bs ≡ 0

@@ -1,4 +1,5 @@
 // cleanup_seq_graph: a record in, its cleanup's record out. Nothing is asked of the caller.
+ghost use mathlib.Core.Path.{_≡_};
 ghost use Prim.Native.Nat.{_≤_};
 ghost use lib.ListN.{length};
 ghost use Rattle.defs.specs.Cleanup.{statusNumber};

@@ -19,7 +19,7 @@ use Rattle.memory.proofs.RoomLaws.{fit-bytes, held-vertices, held-edges}
 use Rattle.zip.proofs.JoinLaws.{held-bytes}
 use Rattle.rounds.specs.Rounds.{Answers}
 use Rattle.rounds.specs.declared.Simplified.{Simplified}
-use Rattle.calls.proofs.AnswerLaws.{fits-short, fits-enough}
+use Rattle.calls.proofs.AnswerLaws.{fits-enough, fits-short, respond-fits, respond-refused}
 use Rattle.write_record.specs.Written.{Measured}
 use Rattle.write_record.proofs.WriteLaws.{encode-length}
 use Rattle.arrays.specs.Sized.{Lent}

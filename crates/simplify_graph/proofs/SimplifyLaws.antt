@@ -22,7 +22,8 @@ use Rattle.sound.proofs.Accepted.{accepted-good}
 use Rattle.reread.specs.Reread.{RereadAs}
 use Rattle.reread.proofs.Read.{Bytes, record-most}
 use Rattle.reread.proofs.Answers.{simplify-reread}
-use Rattle.memory.specs.Memory.{graphOf}
+use Rattle.memory.specs.Memory.{graphOf, Holds}
+use Rattle.memory.specs.declared.Held.{Held}
 use Rattle.memory.proofs.RoomLaws.{holds-kept}
 use Rattle.accept.specs.Accept.{ReadAs}
 use Rattle.accept.specs.declared.Read.{Read}

@@ -95,7 +95,8 @@ send-record-requires : tie.Need-send-record-requires
 send-record-requires c κs =
     lent-sendable
     (start .pre .graph) _
-    (made-status (at-read-and-clean .read-and-clean .ensures) (start .args .tally) _ (at-status-number .status-number .ensures))
+    (made-status (at-read-and-clean .read-and-clean .ensures) (start .args .tally) (at-cleaned .cleaned .given .1)
+    (at-status-number .status-number .ensures))
     (at-read-and-clean .read-and-clean .ensures .holds _ (at-cleaned .cleaned .given .1))
     (at-read-and-clean .read-and-clean .kept .1 .0)
     (at-read-and-clean .read-and-clean .kept .1 .1 .0)

@@ -1,6 +1,5 @@
 -- `string_calls::path_bases_bytes` meets its contract. Assumes nothing.
 use borrow.Author.Needs.{needs}
-use native.Mathlib.Omega.{arith}
 use Rattle.string_calls.proofs.EnoughLaws.{path-room, tells-bytes}
 use Rattle.string_calls.proofs.path_bases_bytes.Statement.{statement}
 use Rattle.string_calls.proofs.path_bases_bytes.Tie as tie

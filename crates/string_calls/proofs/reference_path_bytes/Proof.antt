@@ -1,6 +1,5 @@
 -- `string_calls::reference_path_bytes` meets its contract. Assumes nothing.
 use borrow.Author.Needs.{needs}
-use native.Mathlib.Omega.{arith}
 use Rattle.string_calls.proofs.EnoughLaws.{reference-room, tells-bytes}
 use Rattle.string_calls.proofs.reference_path_bytes.Statement.{statement}
 use Rattle.string_calls.proofs.reference_path_bytes.Tie as tie

@@ -1,5 +1,4 @@
 -- `until::try_rewrite` meets its contract. Assumes nothing.
-use native.Mathlib.Omega.{arith}
 use Rattle.defs.specs.Simplify.{diamond, tails, merge, rewriteKindNumber}
 use Rattle.until.proofs.UntilLaws.{one-of-three, left-as-kind}
 use borrow.Author.Needs.{needs}
