@@ -51,6 +51,7 @@ tallied (accepted r) rewrites t = record { answered = saturatingAdd (t .answered
 unfoldable pub fits : ℕ → List ℕ → Response
 fits room result = elim (ltb room (length result)) [ true ↦ refused 11 | false ↦ accepted result ]
 
+-- a number other than 0 refuses
 unfoldable pub respondTo : ℕ → ℕ → List ℕ → Response
 respondTo zero room result = fits room result
 respondTo (suc n) room result = refused (suc n)

@@ -126,7 +126,8 @@ pub record Within (extra : ℕ) (g : Graph) (rewrites : ℕ) (g′ : Graph) (cou
   pub tame : Tame g g′
   pub within : count′ + weight g′ ≤ rewrites + weight g + extra
 
-round-sum : (c₀ n₀ c₁ n₁ c₂ n₂ v₂ c₃ n₃ v₃ c₄ v₄ c₅ v₅ n₅ : ℕ) → c₁ + n₁ ≤ c₀ + n₀ → c₂ + n₂ ≤ c₁ + n₁ → c₃ + v₂ ≤ c₂ + v₃ → n₃ ≤ n₂
+round-sum : (c₀ n₀ c₁ n₁ c₂ n₂ v₂ c₃ n₃ v₃ c₄ v₄ c₅ v₅ n₅ : ℕ) → c₁ + n₁ ≤ c₀ + n₀ → c₂ + n₂ ≤ c₁ + n₁
+    → c₃ + v₂ ≤ c₂ + v₃ → n₃ ≤ n₂
     → n₂ ≤ n₀ → v₃ ≤ n₃ → c₄ + v₄ ≤ c₃ + v₃ → c₅ + v₅ ≤ c₄ + v₄ → n₅ ≤ n₃ → c₅ + n₅ ≤ c₀ + n₀ + 2 * n₀
 round-sum c₀ n₀ c₁ n₁ c₂ n₂ v₂ c₃ n₃ v₃ c₄ v₄ c₅ v₅ n₅ a b d e f h i j k = omega arith
 

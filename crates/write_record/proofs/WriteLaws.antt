@@ -31,7 +31,8 @@ sets-append (x ∷ xs) ys l i =
 pub put-behind : (l x y : List ℕ) (i j : ℕ) {l′ l″ : List ℕ} → l′ ≡ sets l i x → l″ ≡ sets l′ j y → j ≡ i + length x → l″ ≡ sets l i (x ++ y)
 put-behind l x y i j p q e = q ∙ ap (λ (k : List ℕ). sets k j y) p ∙ ap (λ (k : ℕ). sets (sets l i x) k y) e ∙ sets-append x y l i
 
-pub put-four : (l w x y z : List ℕ) (i j₁ j₂ j₃ : ℕ) {l₁ l₂ l₃ l₄ : List ℕ} → l₁ ≡ sets l i w → l₂ ≡ sets l₁ j₁ x → l₃ ≡ sets l₂ j₂ y → l₄ ≡ sets l₃ j₃ z
+pub put-four : (l w x y z : List ℕ) (i j₁ j₂ j₃ : ℕ) {l₁ l₂ l₃ l₄ : List ℕ} → l₁ ≡ sets l i w → l₂ ≡ sets l₁ j₁ x
+    → l₃ ≡ sets l₂ j₂ y → l₄ ≡ sets l₃ j₃ z
     → j₁ ≡ i + length w → j₂ ≡ i + length (w ++ x) → j₃ ≡ i + length (w ++ x ++ y) → l₄ ≡ sets l i (w ++ x ++ y ++ z)
 put-four l w x y z i j₁ j₂ j₃ p₁ p₂ p₃ p₄ e₁ e₂ e₃ =
     put-behind l (w ++ x ++ y) z i j₃ (put-behind l (w ++ x) y i j₂ (put-behind l w x i j₁ p₁ p₂ e₁) p₃ e₂) p₄ e₃
