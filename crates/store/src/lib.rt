@@ -2,7 +2,7 @@
 // pool and how long it is. The pool: the sequences' bytes. Only the functions here know where each number stands.
 ghost use mathlib.Core.Path.{_≡_};
 ghost use Prim.Native.Nat.{ℕ, _+_, _*_, _<_, _≤_, max};
-ghost use lib.ListN.{length, getD};
+ghost use lib.ListN.{length, getD, set};
 ghost use Rattle.defs.specs.SeqGraph.{Edge, hasEnds, addOrUpdateEdge, saturatingAdd};
 ghost use Rattle.store.specs.Store.{edgeIn, edgesIn, putEdge, putVertex, Joinable, isSet};
 
@@ -34,6 +34,14 @@ pub fn edge_flag(es: &[u32], i: usize) -> u32
     es[4 * i + 3]
 }
 
+// The end `off` of edge i: 0 is the end that it leaves, 1 the end that it enters.
+pub fn edge_end(es: &[u32], i: usize, off: usize) -> u32
+    requires { ⌜ (off ≤ 1) × (4 * i + 4 ≤ length (now es)) ⌝ }
+    ensures { λ r. ⌜ r ≡ getD (now (es .entry)) (4 * i + off) 0 ⌝ }
+{
+    es[4 * i + off]
+}
+
 pub fn put_edge(es: &mut [u32], i: usize, a: u32, b: u32, s: u32, r: u32)
     requires { ⌜ 4 * i + 4 ≤ length (now es) ⌝ }
     ensures { λ _. ⌜ now (es .exit) ≡ putEdge (now (es .entry)) i a b s r ⌝ }
@@ -42,6 +50,28 @@ pub fn put_edge(es: &mut [u32], i: usize, a: u32, b: u32, s: u32, r: u32)
     es[4 * i + 1] = b;
     es[4 * i + 2] = s;
     es[4 * i + 3] = r;
+}
+
+pub fn put_edge_from(es: &mut [u32], i: usize, a: u32)
+    requires { ⌜ 4 * i + 4 ≤ length (now es) ⌝ }
+    ensures { λ _. ⌜ now (es .exit) ≡ set (now (es .entry)) (4 * i) a ⌝ }
+{
+    es[4 * i] = a;
+}
+
+// A vertex's two numbers as they are stored, and below as a place and a length in the pool.
+pub fn start_number(vs: &[u32], v: usize) -> u32
+    requires { ⌜ 2 * v + 2 ≤ length (now vs) ⌝ }
+    ensures { λ r. ⌜ r ≡ getD (now (vs .entry)) (2 * v) 0 ⌝ }
+{
+    vs[2 * v]
+}
+
+pub fn len_number(vs: &[u32], v: usize) -> u32
+    requires { ⌜ 2 * v + 2 ≤ length (now vs) ⌝ }
+    ensures { λ r. ⌜ r ≡ getD (now (vs .entry)) (2 * v + 1) 0 ⌝ }
+{
+    vs[2 * v + 1]
 }
 
 pub fn vertex_start(vs: &[u32], v: u32) -> usize
@@ -64,6 +94,13 @@ pub fn put_vertex(vs: &mut [u32], v: usize, start: u32, len: u32)
 {
     vs[2 * v] = start;
     vs[2 * v + 1] = len;
+}
+
+pub fn put_start(vs: &mut [u32], v: usize, start: u32)
+    requires { ⌜ 2 * v + 2 ≤ length (now vs) ⌝ }
+    ensures { λ _. ⌜ now (vs .exit) ≡ set (now (vs .entry)) (2 * v) start ⌝ }
+{
+    vs[2 * v] = start;
 }
 
 pub fn saturating_add(x: u32, y: u32) -> u32
