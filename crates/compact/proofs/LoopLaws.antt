@@ -19,8 +19,9 @@ use Rattle.defs.specs.Lists.{bit, elemOf, keepIf, keepAt, rank}
 use Rattle.defs.specs.SeqGraph.{Edge, Graph, Change, applyChange, remapEdge, addOrUpdateEdge, addOrUpdateEdges}
 use Rattle.laws.proofs.ListLaws.{clash, rank-yes, rank-no, and-split}
 use Rattle.laws.proofs.Walks.{byTest}
-use Rattle.store.specs.Store.{isSet, edge, edgeIn, edgesIn, putEdge, seqIn, seqsIn, graphIn, numsIn, EndsBelow, Within, keptBy, Numbered}
+use Rattle.store.specs.Store.{isSet, edge, edgeIn, edgesIn, putEdge, putVertex, seqIn, seqsIn, graphIn, numsIn, EndsBelow, Within, keptBy, Numbered}
 use Rattle.store.proofs.EdgeLaws.{put-push, put-other, length-put}
+use Rattle.store.proofs.VertexLaws.{put-start, put-len, put-rest, length-put-vertex}
 use Rattle.tabs.proofs.ListTabs.{tab-append, keepIf-tab-yes, keepIf-tab-no, keepAt-tab-yes, keepAt-tab-no, mem-tab, of-mem-tab, elemOf-snoc}
 use Rattle.compact.specs.Compact.{BothSet, Marked, Renumbered, VertsClosed, EdgesClosed}
 
@@ -182,13 +183,13 @@ module _ {mp : List ℕ} {n : ℕ} {vs₀ : List ℕ} where
       rest = λ k b. C .rest k (omega arith);
     }
 
-    pub closing-v-keep : 2 * n ≤ length vs₀ → (getD mp i 0 ≡ 0 → ⊥)
-        → ClosingV mp n vs₀ (set (set vs (2 * j) (getD vs (2 * i) 0)) (2 * j + 1) (getD (set vs (2 * j) (getD vs (2 * i) 0)) (2 * i + 1) 0)) (i + 1) (j + 1)
-    closing-v-keep r z = record {
+    pub closing-v-keep : {vs′ : List ℕ} {a b : ℕ} → 2 * n ≤ length vs₀ → (getD mp i 0 ≡ 0 → ⊥) → a ≡ getD vs (2 * i) 0
+        → b ≡ getD vs (2 * i + 1) 0 → vs′ ≡ putVertex vs j a b → ClosingV mp n vs₀ vs′ (i + 1) (j + 1)
+    closing-v-keep {vs′} {a} {b} r z ha hb q = record {
       high = omega arith;
       low = omega arith;
-      len = length-set vs₁ _ _ ∙ length-set vs _ _ ∙ C .len;
-      is = λ p. tab-snoc j _ ∙ (λ x. tab-ext j (seqIn vs₂ p) (seqIn vs p) (λ k b. old p k b) x ++ (new p x ∷ []))
+      len = ap length q ∙ length-put-vertex vs j a b ∙ C .len;
+      is = λ p. tab-snoc j _ ∙ (λ x. tab-ext j (seqIn vs′ p) (seqIn vs p) (λ k b. old p k b) x ++ (new p x ∷ []))
           ∙ ap (λ (l : List (List ℕ)). l ++ (seqIn vs₀ p i ∷ [])) (C .is p)
           ∙ sym (keepAt-tab-yes (keptBy mp) i (seqIn vs₀ p) (ap not (ne-eqb _ _ z)));
       within = λ used w. record {
@@ -205,27 +206,22 @@ module _ {mp : List ℕ} {n : ℕ} {vs₀ : List ℕ} where
       rest = λ k b. at k (λ q. omega arith) (λ q. omega arith) ∙ C .rest k (omega arith);
     }
       where
-        vs₁ : List ℕ
-        vs₁ = set vs (2 * j) (getD vs (2 * i) 0)
+        at : (k : ℕ) → (k ≡ 2 * j → ⊥) → (k ≡ 2 * j + 1 → ⊥) → getD vs′ k 0 ≡ getD vs k 0
+        at k x y = ap (λ (l : List ℕ). getD l k 0) q ∙ put-rest vs j a b k x y
 
-        vs₂ : List ℕ
-        vs₂ = set (set vs (2 * j) (getD vs (2 * i) 0)) (2 * j + 1) (getD (set vs (2 * j) (getD vs (2 * i) 0)) (2 * i + 1) 0)
+        room : 2 * j + 2 ≤ length vs
+        room = omega (arith, C .low, C .len)
 
-        at : (k : ℕ) → (k ≡ 2 * j → ⊥) → (k ≡ 2 * j + 1 → ⊥) → getD vs₂ k 0 ≡ getD vs k 0
-        at k a b = getD-set-other vs₁ (2 * j + 1) k _ 0 b ∙ getD-set-other vs (2 * j) k _ 0 a
+        start : getD vs′ (2 * j) 0 ≡ getD vs₀ (2 * i) 0
+        start = ap (λ (l : List ℕ). getD l (2 * j) 0) q ∙ put-start vs j a b room ∙ ha ∙ C .rest (2 * i) (omega arith)
 
-        start : getD vs₂ (2 * j) 0 ≡ getD vs₀ (2 * i) 0
-        start = getD-set-other vs₁ (2 * j + 1) (2 * j) _ 0 (λ q. omega arith) ∙ getD-set-same vs (2 * j) _ 0 (omega (arith, C .len))
-            ∙ C .rest (2 * i) (omega arith)
+        size : getD vs′ (2 * j + 1) 0 ≡ getD vs₀ (2 * i + 1) 0
+        size = ap (λ (l : List ℕ). getD l (2 * j + 1) 0) q ∙ put-len vs j a b room ∙ hb ∙ C .rest (2 * i + 1) (omega arith)
 
-        size : getD vs₂ (2 * j + 1) 0 ≡ getD vs₀ (2 * i + 1) 0
-        size = getD-set-same vs₁ (2 * j + 1) _ 0 (omega (arith, C .len, length-set vs (2 * j) (getD vs (2 * i) 0)))
-            ∙ getD-set-other vs (2 * j) (2 * i + 1) _ 0 (λ q. omega arith) ∙ C .rest (2 * i + 1) (omega arith)
-
-        new : (p : List ℕ) → seqIn vs₂ p j ≡ seqIn vs₀ p i
+        new : (p : List ℕ) → seqIn vs′ p j ≡ seqIn vs₀ p i
         new p = λ x. Rattle.store.specs.Store.part p (start x) (size x)
 
-        old : (p : List ℕ) (k : ℕ) → k < j → seqIn vs₂ p k ≡ seqIn vs p k
+        old : (p : List ℕ) (k : ℕ) → k < j → seqIn vs′ p k ≡ seqIn vs p k
         old p k b = λ x. Rattle.store.specs.Store.part p (at (2 * k) (λ q. omega arith) (λ q. omega arith) x)
             (at (2 * k + 1) (λ q. omega arith) (λ q. omega arith) x)
 

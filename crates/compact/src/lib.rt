@@ -66,8 +66,9 @@ pub fn close_vertices(vs: &mut [u32], n: usize, map: &[u32]) -> usize
         let v = i;
         i += 1;
         if map[v] != 0 {
-            vs[2 * j] = vs[2 * v];
-            vs[2 * j + 1] = vs[2 * v + 1];
+            let start = store::start_number(vs, v);
+            let len = store::len_number(vs, v);
+            store::put_vertex(vs, j, start, len);
             j += 1;
         }
     }

@@ -2,7 +2,6 @@
 use native.Mathlib.Omega.{arith}
 use Prim.Native.Nat.{_-_}
 use Rattle.compact.proofs.LoopLaws.{ClosingV, closing-v-start, closing-v-drop, closing-v-keep, closing-v-end}
-use lib.ListN.{length-set}
 use Rattle.compact.proofs.close_vertices.Statement.{statement}
 use Rattle.compact.proofs.close_vertices.Tie as tie
 
@@ -14,11 +13,21 @@ abbrev μ-loop : tie.MeasureT-loop
 
 loop-again : tie.Need-loop-again Inv-loop μ-loop
 loop-again c =
+    let at-put-vertex : tie.After-put-vertex Inv-loop μ-loop = search in
+    let at-len-number : tie.After-len-number Inv-loop μ-loop = search in
+    let at-start-number : tie.After-start-number Inv-loop μ-loop = search in
     let at-if1 : tie.Then1 Inv-loop μ-loop = search in
     let at-loop-test : tie.In-loop Inv-loop μ-loop = search in
     let at-loop : tie.At-loop Inv-loop μ-loop = search in
     let start : tie.Start Inv-loop μ-loop = search in
-    closing-v-keep (at-loop .loop .inv) (at-loop-test .loop-test .taken) (start .pre .0) (at-if1 .if1 .taken)
+    closing-v-keep
+    (at-loop .loop .inv)
+    (at-loop-test .loop-test .taken)
+    (start .pre .0)
+    (at-if1 .if1 .taken)
+    (at-start-number .start-number .ensures)
+    (at-len-number .len-number .ensures)
+    (at-put-vertex .put-vertex .ensures)
 
 loop-again-2 : tie.Need-loop-again-2 Inv-loop μ-loop
 loop-again-2 c =
@@ -41,20 +50,9 @@ close-vertices-spec =
     (λ c. omega arith)
     (λ c. omega arith)
     (λ c. omega arith)
-    (λ c. omega arith)
-    (λ c. omega arith)
-    (λ c. omega arith)
-    (λ c. omega arith)
-    (λ c. omega arith)
-    (λ c. omega arith)
-    (λ c. omega arith)
-    (λ c. omega arith)
-    (λ c. omega arith)
-    (λ c. simp length-set (omega arith))
-    (λ c. omega arith)
-    (λ c. omega arith)
-    (λ c. omega arith)
-    (λ c. simp length-set (omega arith))
+    (λ c κs. omega arith)
+    (λ c κs. omega arith)
+    (λ c κs. omega arith)
     (λ c. omega arith)
     (λ c. omega arith)
     loop-again
