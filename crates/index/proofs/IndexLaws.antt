@@ -133,15 +133,16 @@ module _ {off m n : ℕ} {es : List ℕ} {head next : ℕ → ℕ} {v : ℕ} {ou
         ∙ sym (ap (λ (l : List ℕ). l ++ map (endOf (1 - off) es) (atFrom (endOf off es) m v (head v))) (tab-zero _));
   }
 
-  pub collecting-more : {out : List ℕ} {j e : ℕ} → Collecting off m es v out₀ out j e → e < m → m ≤ length out₀
-      → Collecting off m es v out₀ (set out j (endOf (1 - off) es e)) (j + 1) (next e)
-  collecting-more {out} {j} {e} C h r = let N = I .nexts e h in record {
+  pub collecting-more : {out : List ℕ} {j e x : ℕ} → Collecting off m es v out₀ out j e → e < m → m ≤ length out₀
+      → x ≡ endOf (1 - off) es e → Collecting off m es v out₀ (set out j x) (j + 1) (next e)
+  collecting-more {out} {j} {e} {x} C h r q = let N = I .nexts e h in record {
     high = N .high;
     low = omega (arith, N .low);
     len = length-set out j _ ∙ C .len;
     hit = λ b. N .hit b ∙ C .hit h;
     is = C .is ∙ ap (λ (l : List ℕ). numsIn j out ++ map (endOf (1 - off) es) l) (at-step (endOf off es) m n head next v e I h (C .hit h))
         ∙ sym (append-assoc (numsIn j out) (endOf (1 - off) es e ∷ []) _)
+        ∙ ap (λ (y : ℕ). (numsIn j out ++ (y ∷ [])) ++ map (endOf (1 - off) es) (atFrom (endOf off es) m v (next e))) (sym q)
         ∙ ap (λ (l : List ℕ). l ++ map (endOf (1 - off) es) (atFrom (endOf off es) m v (next e))) (sym (nums-push j _ out (omega (arith, C .len))));
   }
 

@@ -1,5 +1,6 @@
 // The index of the edges at each vertex, in edge order. heads: two numbers a vertex, its first edge out and its first edge in.
 // nexts: two numbers an edge, the next edge out of the same vertex and the next edge into the same vertex. m stands for none.
+// Only this crate writes them; whoever follows a vertex's list reads them where they stand.
 // `off` 0 is the end that an edge leaves, 1 the end that it enters.
 ghost use mathlib.Core.Path.{_≡_};
 ghost use Prim.Native.Nat.{ℕ, _+_, _*_, _<_, _≤_};
@@ -15,10 +16,10 @@ pub fn build_index(es: &[u32], m: usize, n: usize, heads: &mut [u32], nexts: &mu
     let mut e = m;
     while 0 < e {
         e -= 1;
-        let u = 2 * (es[4 * e] as usize);
+        let u = 2 * (store::edge_from(es, e) as usize);
         nexts[2 * e] = heads[u];
         heads[u] = e as u32;
-        let v = 2 * (es[4 * e + 1] as usize) + 1;
+        let v = 2 * (store::edge_to(es, e) as usize) + 1;
         nexts[2 * e + 1] = heads[v];
         heads[v] = e as u32;
     }
@@ -63,7 +64,7 @@ pub fn collect(
     let mut j = 0;
     let mut e = heads[2 * v + off] as usize;
     while e < m {
-        out[j] = es[4 * e + (1 - off)];
+        out[j] = store::edge_end(es, e, 1 - off);
         j += 1;
         e = nexts[2 * e + off] as usize;
     }

@@ -13,8 +13,8 @@ Inv-loop es m n heads₀ nexts₀ e₀ heads nexts e = Building m n es heads₀ 
 abbrev μ-loop : tie.MeasureT-loop
 μ-loop es m n heads₀ nexts₀ e₀ heads nexts e = e
 
-mul-u-3 : tie.Need-mul-u-3 Inv-loop μ-loop
-mul-u-3 c =
+mul-u : tie.Need-mul-u Inv-loop μ-loop
+mul-u c =
     omega (
       arith,
       start .pre .ends .at (at-loop .loop .e - 1) (omega (arith, at-loop .loop .inv .out .low)) .0,
@@ -102,8 +102,8 @@ slice-write-heads c =
     start : tie.Start Inv-loop μ-loop
     start = let c = at-fill in search
 
-shared-slice-read-v : tie.Need-shared-slice-read-v Inv-loop μ-loop
-shared-slice-read-v c = omega (arith, at-loop .loop .inv .out .low, start .pre .room)
+edge-to-requires : tie.Need-edge-to-requires Inv-loop μ-loop
+edge-to-requires c κs = omega (arith, at-loop .loop .inv .out .low, start .pre .room)
   where
     at-loop : tie.At-loop Inv-loop μ-loop
     at-loop = search
@@ -111,8 +111,8 @@ shared-slice-read-v c = omega (arith, at-loop .loop .inv .out .low, start .pre .
     start : tie.Start Inv-loop μ-loop
     start = let c = at-loop in search
 
-mul-v-3 : tie.Need-mul-v-3 Inv-loop μ-loop
-mul-v-3 c =
+mul-v : tie.Need-mul-v Inv-loop μ-loop
+mul-v c =
     omega (
       arith,
       start .pre .ends .at (at-loop .loop .e - 1) (omega (arith, at-loop .loop .inv .out .low)) .1,
@@ -125,8 +125,8 @@ mul-v-3 c =
     start : tie.Start Inv-loop μ-loop
     start = let c = at-loop in search
 
-add-v-2 : tie.Need-add-v-2 Inv-loop μ-loop
-add-v-2 c =
+add-v : tie.Need-add-v Inv-loop μ-loop
+add-v c =
     omega (
       arith,
       start .pre .ends .at (at-loop .loop .e - 1) (omega (arith, at-loop .loop .inv .out .low)) .1,
@@ -259,10 +259,18 @@ loop-again c =
     (indexable-kept (start .pre) (at-fill .fill .kept .0))
     (at-loop .loop .e - 1) _ _
     (at-loop .loop .inv)
-    (omega arith) refl refl
+    (omega arith)
+    (omega (arith, at-edge-from .edge-from .ensures))
+    (omega (arith, at-edge-to .edge-to .ensures))
   where
+    at-edge-to : tie.After-edge-to Inv-loop μ-loop
+    at-edge-to = search
+
+    at-edge-from : tie.After-edge-from Inv-loop μ-loop
+    at-edge-from = let c = at-edge-to in search
+
     at-loop : tie.At-loop Inv-loop μ-loop
-    at-loop = search
+    at-loop = let c = at-edge-from in search
 
     at-fill : tie.After-fill Inv-loop μ-loop
     at-fill = let c = at-loop in search
@@ -277,38 +285,14 @@ returns c =
     let start : tie.Start Inv-loop μ-loop = search in
     building-end (indexable-kept (start .pre) (at-fill .fill .kept .0)) (at-loop .loop .inv) (c .loop-test .left)
 
-mul-u : tie.Need-mul-u Inv-loop μ-loop
-mul-u c = omega (arith, at-loop .loop .inv .out .low, start .pre .room)
+edge-from-requires : tie.Need-edge-from-requires Inv-loop μ-loop
+edge-from-requires c κs = omega (arith, at-loop .loop .inv .out .low, start .pre .room)
   where
     at-loop : tie.At-loop Inv-loop μ-loop
     at-loop = search
 
     start : tie.Start Inv-loop μ-loop
     start = let c = at-loop in search
-
-mul-u-2 : tie.Need-mul-u-2 Inv-loop μ-loop
-mul-u-2 c = omega (arith, at-loop .loop .inv .out .low, start .pre .room)
-  where
-    at-loop : tie.At-loop Inv-loop μ-loop
-    at-loop = search
-
-    start : tie.Start Inv-loop μ-loop
-    start = let c = at-loop in search
-
-shared-slice-read-u : tie.Need-shared-slice-read-u Inv-loop μ-loop
-shared-slice-read-u c = omega (arith, at-loop .loop .inv .out .low, start .pre .room)
-  where
-    at-loop : tie.At-loop Inv-loop μ-loop
-    at-loop = search
-
-    start : tie.Start Inv-loop μ-loop
-    start = let c = at-loop in search
-
-cast-u : tie.Need-cast-u Inv-loop μ-loop
-cast-u c = omega (arith, c .shared-slice-known2 .given (4 * (at-loop .loop .e - 1)))
-  where
-    at-loop : tie.At-loop Inv-loop μ-loop
-    at-loop = search
 
 mul-nexts-2 : tie.Need-mul-nexts-2 Inv-loop μ-loop
 mul-nexts-2 c = omega (arith, at-loop .loop .inv .out .low, start .pre .nexts-room)
@@ -337,39 +321,6 @@ cast-heads c = omega (arith, at-loop .loop .inv .out .low, start .pre .small)
     start : tie.Start Inv-loop μ-loop
     start = let c = at-loop in search
 
-mul-v : tie.Need-mul-v Inv-loop μ-loop
-mul-v c = omega (arith, at-loop .loop .inv .out .low, start .pre .room)
-  where
-    at-loop : tie.At-loop Inv-loop μ-loop
-    at-loop = search
-
-    start : tie.Start Inv-loop μ-loop
-    start = let c = at-loop in search
-
-add-v : tie.Need-add-v Inv-loop μ-loop
-add-v c = omega (arith, at-loop .loop .inv .out .low, start .pre .room)
-  where
-    at-loop : tie.At-loop Inv-loop μ-loop
-    at-loop = search
-
-    start : tie.Start Inv-loop μ-loop
-    start = let c = at-loop in search
-
-mul-v-2 : tie.Need-mul-v-2 Inv-loop μ-loop
-mul-v-2 c = omega (arith, at-loop .loop .inv .out .low, start .pre .room)
-  where
-    at-loop : tie.At-loop Inv-loop μ-loop
-    at-loop = search
-
-    start : tie.Start Inv-loop μ-loop
-    start = let c = at-loop in search
-
-cast-v : tie.Need-cast-v Inv-loop μ-loop
-cast-v c = omega (arith, c .shared-slice-known3 .given (4 * (at-loop .loop .e - 1) + 1))
-  where
-    at-loop : tie.At-loop Inv-loop μ-loop
-    at-loop = search
-
 pub build-index-spec : {M : Type 1} → statement M
 build-index-spec =
     tie.close
@@ -381,11 +332,9 @@ build-index-spec =
     (λ c κs. let start : tie.Start Inv-loop μ-loop = search in start .pre .heads-room)
     (λ c. let at-fill : tie.After-fill Inv-loop μ-loop = search in building-start _ refl (at-fill .fill .ensures))
     (λ c. omega arith)
+    edge-from-requires
+    (λ c. omega arith)
     mul-u
-    mul-u-2
-    shared-slice-read-u
-    cast-u
-    mul-u-3
     mul-nexts
     slice-read-nexts
     mul-nexts-2
@@ -394,13 +343,10 @@ build-index-spec =
     cast-heads
     mul-heads
     slice-write-heads
+    edge-to-requires
+    (λ c. omega arith)
     mul-v
     add-v
-    mul-v-2
-    shared-slice-read-v
-    cast-v
-    mul-v-3
-    add-v-2
     mul-nexts-4
     slice-read-nexts-2
     mul-nexts-5

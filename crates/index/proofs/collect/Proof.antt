@@ -24,6 +24,7 @@ loop-less c =
 
 loop-again : tie.Need-loop-again Inv-loop μ-loop
 loop-again c =
+    let at-edge-end : tie.After-edge-end Inv-loop μ-loop = search in
     let at-loop-test : tie.In-loop Inv-loop μ-loop = search in
     let at-loop : tie.At-loop Inv-loop μ-loop = search in
     let start : tie.Start Inv-loop μ-loop = search in
@@ -32,9 +33,10 @@ loop-again c =
     (at-loop .loop .inv)
     (at-loop-test .loop-test .taken)
     (start .pre .1 .1 .0)
+    (at-edge-end .edge-end .ensures)
 
 cast-e : tie.Need-cast-e Inv-loop μ-loop
-cast-e c = omega (arith, c .shared-slice-known .given (2 * start .args .v + start .args .off))
+cast-e c = omega (arith, c .shared-slice-known4 .given (2 * start .args .v + start .args .off))
   where
     start : tie.Start Inv-loop μ-loop
     start = search
@@ -45,7 +47,7 @@ loop-holds c =
     collecting-start (start .pre .1 .1 .1 .index _ (start .pre .1 .0)) (start .pre .0)
 
 cast-e-2 : tie.Need-cast-e-2 Inv-loop μ-loop
-cast-e-2 c = omega (arith, c .shared-slice-known3 .given (2 * at-loop .loop .e + start .args .off))
+cast-e-2 c = omega (arith, c .shared-slice-known5 .given (2 * at-loop .loop .e + start .args .off))
   where
     at-loop : tie.At-loop Inv-loop μ-loop
     at-loop = search
@@ -72,10 +74,7 @@ collect-spec =
     cast-e
     loop-holds
     (λ c. omega arith)
-    (λ c. omega arith)
-    (λ c. omega arith)
-    (λ c. omega arith)
-    (λ c. omega arith)
+    (λ c κs. omega arith)
     (λ c. omega arith)
     (λ c. omega arith)
     (λ c. omega arith)
