@@ -98,22 +98,23 @@ module _ {base n : ℕ} {vs₀ p₀ : List ℕ} (F : Packable n vs₀ p₀ base)
         apart = inl (omega (arith, qs, ql, G .sizes v, G .rest v (omega arith), w));
       }
 
-  pub gathering-more : {vs p p′ : List ℕ} {used v start len : ℕ} → Gathering base n vs₀ p₀ vs p used v → v < n → start ≡ getD vs (2 * v) 0
+  pub gathering-more : {vs vs′ p p′ : List ℕ} {used v start len : ℕ} → Gathering base n vs₀ p₀ vs p used v → v < n → start ≡ getD vs (2 * v) 0
       → len ≡ getD vs (2 * v + 1) 0
-      → Moved p (base + used) start len p′ → length p′ ≡ length p → Gathering base n vs₀ p₀ (set vs (2 * v) used) p′ (used + len) (v + 1)
-  gathering-more {vs} {p} {p′} {used} {v} {start} {len} G h qs ql M l =
+      → Moved p (base + used) start len p′ → length p′ ≡ length p → vs′ ≡ set vs (2 * v) used
+      → Gathering base n vs₀ p₀ vs′ p′ (used + len) (v + 1)
+  gathering-more {vs} {vs′} {p} {p′} {used} {v} {start} {len} G h qs ql M l e =
       let w = F .within .at v h in
       record {
         high = omega arith;
-        vs-len = length-set vs _ _ ∙ G .vs-len;
+        vs-len = ap length e ∙ length-set vs _ _ ∙ G .vs-len;
         p-len = l ∙ G .p-len;
         used-is = omega (arith, G .used-is, bytes-more v vs₀, ql, G .sizes v);
         starts = λ u b. elim (ℕ-discrete u v) [
-          | yes q ↦ rw q (getD-set-same vs (2 * v) used 0 (omega (arith, G .vs-len, F .vs-room)) ∙ G .used-is)
-          | no ne ↦ getD-set-other vs (2 * v) (2 * u) used 0 (λ z. ne (omega arith)) ∙ G .starts u (omega arith)
+          | yes q ↦ rw q (ap (λ (x : List ℕ). getD x (2 * v) 0) e ∙ getD-set-same vs (2 * v) used 0 (omega (arith, G .vs-len, F .vs-room)) ∙ G .used-is)
+          | no ne ↦ other (2 * u) (λ z. ne (omega arith)) ∙ G .starts u (omega arith)
         ];
-        sizes = λ u. getD-set-other vs (2 * v) (2 * u + 1) used 0 (λ z. omega arith) ∙ G .sizes u;
-        rest = λ u b. getD-set-other vs (2 * v) (2 * u) used 0 (λ z. omega arith) ∙ G .rest u (omega arith);
+        sizes = λ u. other (2 * u + 1) (λ z. omega arith) ∙ G .sizes u;
+        rest = λ u b. other (2 * u) (λ z. omega arith) ∙ G .rest u (omega arith);
         below = λ k b. M .before k (omega arith) ∙ G .below k b;
         bytes = λ u b i c. elim (ℕ-discrete u v) [
           | yes q ↦ rw q (here i (rw q at c))
@@ -121,6 +122,9 @@ module _ {base n : ℕ} {vs₀ p₀ : List ℕ} (F : Packable n vs₀ p₀ base)
         ];
       }
     where
+      other : (k : ℕ) → (k ≡ 2 * v → ⊥) → getD vs′ k 0 ≡ getD vs k 0
+      other k z = ap (λ (x : List ℕ). getD x k 0) e ∙ getD-set-other vs (2 * v) k used 0 z
+
       here : (i : ℕ) → i < getD vs₀ (2 * v + 1) 0 → getD p′ (base + bytesIn v vs₀ + i) 0 ≡ getD p₀ (getD vs₀ (2 * v) 0 + i) 0
       here i c =
           ap (λ (x : ℕ). getD p′ (base + x + i) 0) (sym (G .used-is)) ∙ M .copied i (omega (arith, ql, G .sizes v))

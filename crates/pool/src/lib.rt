@@ -23,10 +23,10 @@ fn gather(vs: &mut [u32], n: usize, p: &mut [u8], base: usize) -> usize
     let mut used = 0;
     let mut v = 0;
     while v < n {
-        let start = vs[2 * v] as usize;
-        let len = vs[2 * v + 1] as usize;
+        let start = store::start_number(vs, v) as usize;
+        let len = store::len_number(vs, v) as usize;
         copy_within(p, base + used, start, len);
-        vs[2 * v] = used as u32;
+        store::put_start(vs, v, used as u32);
         used += len;
         v += 1;
     }

@@ -1,7 +1,7 @@
 -- `index::build_index` meets its contract. Assumes nothing.
 use native.Mathlib.Omega.{arith}
-use mathlib.Core.Path.{refl, sym, _∙_}
-use Prim.Native.Nat.{_+_, _*_, _-_}
+use mathlib.Core.Path.{refl}
+use Prim.Native.Nat.{_-_}
 use lib.ListN.{length-set}
 use Rattle.index.proofs.IndexLaws.{Building, building-start, indexable-kept, building-more, building-end}
 use Rattle.index.proofs.build_index.Statement.{statement}

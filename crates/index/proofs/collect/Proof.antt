@@ -1,7 +1,6 @@
 -- `index::collect` meets its contract. Assumes nothing.
 use native.Mathlib.Omega.{arith}
 use Prim.Native.Nat.{_+_, _*_, _-_}
-use Rattle.index.specs.Index.{endOf}
 use Rattle.index.proofs.IndexLaws.{Collecting, collecting-start, collecting-more, collecting-end}
 use Rattle.index.proofs.collect.Statement.{statement}
 use Rattle.index.proofs.collect.Tie as tie

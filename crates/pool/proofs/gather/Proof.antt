@@ -1,7 +1,6 @@
 -- `pool::gather` meets its contract. Assumes nothing.
 use native.Mathlib.Omega.{arith}
-use Prim.Native.Nat.{_+_, _*_, _-_}
-use mathlib.Core.Path.{refl}
+use Prim.Native.Nat.{_-_}
 use Rattle.pool.proofs.PoolLaws.{
   Gathering,
   gathering-start,
@@ -39,13 +38,20 @@ add-copy-within c =
 
 copy-within-requires : tie.Need-copy-within-requires Inv-loop μ-loop
 copy-within-requires c κs =
+    let at-len-number : tie.After-len-number Inv-loop μ-loop = search in
+    let at-start-number : tie.After-start-number Inv-loop μ-loop = search in
     let at-loop-test : tie.In-loop Inv-loop μ-loop = search in
     let at-loop : tie.At-loop Inv-loop μ-loop = search in
     let start : tie.Start Inv-loop μ-loop = search in
-    gathering-apart (start .pre) (at-loop .loop .inv) (at-loop-test .loop-test .taken) refl refl
+    gathering-apart
+    (start .pre)
+    (at-loop .loop .inv)
+    (at-loop-test .loop-test .taken)
+    (at-start-number .start-number .ensures)
+    (at-len-number .len-number .ensures)
 
-cast-vs : tie.Need-cast-vs Inv-loop μ-loop
-cast-vs c =
+cast-put-start : tie.Need-cast-put-start Inv-loop μ-loop
+cast-put-start c =
     omega (
       arith,
       start .pre .small,
@@ -63,17 +69,8 @@ cast-vs c =
     start : tie.Start Inv-loop μ-loop
     start = let c = at-loop in search
 
-mul-vs-2 : tie.Need-mul-vs-2 Inv-loop μ-loop
-mul-vs-2 c = omega (arith, start .pre .vs-room, at-loop .loop .inv .vs-len)
-  where
-    at-loop : tie.At-loop Inv-loop μ-loop
-    at-loop = search
-
-    start : tie.Start Inv-loop μ-loop
-    start = let c = at-loop in search
-
-slice-write-vs : tie.Need-slice-write-vs Inv-loop μ-loop
-slice-write-vs c = omega (arith, start .pre .vs-room, at-loop .loop .inv .vs-len)
+put-start-requires : tie.Need-put-start-requires Inv-loop μ-loop
+put-start-requires c κs = omega (arith, start .pre .vs-room, at-loop .loop .inv .vs-len)
   where
     at-loop : tie.At-loop Inv-loop μ-loop
     at-loop = search
@@ -102,19 +99,25 @@ add-used c =
 
 loop-again : tie.Need-loop-again Inv-loop μ-loop
 loop-again c =
+    let at-put-start : tie.After-put-start Inv-loop μ-loop = search in
     let at-copy-within : tie.After-copy-within Inv-loop μ-loop = search in
+    let at-len-number : tie.After-len-number Inv-loop μ-loop = search in
+    let at-start-number : tie.After-start-number Inv-loop μ-loop = search in
     let at-loop-test : tie.In-loop Inv-loop μ-loop = search in
     let at-loop : tie.At-loop Inv-loop μ-loop = search in
     let start : tie.Start Inv-loop μ-loop = search in
     gathering-more
     (start .pre)
     (at-loop .loop .inv)
-    (at-loop-test .loop-test .taken) refl refl
+    (at-loop-test .loop-test .taken)
+    (at-start-number .start-number .ensures)
+    (at-len-number .len-number .ensures)
     (at-copy-within .copy-within .ensures)
     (at-copy-within .copy-within .kept .0)
+    (at-put-start .put-start .ensures)
 
-mul-start : tie.Need-mul-start Inv-loop μ-loop
-mul-start c = omega (arith, start .pre .vs-room, at-loop .loop .inv .vs-len)
+start-number-requires : tie.Need-start-number-requires Inv-loop μ-loop
+start-number-requires c κs = omega (arith, start .pre .vs-room, at-loop .loop .inv .vs-len)
   where
     at-loop : tie.At-loop Inv-loop μ-loop
     at-loop = search
@@ -122,74 +125,8 @@ mul-start c = omega (arith, start .pre .vs-room, at-loop .loop .inv .vs-len)
     start : tie.Start Inv-loop μ-loop
     start = let c = at-loop in search
 
-mul-start-2 : tie.Need-mul-start-2 Inv-loop μ-loop
-mul-start-2 c = omega (arith, start .pre .vs-room, at-loop .loop .inv .vs-len)
-  where
-    at-loop : tie.At-loop Inv-loop μ-loop
-    at-loop = search
-
-    start : tie.Start Inv-loop μ-loop
-    start = let c = at-loop in search
-
-slice-read-start : tie.Need-slice-read-start Inv-loop μ-loop
-slice-read-start c = omega (arith, start .pre .vs-room, at-loop .loop .inv .vs-len)
-  where
-    at-loop : tie.At-loop Inv-loop μ-loop
-    at-loop = search
-
-    start : tie.Start Inv-loop μ-loop
-    start = let c = at-loop in search
-
-cast-start : tie.Need-cast-start Inv-loop μ-loop
-cast-start c = omega (arith, c .slice-known3 .given (2 * at-loop .loop .v))
-  where
-    at-loop : tie.At-loop Inv-loop μ-loop
-    at-loop = search
-
-mul-len : tie.Need-mul-len Inv-loop μ-loop
-mul-len c = omega (arith, start .pre .vs-room, at-loop .loop .inv .vs-len)
-  where
-    at-loop : tie.At-loop Inv-loop μ-loop
-    at-loop = search
-
-    start : tie.Start Inv-loop μ-loop
-    start = let c = at-loop in search
-
-add-len : tie.Need-add-len Inv-loop μ-loop
-add-len c = omega (arith, start .pre .vs-room, at-loop .loop .inv .vs-len)
-  where
-    at-loop : tie.At-loop Inv-loop μ-loop
-    at-loop = search
-
-    start : tie.Start Inv-loop μ-loop
-    start = let c = at-loop in search
-
-mul-len-2 : tie.Need-mul-len-2 Inv-loop μ-loop
-mul-len-2 c = omega (arith, start .pre .vs-room, at-loop .loop .inv .vs-len)
-  where
-    at-loop : tie.At-loop Inv-loop μ-loop
-    at-loop = search
-
-    start : tie.Start Inv-loop μ-loop
-    start = let c = at-loop in search
-
-slice-read-len : tie.Need-slice-read-len Inv-loop μ-loop
-slice-read-len c = omega (arith, start .pre .vs-room, at-loop .loop .inv .vs-len)
-  where
-    at-loop : tie.At-loop Inv-loop μ-loop
-    at-loop = search
-
-    start : tie.Start Inv-loop μ-loop
-    start = let c = at-loop in search
-
-cast-len : tie.Need-cast-len Inv-loop μ-loop
-cast-len c = omega (arith, c .slice-known4 .given (2 * at-loop .loop .v + 1))
-  where
-    at-loop : tie.At-loop Inv-loop μ-loop
-    at-loop = search
-
-mul-vs : tie.Need-mul-vs Inv-loop μ-loop
-mul-vs c = omega (arith, start .pre .vs-room, at-loop .loop .inv .vs-len)
+len-number-requires : tie.Need-len-number-requires Inv-loop μ-loop
+len-number-requires c κs = omega (arith, start .pre .vs-room, at-loop .loop .inv .vs-len)
   where
     at-loop : tie.At-loop Inv-loop μ-loop
     at-loop = search
@@ -210,21 +147,14 @@ gather-spec =
     Inv-loop
     μ-loop
     (λ c. let start : tie.Start Inv-loop μ-loop = search in gathering-start (start .pre))
-    mul-start
-    mul-start-2
-    slice-read-start
-    cast-start
-    mul-len
-    add-len
-    mul-len-2
-    slice-read-len
-    cast-len
+    start-number-requires
+    (λ c. omega arith)
+    len-number-requires
+    (λ c. omega arith)
     add-copy-within
     copy-within-requires
-    cast-vs
-    mul-vs
-    mul-vs-2
-    slice-write-vs
+    cast-put-start
+    put-start-requires
     add-used
     (λ c. omega arith)
     (λ c. omega arith)
