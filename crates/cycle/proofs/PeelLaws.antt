@@ -210,8 +210,8 @@ module _ {m n : ℕ} {es heads nexts : List ℕ} (X : Indexed m n es heads nexts
         (λ o′. absurd ((outward .nexts e k) .skip x (omega arith) o′ (from-u (P .queued) (T .later) (T .is-u) x b p ∙ sym (T .hit k)))))
         (λ o. lt-leb e x o ∙ sym (lt-leb (pairAt 0 nexts e) x (omega (arith, after-e)))))
 
-    pub taken-some : n ≤ length degrees₀ → 0 < getD degrees (endOf 1 es e) 0
-    taken-some room = entered-some (P .queued) entered k at-h (omega arith) after-e (omega (arith, T .degrees-len)) same
+    pub taken-some : {to : ℕ} → to ≡ endOf 1 es e → n ≤ length degrees₀ → 0 < getD degrees to 0
+    taken-some t room = rw t (entered-some (P .queued) entered k at-h (omega arith) after-e (omega (arith, T .degrees-len)) same)
 
     pub taking-later : e < getD nexts (2 * e) 0
     taking-later = omega (arith, after-e, pair-first nexts e)
@@ -238,9 +238,9 @@ module _ {m n : ℕ} {es heads nexts : List ℕ} (X : Indexed m n es heads nexts
       next-hit : pairAt 0 nexts e < m → endOf 0 es (pairAt 0 nexts e) ≡ u
       next-hit b = (outward .nexts e k) .hit b ∙ T .hit k
 
-      pub taking-pass : {e′ : ℕ} → (getD degrees (endOf 1 es e) 0 - 1 ≡ 0 → ⊥) → e′ ≡ getD nexts (2 * e) 0
-          → Taking m n es h u degrees₀ (set degrees (endOf 1 es e) (getD degrees (endOf 1 es e) 0 - 1)) queue₀ queue tail e′
-      taking-pass nz q = rw (q ∙ pair-first nexts e) (record {
+      pub taking-pass : {e′ to : ℕ} → to ≡ endOf 1 es e → (getD degrees to 0 - 1 ≡ 0 → ⊥) → e′ ≡ getD nexts (2 * e) 0
+          → Taking m n es h u degrees₀ (set degrees to (getD degrees to 0 - 1)) queue₀ queue tail e′
+      taking-pass t nz q = rw (t, q ∙ pair-first nexts e) (record {
         high = (outward .nexts e k) .high;
         hit = next-hit;
         degrees-len = length-set degrees (endOf 1 es e) _ ∙ T .degrees-len;
@@ -252,15 +252,15 @@ module _ {m n : ℕ} {es heads nexts : List ℕ} (X : Indexed m n es heads nexts
           place = P .place;
           queued = queued;
           zero = λ v b z. elim (ℕ-discrete v (endOf 1 es e)) [
-            | yes s ↦ absurd (nz (sym stored ∙ ap (λ (x : ℕ). getD (set degrees (endOf 1 es e) (getD degrees (endOf 1 es e) 0 - 1)) x 0) (sym s) ∙ z))
+            | yes s ↦ absurd (nz (ap (λ (x : ℕ). getD degrees x 0 - 1) t ∙ sym stored ∙ ap (λ (x : ℕ). getD (set degrees (endOf 1 es e) (getD degrees (endOf 1 es e) 0 - 1)) x 0) (sym s) ∙ z))
             | no ne ↦ other-zero v b ne z
           ];
         };
       })
 
-      pub taking-push : {e′ : ℕ} → n ≤ length queue₀ → getD degrees (endOf 1 es e) 0 - 1 ≡ 0 → e′ ≡ getD nexts (2 * e) 0
-          → Taking m n es h u degrees₀ (set degrees (endOf 1 es e) (getD degrees (endOf 1 es e) 0 - 1)) queue₀ (set queue tail (endOf 1 es e)) (tail + 1) e′
-      taking-push roomq z q = rw (q ∙ pair-first nexts e) (record {
+      pub taking-push : {e′ to : ℕ} → to ≡ endOf 1 es e → n ≤ length queue₀ → getD degrees to 0 - 1 ≡ 0 → e′ ≡ getD nexts (2 * e) 0
+          → Taking m n es h u degrees₀ (set degrees to (getD degrees to 0 - 1)) queue₀ (set queue tail to) (tail + 1) e′
+      taking-push t roomq z q = rw (t, q ∙ pair-first nexts e) (record {
         high = (outward .nexts e k) .high;
         hit = next-hit;
         degrees-len = length-set degrees (endOf 1 es e) _ ∙ T .degrees-len;
@@ -270,7 +270,8 @@ module _ {m n : ℕ} {es heads nexts : List ℕ} (X : Indexed m n es heads nexts
         is-u = getD-set-other queue tail h (endOf 1 es e) 0 (λ s. omega (arith, T .later)) ∙ T .is-u;
         peeling = record {
           place = placeAt (P .place) (endOf 1 es e) tail;
-          queued = queued-push queued (X .ends) (λ s. absurd (omega (arith, T .later))) entered new (stored ∙ z) (omega (arith, T .queue-len));
+          queued = queued-push queued (X .ends) (λ s. absurd (omega (arith, T .later))) entered new
+              (stored ∙ ap (λ (x : ℕ). getD degrees x 0 - 1) (sym t) ∙ z) (omega (arith, T .queue-len));
           zero = λ v b y. elim (ℕ-discrete v (endOf 1 es e)) [
             | yes s ↦ rw (s, at-same (P .place) (endOf 1 es e) tail) (omega arith)
             | no ne ↦ omega (arith, at-other (P .place) (endOf 1 es e) tail v ne, other-zero v b ne y)

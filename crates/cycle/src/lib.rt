@@ -56,7 +56,7 @@ fn peel(
     while e < m {
         let d = e;
         e = nexts[2 * d] as usize;
-        let to = es[4 * d + 1] as usize;
+        let to = store::edge_to(es, d) as usize;
         let left = degrees[to] - 1;
         degrees[to] = left;
         if left == 0 {

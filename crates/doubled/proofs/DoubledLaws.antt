@@ -62,8 +62,8 @@ module _ {m n : ℕ} {es heads nexts : List ℕ} (X : Indexed m n es heads nexts
     entered : endOf 1 es e < n
     entered = X .ends .at e h .1
 
-    pub marking-found : getD marks (endOf 1 es e) 0 ≡ v + 1 → DoubledFrom m n es v true marks
-    marking-found q = let s = M .seen (endOf 1 es e) entered q in record {
+    pub marking-found : {to : ℕ} → to ≡ endOf 1 es e → getD marks to 0 ≡ v + 1 → DoubledFrom m n es v true marks
+    marking-found w q = let s = M .seen (endOf 1 es e) entered (ap (λ (x : ℕ). getD marks x 0) (sym w) ∙ q) in record {
       yes = λ t. record { first = s .by; second = e; order = s .low; below = h; from-first = s .from; from-second = M .hit h; to-same = s .to };
       no = λ t. clash refl t;
       stale = M .stale;
@@ -76,7 +76,7 @@ module _ {m n : ℕ} {es heads nexts : List ℕ} (X : Indexed m n es heads nexts
       | no ne ↦ byOrder e j (λ l. absurd ((out .nexts e h) .skip j (omega arith) b (q ∙ sym (M .hit h)))) old
     ]
 
-    module _ (fresh : getD marks (endOf 1 es e) 0 ≡ v + 1 → ⊥) (room : n ≤ length marks₀) where
+    module _ {to : ℕ} (is-to : to ≡ endOf 1 es e) (fresh : getD marks to 0 ≡ v + 1 → ⊥) (room : n ≤ length marks₀) where
       stored : getD (set marks (endOf 1 es e) (v + 1)) (endOf 1 es e) 0 ≡ v + 1
       stored = getD-set-same marks (endOf 1 es e) (v + 1) 0 (omega (arith, entered, M .len))
 
@@ -102,10 +102,10 @@ module _ {m n : ℕ} {es heads nexts : List ℕ} (X : Indexed m n es heads nexts
       marks-single : (i j : ℕ) → i < j → j < pairAt 0 nexts e → endOf 0 es i ≡ v → endOf 0 es j ≡ v → endOf 1 es i ≡ endOf 1 es j → ⊥
       marks-single i j a b p q s = passed j b q
           (λ l. M .single i j a l p q s)
-          (λ (w : j ≡ e). fresh (ap (λ (x : ℕ). getD marks x 0) (sym (s ∙ ap (endOf 1 es) w)) ∙ M .noted i (omega arith) p))
+          (λ (w : j ≡ e). fresh (ap (λ (x : ℕ). getD marks x 0) (is-to ∙ sym (s ∙ ap (endOf 1 es) w)) ∙ M .noted i (omega arith) p))
 
-      pub marking-more : {e′ : ℕ} → e′ ≡ getD nexts (2 * e) 0 → Marking m n es v marks₀ (set marks (endOf 1 es e) (v + 1)) e′
-      marking-more q = rw (q ∙ pair-first nexts e) (record {
+      pub marking-more : {e′ : ℕ} → e′ ≡ getD nexts (2 * e) 0 → Marking m n es v marks₀ (set marks to (v + 1)) e′
+      marking-more q = rw (is-to, q ∙ pair-first nexts e) (record {
         high = (out .nexts e h) .high;
         hit = λ b. (out .nexts e h) .hit b ∙ M .hit h;
         len = length-set marks (endOf 1 es e) (v + 1) ∙ M .len;

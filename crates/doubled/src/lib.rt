@@ -24,7 +24,7 @@ fn doubled_from(
     while e < m {
         let d = e;
         e = nexts[2 * d] as usize;
-        let to = es[4 * d + 1] as usize;
+        let to = store::edge_to(es, d) as usize;
         if marks[to] == mark {
             return true;
         }

@@ -1,6 +1,6 @@
 -- `cycle::peel` meets its contract. Assumes nothing.
 use native.Mathlib.Omega.{arith}
-use Prim.Native.Nat.{_+_, _*_, _-_}
+use Prim.Native.Nat.{_*_, _-_}
 use mathlib.Core.Path.{refl}
 use lib.ListN.{getD}
 use Rattle.cycle.proofs.QueueLaws.{queue-most}
@@ -64,11 +64,14 @@ sub-left c =
     omega (
       arith,
       taken-some (start .pre .1 .0) (at-loop .loop .inv) (at-loop-test .loop-test .taken)
-          (start .pre .1 .1 .0 .degrees-room),
+          (at-edge-to .edge-to .ensures) (start .pre .1 .1 .0 .degrees-room),
     )
   where
+    at-edge-to : tie.After-edge-to Inv-loop μ-loop
+    at-edge-to = search
+
     at-loop-test : tie.In-loop Inv-loop μ-loop
-    at-loop-test = search
+    at-loop-test = let c = at-edge-to in search
 
     at-loop : tie.At-loop Inv-loop μ-loop
     at-loop = let c = at-loop-test in search
@@ -192,6 +195,7 @@ loop-less c = omega (arith, taking-later (start .pre .1 .0) (at-loop .loop .inv)
 
 loop-again : tie.Need-loop-again Inv-loop μ-loop
 loop-again c =
+    let at-edge-to : tie.After-edge-to Inv-loop μ-loop = search in
     let at-loop-test : tie.In-loop Inv-loop μ-loop = search in
     let at-loop : tie.At-loop Inv-loop μ-loop = search in
     let start : tie.Start Inv-loop μ-loop = search in
@@ -200,6 +204,7 @@ loop-again c =
     (at-loop .loop .inv)
     (at-loop-test .loop-test .taken)
     (start .pre .1 .1 .0 .degrees-room)
+    (at-edge-to .edge-to .ensures)
     (start .pre .1 .1 .0 .queue-room)
     (c .if1 .taken) refl
 
@@ -217,6 +222,7 @@ loop-less-2 c = omega (arith, taking-later (start .pre .1 .0) (at-loop .loop .in
 
 loop-again-2 : tie.Need-loop-again-2 Inv-loop μ-loop
 loop-again-2 c =
+    let at-edge-to : tie.After-edge-to Inv-loop μ-loop = search in
     let at-loop-test : tie.In-loop Inv-loop μ-loop = search in
     let at-loop : tie.At-loop Inv-loop μ-loop = search in
     let start : tie.Start Inv-loop μ-loop = search in
@@ -225,7 +231,14 @@ loop-again-2 c =
     (at-loop .loop .inv)
     (at-loop-test .loop-test .taken)
     (start .pre .1 .1 .0 .degrees-room)
+    (at-edge-to .edge-to .ensures)
     (c .if1 .left) refl
+
+mul-u : tie.Need-mul-u Inv-loop μ-loop
+mul-u c = omega (arith, queue-most (start .pre .1 .1 .1 .queued), start .pre .1 .1 .0 .queue-room)
+  where
+    start : tie.Start Inv-loop μ-loop
+    start = search
 
 slice-read-u : tie.Need-slice-read-u Inv-loop μ-loop
 slice-read-u c = omega (arith, queue-most (start .pre .1 .1 .1 .queued), start .pre .1 .1 .0 .queue-room)
@@ -262,7 +275,7 @@ shared-slice-read-e c =
     start = search
 
 cast-e : tie.Need-cast-e Inv-loop μ-loop
-cast-e c = omega (arith, c .shared-slice-known .given (2 * getD (start .args .queue .now) (start .args .h) 0))
+cast-e c = omega (arith, c .shared-slice-known4 .given (2 * getD (start .args .queue .now) (start .args .h) 0))
   where
     start : tie.Start Inv-loop μ-loop
     start = search
@@ -273,13 +286,7 @@ loop-holds c =
     taking-start (start .pre .1 .0) (start .pre .0) (start .pre .1 .1 .1) refl refl
 
 cast-e-2 : tie.Need-cast-e-2 Inv-loop μ-loop
-cast-e-2 c = omega (arith, c .shared-slice-known2 .given (2 * at-loop .loop .e))
-  where
-    at-loop : tie.At-loop Inv-loop μ-loop
-    at-loop = search
-
-cast-to : tie.Need-cast-to Inv-loop μ-loop
-cast-to c = omega (arith, c .shared-slice-known3 .given (4 * at-loop .loop .e + 1))
+cast-e-2 c = omega (arith, c .shared-slice-known5 .given (2 * at-loop .loop .e))
   where
     at-loop : tie.At-loop Inv-loop μ-loop
     at-loop = search
@@ -296,7 +303,7 @@ peel-spec =
     (tie.spec
     Inv-loop
     μ-loop
-    (λ c. omega (arith, queue-most (c .pre .1 .1 .1 .queued), c .pre .1 .1 .0 .queue-room))
+    mul-u
     slice-read-u
     cast-u
     mul-e
@@ -308,11 +315,8 @@ peel-spec =
     (λ c. let start : tie.Start Inv-loop μ-loop = search in omega (arith, start .pre .1 .0 .nexts-room))
     (λ c. let start : tie.Start Inv-loop μ-loop = search in omega (arith, start .pre .1 .0 .nexts-room))
     cast-e-2
-    (λ c. let start : tie.Start Inv-loop μ-loop = search in omega (arith, start .pre .1 .0 .room))
-    (λ c. let start : tie.Start Inv-loop μ-loop = search in omega (arith, start .pre .1 .0 .room))
-    (λ c. let start : tie.Start Inv-loop μ-loop = search in omega (arith, start .pre .1 .0 .room))
-    (λ c. let start : tie.Start Inv-loop μ-loop = search in omega (arith, start .pre .1 .0 .room))
-    cast-to
+    (λ c κs. let start : tie.Start Inv-loop μ-loop = search in omega (arith, start .pre .1 .0 .room))
+    (λ c. omega arith)
     mul-left
     slice-read-left
     sub-left

@@ -1,6 +1,6 @@
 -- `doubled::doubled_from` meets its contract. Assumes nothing.
 use native.Mathlib.Omega.{arith}
-use Prim.Native.Nat.{_+_, _*_, _-_}
+use Prim.Native.Nat.{_*_, _-_}
 use mathlib.Core.Path.{refl}
 use Rattle.doubled.proofs.DoubledLaws.{
   Marking,
@@ -57,10 +57,12 @@ slice-read-if1 c =
 
 returns : tie.Need-returns Inv-loop μ-loop
 returns c =
+    let at-edge-to : tie.After-edge-to Inv-loop μ-loop = search in
     let at-loop-test : tie.In-loop Inv-loop μ-loop = search in
     let at-loop : tie.At-loop Inv-loop μ-loop = search in
     let start : tie.Start Inv-loop μ-loop = search in
-    marking-found (start .pre .1 .0) (at-loop .loop .inv) (at-loop-test .loop-test .taken) (c .if1 .taken)
+    marking-found (start .pre .1 .0) (at-loop .loop .inv) (at-loop-test .loop-test .taken)
+    (at-edge-to .edge-to .ensures) (c .if1 .taken)
 
 mul-marks : tie.Need-mul-marks Inv-loop μ-loop
 mul-marks c =
@@ -112,6 +114,7 @@ loop-less c = omega (arith, next-later (start .pre .1 .0) (at-loop .loop .inv) (
 
 loop-again : tie.Need-loop-again Inv-loop μ-loop
 loop-again c =
+    let at-edge-to : tie.After-edge-to Inv-loop μ-loop = search in
     let at-loop-test : tie.In-loop Inv-loop μ-loop = search in
     let at-loop : tie.At-loop Inv-loop μ-loop = search in
     let start : tie.Start Inv-loop μ-loop = search in
@@ -119,11 +122,12 @@ loop-again c =
     (start .pre .1 .0)
     (at-loop .loop .inv)
     (at-loop-test .loop-test .taken)
+    (at-edge-to .edge-to .ensures)
     (c .if1 .left)
     (start .pre .1 .1 .0 .room) refl
 
 cast-e : tie.Need-cast-e Inv-loop μ-loop
-cast-e c = omega (arith, c .shared-slice-known .given (2 * start .args .v))
+cast-e c = omega (arith, c .shared-slice-known4 .given (2 * start .args .v))
   where
     start : tie.Start Inv-loop μ-loop
     start = search
@@ -134,13 +138,7 @@ loop-holds c =
     marking-start (start .pre .1 .0) refl (start .pre .0) (start .pre .1 .1 .1)
 
 cast-e-2 : tie.Need-cast-e-2 Inv-loop μ-loop
-cast-e-2 c = omega (arith, c .shared-slice-known2 .given (2 * at-loop .loop .e))
-  where
-    at-loop : tie.At-loop Inv-loop μ-loop
-    at-loop = search
-
-cast-to : tie.Need-cast-to Inv-loop μ-loop
-cast-to c = omega (arith, c .shared-slice-known3 .given (4 * at-loop .loop .e + 1))
+cast-e-2 c = omega (arith, c .shared-slice-known5 .given (2 * at-loop .loop .e))
   where
     at-loop : tie.At-loop Inv-loop μ-loop
     at-loop = search
@@ -157,10 +155,10 @@ doubled-from-spec =
     (tie.spec
     Inv-loop
     μ-loop
-    (λ c. omega (arith, c .pre .1 .1 .0 .small))
-    (λ c. omega (arith, c .pre .1 .1 .0 .small))
-    (λ c. omega (arith, c .pre .1 .0 .heads-room))
-    (λ c. omega (arith, c .pre .1 .0 .heads-room))
+    (λ c. let start : tie.Start Inv-loop μ-loop = search in omega (arith, start .pre .1 .1 .0 .small))
+    (λ c. let start : tie.Start Inv-loop μ-loop = search in omega (arith, start .pre .1 .1 .0 .small))
+    (λ c. let start : tie.Start Inv-loop μ-loop = search in omega (arith, start .pre .1 .0 .heads-room))
+    (λ c. let start : tie.Start Inv-loop μ-loop = search in omega (arith, start .pre .1 .0 .heads-room))
     (λ c. let start : tie.Start Inv-loop μ-loop = search in omega (arith, start .pre .1 .0 .heads-room))
     cast-e
     loop-holds
@@ -168,11 +166,8 @@ doubled-from-spec =
     (λ c. let start : tie.Start Inv-loop μ-loop = search in omega (arith, start .pre .1 .0 .nexts-room))
     (λ c. let start : tie.Start Inv-loop μ-loop = search in omega (arith, start .pre .1 .0 .nexts-room))
     cast-e-2
-    (λ c. let start : tie.Start Inv-loop μ-loop = search in omega (arith, start .pre .1 .0 .room))
-    (λ c. let start : tie.Start Inv-loop μ-loop = search in omega (arith, start .pre .1 .0 .room))
-    (λ c. let start : tie.Start Inv-loop μ-loop = search in omega (arith, start .pre .1 .0 .room))
-    (λ c. let start : tie.Start Inv-loop μ-loop = search in omega (arith, start .pre .1 .0 .room))
-    cast-to
+    (λ c κs. let start : tie.Start Inv-loop μ-loop = search in omega (arith, start .pre .1 .0 .room))
+    (λ c. omega arith)
     mul-if1
     slice-read-if1
     (λ c. let at-loop : tie.At-loop Inv-loop μ-loop = search in at-loop .loop .inv .len)
