@@ -64,7 +64,7 @@ fn put_lengths(out: &mut [u8], vs: &[u32], n: usize)
 {
     let mut i = 0;
     while i < n {
-        le::put_u16(out, 32 + 2 * i, vs[2 * i + 1] as u16);
+        le::put_u16(out, 32 + 2 * i, store::len_number(vs, i) as u16);
         i += 1;
     }
 }
@@ -115,8 +115,8 @@ fn put_sequences(out: &mut [u8], at: usize, vs: &[u32], n: usize, p: &[u8])
     let mut to = at;
     let mut v = 0;
     while v < n {
-        let start = vs[2 * v] as usize;
-        let len = vs[2 * v + 1] as usize;
+        let start = store::start_number(vs, v) as usize;
+        let len = store::len_number(vs, v) as usize;
         put_sequence(out, to, p, start, len);
         to += len;
         v += 1;
@@ -131,7 +131,7 @@ pub fn sequence_bytes(vs: &[u32], n: usize) -> usize
     let mut total = 0;
     let mut v = 0;
     while v < n {
-        total += vs[2 * v + 1] as usize;
+        total += store::len_number(vs, v) as usize;
         v += 1;
     }
     total

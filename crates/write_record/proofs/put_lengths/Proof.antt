@@ -1,6 +1,9 @@
 -- `write_record::put_lengths` meets its contract. Assumes nothing.
 use native.Mathlib.Omega.{arith}
-use Prim.Native.Nat.{_-_}
+use Prim.Native.Nat.{ℕ, _-_}
+use mathlib.Core.Path.{sym, ap, _∙_}
+use mathlib.Core.List.{_++_}
+use Rattle.defs.specs.Record.{le16}
 use Rattle.write_record.specs.Written.{lengthBytes}
 use Rattle.write_record.proofs.WriteLaws.{
   Growing,
@@ -27,15 +30,20 @@ loop-again c =
     growing-more _ _
     (at-loop .loop .inv)
     (at-loop-test .loop-test .taken)
-    (fields-more (lengthBytes (start .args .vs .now)) (at-loop .loop .i))
+    (fields-more (lengthBytes (start .args .vs .now)) (at-loop .loop .i)
+    ∙ ap (λ (x : ℕ). fields (lengthBytes (start .args .vs .now)) (at-loop .loop .i) ++ le16 x)
+    (sym (at-len-number .len-number .ensures)))
     (omega (arith, lengths-length (start .args .vs .now) (at-loop .loop .i)))
     (at-put-u16 .put-u16 .ensures)
   where
     at-put-u16 : tie.After-put-u16 Inv-loop μ-loop
     at-put-u16 = search
 
+    at-len-number : tie.After-len-number Inv-loop μ-loop
+    at-len-number = let c = at-put-u16 in search
+
     at-loop-test : tie.In-loop Inv-loop μ-loop
-    at-loop-test = let c = at-put-u16 in search
+    at-loop-test = let c = at-len-number in search
 
     at-loop : tie.At-loop Inv-loop μ-loop
     at-loop = let c = at-loop-test in search
@@ -78,10 +86,7 @@ put-lengths-spec =
     loop-holds
     (λ c. let start : tie.Start Inv-loop μ-loop = search in omega (arith, start .pre .room))
     (λ c. let start : tie.Start Inv-loop μ-loop = search in omega (arith, start .pre .room))
-    (λ c. let start : tie.Start Inv-loop μ-loop = search in omega (arith, start .pre .vs-room))
-    (λ c. let start : tie.Start Inv-loop μ-loop = search in omega (arith, start .pre .vs-room))
-    (λ c. let start : tie.Start Inv-loop μ-loop = search in omega (arith, start .pre .vs-room))
-    (λ c. let start : tie.Start Inv-loop μ-loop = search in omega (arith, start .pre .vs-room))
+    (λ c κs. let start : tie.Start Inv-loop μ-loop = search in omega (arith, start .pre .vs-room))
     cast-put-u16
     put-u16-requires
     (λ c. omega arith)

@@ -1,8 +1,9 @@
 -- `write_record::put_sequences` meets its contract. Assumes nothing.
 use native.Mathlib.Omega.{arith}
-use Prim.Native.Nat.{_+_, _*_, _-_}
-use mathlib.Core.Path.{_≡_}
-use Rattle.store.specs.Store.{seqIn}
+use Prim.Native.Nat.{_+_, _-_}
+use mathlib.Core.Path.{_≡_, sym, _∙_}
+use mathlib.Core.List.{_++_}
+use Rattle.store.specs.Store.{part, seqIn}
 use Rattle.pool.specs.Pool.{bytesIn}
 use Rattle.pool.proofs.PoolLaws.{bytes-none, bytes-more, bytes-below}
 use Rattle.write_record.proofs.WriteLaws.{
@@ -43,7 +44,7 @@ put-sequence-requires c κs = (
     growing-len (at-loop .loop .inv .1),
     bytes-below (start .args .n) (at-loop .loop .v) (start .args .vs .now) (at-loop-test .loop-test .taken),
   ),
-  start .pre .within .at (at-loop .loop .v) (at-loop-test .loop-test .taken),
+  omega (arith, start .pre .within .at (at-loop .loop .v) (at-loop-test .loop-test .taken)),
 )
   where
     at-loop-test : tie.In-loop Inv-loop μ-loop
@@ -77,7 +78,10 @@ loop-again : tie.Need-loop-again Inv-loop μ-loop
 loop-again c = (
   omega (arith, at-loop .loop .inv .0, bytes-more (at-loop .loop .v) (start .args .vs .now)),
   growing-more _ _ (at-loop .loop .inv .1) (at-loop-test .loop-test .taken)
-      (fields-more (seqIn (start .args .vs .now) (start .args .p .now)) (at-loop .loop .v))
+      (fields-more (seqIn (start .args .vs .now) (start .args .p .now)) (at-loop .loop .v)
+      ∙ (λ i. fields (seqIn (start .args .vs .now) (start .args .p .now)) (at-loop .loop .v)
+      ++ part (start .args .p .now) (sym (at-start-number .start-number .ensures) i)
+      (sym (at-len-number .len-number .ensures) i)))
       (omega (
         arith,
         at-loop .loop .inv .0,
@@ -89,26 +93,20 @@ loop-again c = (
     at-put-sequence : tie.After-put-sequence Inv-loop μ-loop
     at-put-sequence = search
 
+    at-len-number : tie.After-len-number Inv-loop μ-loop
+    at-len-number = let c = at-put-sequence in search
+
+    at-start-number : tie.After-start-number Inv-loop μ-loop
+    at-start-number = let c = at-len-number in search
+
     at-loop-test : tie.In-loop Inv-loop μ-loop
-    at-loop-test = let c = at-put-sequence in search
+    at-loop-test = let c = at-start-number in search
 
     at-loop : tie.At-loop Inv-loop μ-loop
     at-loop = let c = at-loop-test in search
 
     start : tie.Start Inv-loop μ-loop
     start = let c = at-loop in search
-
-cast-start : tie.Need-cast-start Inv-loop μ-loop
-cast-start c = omega (arith, c .shared-slice-known3 .given (2 * at-loop .loop .v))
-  where
-    at-loop : tie.At-loop Inv-loop μ-loop
-    at-loop = search
-
-cast-len : tie.Need-cast-len Inv-loop μ-loop
-cast-len c = omega (arith, c .shared-slice-known4 .given (2 * at-loop .loop .v + 1))
-  where
-    at-loop : tie.At-loop Inv-loop μ-loop
-    at-loop = search
 
 returns : tie.Need-returns Inv-loop μ-loop
 returns c =
@@ -122,15 +120,10 @@ put-sequences-spec =
     Inv-loop
     μ-loop
     loop-holds
-    (λ c. let start : tie.Start Inv-loop μ-loop = search in omega (arith, start .pre .vs-room))
-    (λ c. let start : tie.Start Inv-loop μ-loop = search in omega (arith, start .pre .vs-room))
-    (λ c. let start : tie.Start Inv-loop μ-loop = search in omega (arith, start .pre .vs-room))
-    cast-start
-    (λ c. let start : tie.Start Inv-loop μ-loop = search in omega (arith, start .pre .vs-room))
-    (λ c. let start : tie.Start Inv-loop μ-loop = search in omega (arith, start .pre .vs-room))
-    (λ c. let start : tie.Start Inv-loop μ-loop = search in omega (arith, start .pre .vs-room))
-    (λ c. let start : tie.Start Inv-loop μ-loop = search in omega (arith, start .pre .vs-room))
-    cast-len
+    (λ c κs. let start : tie.Start Inv-loop μ-loop = search in omega (arith, start .pre .vs-room))
+    (λ c. omega arith)
+    (λ c κs. let start : tie.Start Inv-loop μ-loop = search in omega (arith, start .pre .vs-room))
+    (λ c. omega arith)
     put-sequence-requires
     add-to
     (λ c. omega arith)

@@ -1,6 +1,6 @@
 -- `write_record::sequence_bytes` meets its contract. Assumes nothing.
 use native.Mathlib.Omega.{arith}
-use Prim.Native.Nat.{ℕ, _+_, _*_, _-_, _≤_}
+use Prim.Native.Nat.{ℕ, _-_, _≤_}
 use mathlib.Core.Path.{_≡_, sym, ap, _∙_}
 use Rattle.pool.specs.Pool.{bytesIn}
 use Rattle.pool.proofs.PoolLaws.{bytes-none, bytes-more, bytes-below}
@@ -13,14 +13,14 @@ Inv-loop vs n total₀ v₀ total v = (v ≤ n) × (total ≡ bytesIn v vs)
 abbrev μ-loop : tie.MeasureT-loop
 μ-loop vs n total₀ v₀ total v = n - v
 
-cast-total : tie.Need-cast-total Inv-loop μ-loop
-cast-total c = omega (arith, c .shared-slice-known .given (2 * at-loop .loop .v + 1))
+loop-holds : tie.Need-loop-holds Inv-loop μ-loop
+loop-holds c = (omega arith, sym (bytes-none (start .args .vs .now)))
   where
-    at-loop : tie.At-loop Inv-loop μ-loop
-    at-loop = search
+    start : tie.Start Inv-loop μ-loop
+    start = search
 
-add-total-2 : tie.Need-add-total-2 Inv-loop μ-loop
-add-total-2 c =
+add-total : tie.Need-add-total Inv-loop μ-loop
+add-total c =
     omega
     (arith, bytes-below (start .args .n) (at-loop .loop .v) (start .args .vs .now) (at-loop-test .loop-test .taken))
   where
@@ -58,13 +58,10 @@ sequence-bytes-spec =
     (tie.spec
     Inv-loop
     μ-loop
-    (λ c. (omega arith, sym (bytes-none (c .args .vs .now))))
+    loop-holds
+    (λ c κs. omega arith)
     (λ c. omega arith)
-    (λ c. omega arith)
-    (λ c. omega arith)
-    (λ c. omega arith)
-    cast-total
-    add-total-2
+    add-total
     (λ c. omega arith)
     (λ c. omega arith)
     loop-again
