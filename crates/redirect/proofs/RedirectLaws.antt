@@ -139,17 +139,24 @@ module _ {off y n lo m : ℕ} {es mp : List ℕ} (M : Marks off y n lo m es mp) 
 
 -- ---- one edge
 
-module _ {off y n lo m : ℕ} {es mp : List ℕ} {e : ℕ} (E : OneReady off y n lo m es mp e) {at : ℕ} (q : at ≡ place lo m (getD mp (endOf (1 - off) es e) 0)) where
-  pub edge-small : at + 1 < 4294967296
-  edge-small = omega (arith, at-most (E .marks) _ (E .other) q, E .small)
+-- x is the end that stays
+module _ {off y n lo m : ℕ} {es mp : List ℕ} {e : ℕ} (E : OneReady off y n lo m es mp e) {x : ℕ} (w : x ≡ endOf (1 - off) es e) where
+  pub other-below : x < n
+  other-below = omega (arith, E .other)
 
-  pub one-done : {u v s f k : ℕ} {es′ : List ℕ} → u ≡ newFrom off y (endOf (1 - off) es e) → v ≡ newTo off y (endOf (1 - off) es e) → s
-      ≡ getD es (4 * e + 2) 0 → f ≡ getD es (4 * e + 3) 0
-      → edgesIn k es′ ≡ addOrUpdateEdge u v s (isSet f) (edgesIn m es) → OneDone off y n lo m es e k es′ (set mp (endOf (1 - off) es e) (at + 1))
-  unfolding addOrUpdateEdges
-  one-done {u} {v} {s} {f} {k} {es′} hu hv hs hf is =
-      let z = is ∙ (λ i. addOrUpdateEdge (hu i) (hv i) (hs i) (isSet (hf i)) (edgesIn m es)) in
-      record { is = z; marks = marks-more (E .marks) (endOf (1 - off) es e) (E .other) q (getD es (4 * e + 2) 0) (isSet (getD es (4 * e + 3) 0)) k es′ z }
+  module _ {at : ℕ} (q : at ≡ place lo m (getD mp x 0)) where
+    pub edge-small : at + 1 < 4294967296
+    edge-small = omega (arith, at-most (E .marks) x other-below q, E .small)
+
+    pub one-done : {u v s f k : ℕ} {es′ : List ℕ} → u ≡ newFrom off y x → v ≡ newTo off y x → s ≡ getD es (4 * e + 2) 0 → f ≡ getD es (4 * e + 3) 0
+        → edgesIn k es′ ≡ addOrUpdateEdge u v s (isSet f) (edgesIn m es) → OneDone off y n lo m es e k es′ (set mp x (at + 1))
+    unfolding addOrUpdateEdges
+    one-done {u} {v} {s} {f} {k} {es′} hu hv hs hf is =
+        let z = is ∙ (λ i. addOrUpdateEdge (hu i) (hv i) (hs i) (isSet (hf i)) (edgesIn m es)) in
+        record {
+          is = z ∙ ap (λ (t : ℕ). addOrUpdateEdge (newFrom off y t) (newTo off y t) (getD es (4 * e + 2) 0) (isSet (getD es (4 * e + 3) 0)) (edgesIn m es)) w;
+          marks = marks-more (E .marks) x other-below q (getD es (4 * e + 2) 0) (isSet (getD es (4 * e + 3) 0)) k es′ z;
+        }
 
 -- ---- all edges of a vertex
 

@@ -37,7 +37,7 @@ fn redirect_edge(
     requires { ⌜ OneReady off y n lo m (now es) (now map) e ⌝ }
     ensures { λ r. ⌜ OneDone off y n lo m (now (es .entry)) e r (now (es .exit)) (now (map .exit)) ⌝ }
 {
-    let x = es[4 * e + (1 - off)];
+    let x = store::edge_end(es, e, 1 - off);
     let at = place_of(map[x as usize], lo, m);
     let s = store::edge_support(es, e);
     let f = store::edge_flag(es, e);
