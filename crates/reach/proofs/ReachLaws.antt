@@ -225,22 +225,24 @@ module _ {m n : ℕ} {es heads nexts : List ℕ} (X : Indexed m n es heads nexts
       pub pushing-shut : passable plain es e ≡ false → Pushing plain kind off m n es s h u marks₀ queue₀ queued marks queue tail (pairAt off nexts e)
       pushing-shut f = passed (λ t p. clash p f)
 
-      pub pushing-seen : isSet (getD marks (endOf (1 - off) es e) 0) ≡ true → Pushing plain
-          kind off m n es s h u marks₀ queue₀ queued marks queue tail (pairAt off nexts e)
-      pushing-seen t = passed (λ _ _. t)
+      pub pushing-seen : {w : ℕ} → w ≡ endOf (1 - off) es e → isSet (getD marks w 0) ≡ true
+          → Pushing plain kind off m n es s h u marks₀ queue₀ queued marks queue tail (pairAt off nexts e)
+      pushing-seen q t = passed (λ _ _. ap (λ (x : ℕ). isSet (getD marks x 0)) (sym q) ∙ t)
 
-      module _ (R : Walkable n marks₀ queue₀) (new : isSet (getD marks (endOf (1 - off) es e) 0) ≡ false) where
+      module _ (R : Walkable n marks₀ queue₀) {x : ℕ} (is-x : x ≡ endOf (1 - off) es e) (fresh : isSet (getD marks x 0) ≡ false) where
+        new : isSet (getD marks (endOf (1 - off) es e) 0) ≡ false
+        new = ap (λ (y : ℕ). isSet (getD marks y 0)) (sym is-x) ∙ fresh
+
         pub pushing-room : tail < n
         pushing-room = found-room (P .found) pushing-below new
 
         pub pushing-push : h < queued → takesEnd kind off ≡ true → passable plain es e ≡ true
-            → Pushing plain kind off m n es s h u marks₀ queue₀ queued (set marks (endOf (1 - off) es e) 1)
-            (set queue tail (endOf (1 - off) es e)) (tail + 1) (pairAt off nexts e)
+            → Pushing plain kind off m n es s h u marks₀ queue₀ queued (set marks x 1) (set queue tail x) (tail + 1) (pairAt off nexts e)
         pushing-push l t p =
             let w = endOf (1 - off) es e in
             let r : n ≤ length marks = omega (arith, P .marks-len, R .marks-room) in
             let y : w < length marks = omega (arith, pushing-below) in
-            record {
+            rw is-x (record {
               high = N .high;
               hit = N .hit;
               marks-len = length-set marks w 1 ∙ P .marks-len;
@@ -260,7 +262,7 @@ module _ {m n : ℕ} {es heads nexts : List ℕ} (X : Indexed m n es heads nexts
                   });
               grown = grown-push w y (P .grown);
               spread = spread-next (spread-stays (λ v. mark-stays marks w v y) (P .spread)) N (λ _ _. ap isSet (getD-set-same marks w 1 0 y));
-            }
+            })
 
     pub pushing-end : {u : ℕ} {marks₀ queue₀ : List ℕ} {queued : ℕ} {marks queue : List ℕ} {tail e : ℕ} → Pushing plain
         kind off m n es s h u marks₀ queue₀ queued marks queue tail e → m ≤ e

@@ -72,7 +72,7 @@ fn push_steps(
         let d = e;
         e = nexts[2 * d + off] as usize;
         if may_pass(es, d, plain) {
-            let w = es[4 * d + (1 - off)];
+            let w = store::edge_end(es, d, 1 - off);
             if marks[w as usize] == 0 {
                 marks[w as usize] = 1;
                 queue[tail] = w;

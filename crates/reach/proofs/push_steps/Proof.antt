@@ -136,35 +136,8 @@ cast-e-2 c = omega (arith, c .shared-slice-known5 .given (2 * at-loop .loop .e +
     start : tie.Start Inv-loop μ-loop
     start = let c = at-loop in search
 
-mul-w : tie.Need-mul-w Inv-loop μ-loop
-mul-w c = omega (arith, start .pre .1 .1 .0 .room, at-loop-test .loop-test .taken)
-  where
-    at-loop-test : tie.In-loop Inv-loop μ-loop
-    at-loop-test = search
-
-    start : tie.Start Inv-loop μ-loop
-    start = let c = at-loop-test in search
-
-add-w : tie.Need-add-w Inv-loop μ-loop
-add-w c = omega (arith, start .pre .1 .1 .0 .room, at-loop-test .loop-test .taken)
-  where
-    at-loop-test : tie.In-loop Inv-loop μ-loop
-    at-loop-test = search
-
-    start : tie.Start Inv-loop μ-loop
-    start = let c = at-loop-test in search
-
-mul-w-2 : tie.Need-mul-w-2 Inv-loop μ-loop
-mul-w-2 c = omega (arith, start .pre .1 .1 .0 .room, at-loop-test .loop-test .taken)
-  where
-    at-loop-test : tie.In-loop Inv-loop μ-loop
-    at-loop-test = search
-
-    start : tie.Start Inv-loop μ-loop
-    start = let c = at-loop-test in search
-
-shared-slice-read-w : tie.Need-shared-slice-read-w Inv-loop μ-loop
-shared-slice-read-w c = omega (arith, start .pre .1 .1 .0 .room, at-loop-test .loop-test .taken)
+edge-end-requires : tie.Need-edge-end-requires Inv-loop μ-loop
+edge-end-requires c κs = omega (arith, start .pre .1 .1 .0 .room, at-loop-test .loop-test .taken)
   where
     at-loop-test : tie.In-loop Inv-loop μ-loop
     at-loop-test = search
@@ -283,13 +256,16 @@ mul-queue c =
     omega (
       arith,
       pushing-room (start .pre .1 .1 .0) (start .pre .1 .0) (at-loop .loop .inv) (at-loop-test .loop-test .taken)
-          (start .pre .1 .1 .1 .0) (set-not (c .if3 .taken)),
+          (start .pre .1 .1 .1 .0) (at-edge-end .edge-end .ensures) (set-not (c .if3 .taken)),
       at-loop .loop .inv .queue-len,
       start .pre .1 .1 .1 .0 .queue-room,
     )
   where
+    at-edge-end : tie.After-edge-end Inv-loop μ-loop
+    at-edge-end = search
+
     at-loop-test : tie.In-loop Inv-loop μ-loop
-    at-loop-test = search
+    at-loop-test = let c = at-edge-end in search
 
     at-loop : tie.At-loop Inv-loop μ-loop
     at-loop = let c = at-loop-test in search
@@ -302,13 +278,16 @@ slice-write-queue c =
     omega (
       arith,
       pushing-room (start .pre .1 .1 .0) (start .pre .1 .0) (at-loop .loop .inv) (at-loop-test .loop-test .taken)
-          (start .pre .1 .1 .1 .0) (set-not (c .if3 .taken)),
+          (start .pre .1 .1 .1 .0) (at-edge-end .edge-end .ensures) (set-not (c .if3 .taken)),
       at-loop .loop .inv .queue-len,
       start .pre .1 .1 .1 .0 .queue-room,
     )
   where
+    at-edge-end : tie.After-edge-end Inv-loop μ-loop
+    at-edge-end = search
+
     at-loop-test : tie.In-loop Inv-loop μ-loop
-    at-loop-test = search
+    at-loop-test = let c = at-edge-end in search
 
     at-loop : tie.At-loop Inv-loop μ-loop
     at-loop = let c = at-loop-test in search
@@ -321,12 +300,15 @@ add-tail c =
     omega (
       arith,
       pushing-room (start .pre .1 .1 .0) (start .pre .1 .0) (at-loop .loop .inv) (at-loop-test .loop-test .taken)
-          (start .pre .1 .1 .1 .0) (set-not (c .if3 .taken)),
+          (start .pre .1 .1 .1 .0) (at-edge-end .edge-end .ensures) (set-not (c .if3 .taken)),
       start .pre .1 .1 .1 .0 .small,
     )
   where
+    at-edge-end : tie.After-edge-end Inv-loop μ-loop
+    at-edge-end = search
+
     at-loop-test : tie.In-loop Inv-loop μ-loop
-    at-loop-test = search
+    at-loop-test = let c = at-edge-end in search
 
     at-loop : tie.At-loop Inv-loop μ-loop
     at-loop = let c = at-loop-test in search
@@ -358,13 +340,17 @@ loop-again c =
     (at-loop .loop .inv)
     (at-loop-test .loop-test .taken)
     (start .pre .1 .1 .1 .0)
+    (at-edge-end .edge-end .ensures)
     (set-not (c .if3 .taken))
     (start .pre .0)
     (sym (at-takes-end .takes-end .ensures) ∙ not-false _ (at-if1 .if1 .left))
     (sym (at-may-pass .may-pass .ensures) ∙ at-if2 .if2 .taken)
   where
+    at-edge-end : tie.After-edge-end Inv-loop μ-loop
+    at-edge-end = search
+
     at-if2 : tie.Then2 Inv-loop μ-loop
-    at-if2 = search
+    at-if2 = let c = at-edge-end in search
 
     at-may-pass : tie.After-may-pass Inv-loop μ-loop
     at-may-pass = let c = at-if2 in search
@@ -407,10 +393,14 @@ loop-again-2 c =
     (start .pre .1 .0)
     (at-loop .loop .inv)
     (at-loop-test .loop-test .taken)
+    (at-edge-end .edge-end .ensures)
     (set-is (c .if3 .left))
   where
+    at-edge-end : tie.After-edge-end Inv-loop μ-loop
+    at-edge-end = search
+
     at-loop-test : tie.In-loop Inv-loop μ-loop
-    at-loop-test = search
+    at-loop-test = let c = at-edge-end in search
 
     at-loop : tie.At-loop Inv-loop μ-loop
     at-loop = let c = at-loop-test in search
@@ -479,8 +469,8 @@ may-pass-requires c κs = omega (arith, start .pre .1 .1 .0 .room, at-loop-test 
     start : tie.Start Inv-loop μ-loop
     start = let c = at-loop-test in search
 
-sub-w : tie.Need-sub-w Inv-loop μ-loop
-sub-w c = omega (arith, start .pre .1 .0)
+sub-edge-end : tie.Need-sub-edge-end Inv-loop μ-loop
+sub-edge-end c = omega (arith, start .pre .1 .0)
   where
     start : tie.Start Inv-loop μ-loop
     start = let c : tie.After-takes-end Inv-loop μ-loop = search in search
@@ -508,11 +498,8 @@ push-steps-spec =
     shared-slice-read-e-2
     cast-e-2
     may-pass-requires
-    mul-w
-    sub-w
-    add-w
-    mul-w-2
-    shared-slice-read-w
+    sub-edge-end
+    edge-end-requires
     cast-if3
     mul-if3
     slice-read-if3
