@@ -32,10 +32,10 @@ pub stays-ref : (off : ℕ) (marks es : List ℕ) (e : ℕ) {f : ℕ} → f ≡ 
 unfolding staysBy
 stays-ref off marks es e q ne = rw (ne-eqb (getD es (4 * e + 3) 0) 0 (λ z. ne (q ∙ z)))
 
-pub stays-unmarked : (off : ℕ) (marks es : List ℕ) (e : ℕ) {f : ℕ} → off ≤ 1 → f ≡ getD es (4 * e + 3) 0 → f ≡ 0
-    → eqb (getD marks (getD es (4 * e + off) 0) 0) 0 ≡ staysBy off marks (edgeIn es e)
+pub stays-unmarked : (off : ℕ) (marks es : List ℕ) (e : ℕ) {f x : ℕ} → off ≤ 1 → f ≡ getD es (4 * e + 3) 0 → f ≡ 0
+    → x ≡ getD es (4 * e + off) 0 → eqb (getD marks x 0) 0 ≡ staysBy off marks (edgeIn es e)
 unfolding staysBy
-stays-unmarked off marks es e l q z = ap (λ (x : ℕ). eqb (getD marks x 0) 0) (sym (end-is es off e l))
+stays-unmarked off marks es e l q z p = ap (λ (x : ℕ). eqb (getD marks x 0) 0) (p ∙ sym (end-is es off e l))
     ∙ plain-stays (getD marks (endAt off (edgeIn es e)) 0) (ap not (eq-eqb (getD es (4 * e + 3) 0) 0 (sym q ∙ z)))
 
 -- ---- the loop

@@ -22,7 +22,7 @@ fn edge_stays(es: &[u32], e: usize, off: usize, n: usize, marks: &[u64]) -> bool
     if store::edge_flag(es, e) != 0 {
         return true;
     }
-    marks[es[4 * e + off] as usize] == 0
+    marks[store::edge_end(es, e, off) as usize] == 0
 }
 
 // Closes m edges up over those that do not stay, in place; the number left.

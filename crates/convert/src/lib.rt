@@ -26,8 +26,8 @@ pub fn additional_sequences(
         let u = v;
         v += 1;
         if (heads[2 * u + 1] as usize) < m {
-            let start = vs[2 * u];
-            let len = vs[2 * u + 1];
+            let start = store::start_number(vs, u);
+            let len = store::len_number(vs, u);
             store::put_vertex(vs, u, start + (len - 1), 1);
         }
     }

@@ -1,5 +1,6 @@
 // The graph in slices. Edges: four numbers each, from, to, support, flag. Vertices: two numbers each, where the sequence starts in the
-// pool and how long it is. The pool: the sequences' bytes. Only the functions here know where each number stands.
+// pool and how long it is. The pool: the sequences' bytes. Only the functions here read and write an edge's or a vertex's numbers where
+// they stand; other crates call them, and name the places only in contracts.
 ghost use mathlib.Core.Path.{_≡_};
 ghost use Prim.Native.Nat.{ℕ, _+_, _*_, _<_, _≤_, max};
 ghost use lib.ListN.{length, getD, set};

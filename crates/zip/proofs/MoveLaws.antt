@@ -52,14 +52,14 @@ module _ {m n : ℕ} {es₀ heads nexts : List ℕ} (I : Indexed m n es₀ heads
         flag-kept = λ j. refl;
       }
 
-  pub moving-more : {es : List ℕ} {e : ℕ} → Moving m es₀ es last start e → e < m → (x : ℕ) → x ≡ getD nexts (2 * e) 0
-      → Moving m es₀ (set es (4 * e) start) last start x
-  moving-more {es} {e} M h x q =
+  pub moving-more : {es es′ : List ℕ} {e : ℕ} → Moving m es₀ es last start e → e < m → es′ ≡ set es (4 * e) start → (x : ℕ)
+      → x ≡ getD nexts (2 * e) 0 → Moving m es₀ es′ last start x
+  moving-more {es} {es′} {e} M h put x q =
       let N = I .index 0 (omega arith) .nexts e h in
       let z : x ≡ pairAt 0 nexts e = q ∙ ap (λ (y : ℕ). getD nexts y 0) (sym (add-zero (2 * e))) in
       let at-last : endOf 0 es₀ e ≡ last = from-zero es₀ e ∙ M .hit h in
       let room : 4 * e < length es = omega (arith, M .len, I .room) in
-      record {
+      rw put (record {
         high = omega (arith, N .high);
         hit = λ b. sym (from-zero es₀ x) ∙ ap (endOf 0 es₀) z ∙ N .hit (omega arith) ∙ at-last;
         len = length-set es _ _ ∙ M .len;
@@ -75,7 +75,7 @@ module _ {m n : ℕ} {es₀ heads nexts : List ℕ} (I : Indexed m n es₀ heads
         to-kept = λ j. getD-set-other es (4 * e) (4 * j + 1) start 0 (λ w. omega arith) ∙ M .to-kept j;
         support-kept = λ j. getD-set-other es (4 * e) (4 * j + 2) start 0 (λ w. omega arith) ∙ M .support-kept j;
         flag-kept = λ j. getD-set-other es (4 * e) (4 * j + 3) start 0 (λ w. omega arith) ∙ M .flag-kept j;
-      }
+      })
     where
       before : (j : ℕ) → (j ≡ e → ⊥) → j < x → getD es₀ (4 * j) 0 ≡ last → (e + 1 ≤ j → j < x → getD es₀ (4 * j) 0 ≡ last → ⊥) → j < e
       before j ne b t f = Rattle.laws.proofs.ListLaws.byOrder e j (λ a. absurd (f (omega arith) b t)) (λ a. a)

@@ -47,7 +47,7 @@ fn move_edges(
 {
     let mut e = heads[2 * last] as usize;
     while e < m {
-        es[4 * e] = start;
+        store::put_edge_from(es, e, start);
         e = nexts[2 * e] as usize;
     }
 }

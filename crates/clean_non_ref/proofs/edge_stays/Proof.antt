@@ -18,6 +18,7 @@ returns c =
 
 returns-2 : tie.Need-returns-2
 returns-2 c =
+    let at-edge-end : tie.After-edge-end = search in
     let at-if1 : tie.Else1 = search in
     let at-edge-flag : tie.After-edge-flag = search in
     let start : tie.Start = search in
@@ -29,6 +30,7 @@ returns-2 c =
     (start .pre .1 .0)
     (at-edge-flag .edge-flag .ensures)
     (at-if1 .if1 .left)
+    (at-edge-end .edge-end .ensures)
 
 pub edge-stays-spec : {M : Type 1} → statement M
 edge-stays-spec =
@@ -36,10 +38,7 @@ edge-stays-spec =
     (tie.spec
     (λ c κs. search needs)
     returns
-    (λ c. search needs)
-    (λ c. search needs)
-    (λ c. search needs)
-    (λ c. search needs)
+    (λ c κs. search needs)
     (λ c. search needs)
     (λ c. search needs)
     (λ c. search needs)

@@ -1,6 +1,5 @@
 -- `convert::additional_sequences` meets its contract. Assumes nothing.
 use native.Mathlib.Omega.{arith}
-use mathlib.Core.Path.{refl}
 use Prim.Native.Nat.{_+_, _*_, _-_}
 use Rattle.convert.proofs.TrimLaws.{
   Trimming,
@@ -23,11 +22,18 @@ sub-put-vertex : tie.Need-sub-put-vertex Inv-loop μ-loop
 sub-put-vertex c =
     omega (
       arith,
-      trimming-small (start .pre .0) (start .pre .1) (at-loop .loop .inv) (at-loop-test .loop-test .taken) refl refl,
+      trimming-small (start .pre .0) (start .pre .1) (at-loop .loop .inv) (at-loop-test .loop-test .taken)
+          (at-start-number .start-number .ensures) (at-len-number .len-number .ensures),
     )
   where
+    at-len-number : tie.After-len-number Inv-loop μ-loop
+    at-len-number = search
+
+    at-start-number : tie.After-start-number Inv-loop μ-loop
+    at-start-number = let c = at-len-number in search
+
     at-loop-test : tie.In-loop Inv-loop μ-loop
-    at-loop-test = search
+    at-loop-test = let c = at-start-number in search
 
     at-loop : tie.At-loop Inv-loop μ-loop
     at-loop = let c = at-loop-test in search
@@ -39,11 +45,18 @@ add-put-vertex : tie.Need-add-put-vertex Inv-loop μ-loop
 add-put-vertex c =
     omega (
       arith,
-      trimming-small (start .pre .0) (start .pre .1) (at-loop .loop .inv) (at-loop-test .loop-test .taken) refl refl,
+      trimming-small (start .pre .0) (start .pre .1) (at-loop .loop .inv) (at-loop-test .loop-test .taken)
+          (at-start-number .start-number .ensures) (at-len-number .len-number .ensures),
     )
   where
+    at-len-number : tie.After-len-number Inv-loop μ-loop
+    at-len-number = search
+
+    at-start-number : tie.After-start-number Inv-loop μ-loop
+    at-start-number = let c = at-len-number in search
+
     at-loop-test : tie.In-loop Inv-loop μ-loop
-    at-loop-test = search
+    at-loop-test = let c = at-start-number in search
 
     at-loop : tie.At-loop Inv-loop μ-loop
     at-loop = let c = at-loop-test in search
@@ -63,6 +76,8 @@ put-vertex-requires c κs = omega (arith, start .pre .0 .vs-room, at-loop .loop 
 loop-again : tie.Need-loop-again Inv-loop μ-loop
 loop-again c =
     let at-put-vertex : tie.After-put-vertex Inv-loop μ-loop = search in
+    let at-len-number : tie.After-len-number Inv-loop μ-loop = search in
+    let at-start-number : tie.After-start-number Inv-loop μ-loop = search in
     let at-if1 : tie.Then1 Inv-loop μ-loop = search in
     let at-loop-test : tie.In-loop Inv-loop μ-loop = search in
     let at-loop : tie.At-loop Inv-loop μ-loop = search in
@@ -73,6 +88,8 @@ loop-again c =
     (at-loop .loop .inv)
     (at-loop-test .loop-test .taken)
     (at-if1 .if1 .taken)
+    (at-start-number .start-number .ensures)
+    (at-len-number .len-number .ensures)
     (at-put-vertex .put-vertex .ensures)
 
 loop-again-2 : tie.Need-loop-again-2 Inv-loop μ-loop
@@ -88,8 +105,8 @@ cast-if1 c = omega (arith, c .shared-slice-known4 .given (2 * at-loop .loop .v +
     at-loop : tie.At-loop Inv-loop μ-loop
     at-loop = search
 
-slice-read-start : tie.Need-slice-read-start Inv-loop μ-loop
-slice-read-start c = omega (arith, start .pre .0 .vs-room, at-loop .loop .inv .size)
+start-number-requires : tie.Need-start-number-requires Inv-loop μ-loop
+start-number-requires c κs = omega (arith, start .pre .0 .vs-room, at-loop .loop .inv .size)
   where
     at-loop : tie.At-loop Inv-loop μ-loop
     at-loop = search
@@ -97,8 +114,8 @@ slice-read-start c = omega (arith, start .pre .0 .vs-room, at-loop .loop .inv .s
     start : tie.Start Inv-loop μ-loop
     start = let c = at-loop in search
 
-slice-read-len : tie.Need-slice-read-len Inv-loop μ-loop
-slice-read-len c = omega (arith, start .pre .0 .vs-room, at-loop .loop .inv .size)
+len-number-requires : tie.Need-len-number-requires Inv-loop μ-loop
+len-number-requires c κs = omega (arith, start .pre .0 .vs-room, at-loop .loop .inv .size)
   where
     at-loop : tie.At-loop Inv-loop μ-loop
     at-loop = search
@@ -125,13 +142,8 @@ additional-sequences-spec =
     (λ c. let start : tie.Start Inv-loop μ-loop = search in omega (arith, start .pre .1 .heads-room))
     (λ c. let start : tie.Start Inv-loop μ-loop = search in omega (arith, start .pre .1 .heads-room))
     cast-if1
-    (λ c. let start : tie.Start Inv-loop μ-loop = search in omega (arith, start .pre .1 .heads-room))
-    (λ c. let start : tie.Start Inv-loop μ-loop = search in omega (arith, start .pre .1 .heads-room))
-    slice-read-start
-    (λ c. let start : tie.Start Inv-loop μ-loop = search in omega (arith, start .pre .1 .heads-room))
-    (λ c. let start : tie.Start Inv-loop μ-loop = search in omega (arith, start .pre .1 .heads-room))
-    (λ c. let start : tie.Start Inv-loop μ-loop = search in omega (arith, start .pre .1 .heads-room))
-    slice-read-len
+    start-number-requires
+    len-number-requires
     sub-put-vertex
     add-put-vertex
     put-vertex-requires

@@ -14,13 +14,13 @@ abbrev μ-loop : tie.MeasureT-loop
 μ-loop es₀ m n heads nexts last start e₀ es e = m - e
 
 cast-e : tie.Need-cast-e Inv-loop μ-loop
-cast-e c = omega (arith, c .shared-slice-known .given (2 * start .args .last))
+cast-e c = omega (arith, c .shared-slice-known3 .given (2 * start .args .last))
   where
     start : tie.Start Inv-loop μ-loop
     start = search
 
-slice-write-es : tie.Need-slice-write-es Inv-loop μ-loop
-slice-write-es c = omega (arith, start .pre .1 .room, at-loop .loop .inv .len)
+put-edge-from-requires : tie.Need-put-edge-from-requires Inv-loop μ-loop
+put-edge-from-requires c κs = omega (arith, start .pre .1 .room, at-loop .loop .inv .len)
   where
     at-loop : tie.At-loop Inv-loop μ-loop
     at-loop = search
@@ -29,7 +29,7 @@ slice-write-es c = omega (arith, start .pre .1 .room, at-loop .loop .inv .len)
     start = let c = at-loop in search
 
 cast-e-2 : tie.Need-cast-e-2 Inv-loop μ-loop
-cast-e-2 c = omega (arith, c .shared-slice-known2 .given (2 * at-loop .loop .e))
+cast-e-2 c = omega (arith, c .shared-slice-known4 .given (2 * at-loop .loop .e))
   where
     at-loop : tie.At-loop Inv-loop μ-loop
     at-loop = search
@@ -45,10 +45,15 @@ loop-less c = omega (arith, later (start .pre .1) _ (at-loop-test .loop-test .ta
 
 loop-again : tie.Need-loop-again Inv-loop μ-loop
 loop-again c =
+    let at-put-edge-from : tie.After-put-edge-from Inv-loop μ-loop = search in
     let at-loop-test : tie.In-loop Inv-loop μ-loop = search in
     let at-loop : tie.At-loop Inv-loop μ-loop = search in
     let start : tie.Start Inv-loop μ-loop = search in
-    moving-more (start .pre .1) (at-loop .loop .inv) (at-loop-test .loop-test .taken) _ refl
+    moving-more
+    (start .pre .1)
+    (at-loop .loop .inv)
+    (at-loop-test .loop-test .taken)
+    (at-put-edge-from .put-edge-from .ensures) _ refl
 
 returns : tie.Need-returns Inv-loop μ-loop
 returns c =
@@ -62,14 +67,12 @@ move-edges-spec =
     (tie.spec
     Inv-loop
     μ-loop
-    (λ c. omega (arith, c .pre .1 .heads-room))
-    (λ c. omega (arith, c .pre .1 .heads-room))
+    (λ c. let start : tie.Start Inv-loop μ-loop = search in omega (arith, start .pre .1 .heads-room))
+    (λ c. let start : tie.Start Inv-loop μ-loop = search in omega (arith, start .pre .1 .heads-room))
     (λ c. let start : tie.Start Inv-loop μ-loop = search in omega (arith, start .pre .1 .heads-room))
     cast-e
     (λ c. let start : tie.Start Inv-loop μ-loop = search in moving-start (start .pre .1) _ (start .pre .0) refl)
-    (λ c. let start : tie.Start Inv-loop μ-loop = search in omega (arith, start .pre .1 .room))
-    (λ c. let start : tie.Start Inv-loop μ-loop = search in omega (arith, start .pre .1 .room))
-    slice-write-es
+    put-edge-from-requires
     (λ c. let start : tie.Start Inv-loop μ-loop = search in omega (arith, start .pre .1 .nexts-room))
     (λ c. let start : tie.Start Inv-loop μ-loop = search in omega (arith, start .pre .1 .nexts-room))
     (λ c. let start : tie.Start Inv-loop μ-loop = search in omega (arith, start .pre .1 .nexts-room))
