@@ -14,9 +14,9 @@ use Rattle.defs.specs.SeqGraph.{Graph, vertexSequence, inDegree}
 use Rattle.defs.specs.Assembly.{additionalSequence}
 use Rattle.tabs.proofs.Tabs.{tab-ext, getD-tab}
 use Rattle.store.specs.Store.{part, seqIn, seqsIn, graphIn, putVertex, Within}
+use Rattle.store.proofs.VertexLaws.{part-long, length-put-vertex}
 use Rattle.index.specs.Index.{endOf, edgesAt, atFrom, pairAt, Indexed}
 use Rattle.index.proofs.IndexLaws.{in-degree-is, at-none, at-first}
-use Rattle.pool.proofs.PoolLaws.{part-long}
 use Rattle.convert.specs.Convert.{Trimmable, Trimmed}
 
 -- ---- a part's last byte
@@ -45,10 +45,6 @@ module _ (vs : List ℕ) (v s l : ℕ) (h : 2 * v + 2 ≤ length vs) where
   put-rest : (x : ℕ) → (x ≡ 2 * v → ⊥) → (x ≡ 2 * v + 1 → ⊥) → getD (putVertex vs v s l) x 0 ≡ getD vs x 0
   unfolding putVertex
   put-rest x a b = getD-set-other (set vs (2 * v) s) (2 * v + 1) x l 0 b ∙ getD-set-other vs (2 * v) x s 0 a
-
-pub length-put-vertex : (vs : List ℕ) (v s l : ℕ) → length (putVertex vs v s l) ≡ length vs
-unfolding putVertex
-length-put-vertex vs v s l = simp length-set
 
 -- ---- the loop: the vertices before v are done
 

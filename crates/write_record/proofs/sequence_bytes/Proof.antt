@@ -3,7 +3,7 @@ use native.Mathlib.Omega.{arith}
 use Prim.Native.Nat.{ℕ, _+_, _*_, _-_, _≤_}
 use mathlib.Core.Path.{_≡_, sym, ap, _∙_}
 use Rattle.pool.specs.Pool.{bytesIn}
-use Rattle.pool.proofs.PoolLaws.{bytes-none, bytes-more, bytes-below}
+use Rattle.pool.proofs.PoolLaws.{bytesIn-none, bytesIn-more, bytes-below}
 use Rattle.write_record.proofs.sequence_bytes.Statement.{statement}
 use Rattle.write_record.proofs.sequence_bytes.Tie as tie
 
@@ -34,7 +34,7 @@ add-total-2 c =
     start = let c = at-loop in search
 
 loop-again : tie.Need-loop-again Inv-loop μ-loop
-loop-again c = (omega arith, omega (arith, bytes-more (at-loop .loop .v) (start .args .vs .now)))
+loop-again c = (omega arith, omega (arith, bytesIn-more (at-loop .loop .v) (start .args .vs .now)))
   where
     at-loop : tie.At-loop Inv-loop μ-loop
     at-loop = search
@@ -58,7 +58,7 @@ sequence-bytes-spec =
     (tie.spec
     Inv-loop
     μ-loop
-    (λ c. (omega arith, sym (bytes-none (c .args .vs .now))))
+    (λ c. (omega arith, sym (bytesIn-none (c .args .vs .now))))
     (λ c. omega arith)
     (λ c. omega arith)
     (λ c. omega arith)
