@@ -8,7 +8,7 @@ use mathlib.Core.Option.{Option, none, some}
 use mathlib.Core.List.{List, [], _∷_}
 use Rattle.defs.specs.SeqGraph.{Graph, nodeCount}
 use Rattle.defs.specs.Zip.{Work, zipLinearChains}
-use Rattle.defs.specs.Simplify.{sequenceBytes, simplifyGraphFull}
+use Rattle.defs.specs.Simplify.{sequenceBytes, simplifyGraphFull, minTailSuffixLen}
 use Rattle.defs.specs.Cleanup.{removeSingletonOrphanVertices, removeVerticesNotConnectedToRef}
 use Rattle.defs.specs.Cleanup.{removePathsNotConnectedToRef, withDummyVertex, beforeChoice, choiceGraph, afterChoice, cleanupSeqGraph}
 use Rattle.laws.proofs.Whole.{byList}
@@ -19,8 +19,8 @@ use Rattle.answers.proofs.Supports.{SmallSupports, none-small, cons-sma
 
 -- cleanup
 module _ {k : ℕ} where
-  pub simplify-fields : (g : Graph) → Fields k g → Fields k ((simplifyGraphFull 10 g) .graph)
-  simplify-fields g F = simplify-kept (Fields k) (fields-kept k) 10 g F
+  pub simplify-fields : (g : Graph) → Fields k g → Fields k ((simplifyGraphFull minTailSuffixLen g) .graph)
+  simplify-fields g F = simplify-kept (Fields k) (fields-kept k) minTailSuffixLen g F
 
   choice-fields : (g : Graph) → Fields k g → Fields k (choiceGraph g)
   unfolding choiceGraph beforeChoice removeSingletonOrphanVertices
@@ -45,7 +45,7 @@ module _ {k : ℕ} where
   unfolding afterChoice removePathsNotConnectedToRef
   after-fields w none t F = F
   after-fields w (some s) none F = F
-  after-fields w (some s) (some t) F = dummy-fields ((simplifyGraphFull 10 (removePathsNotConnectedToRef (w .graph) s t)) .graph)
+  after-fields w (some s) (some t) F = dummy-fields ((simplifyGraphFull minTailSuffixLen (removePathsNotConnectedToRef (w .graph) s t)) .graph)
       (simplify-fields (removePathsNotConnectedToRef (w .graph) s t) (compact-fields _ (w .graph) F))
 
   pub cleanup-fields : (g : Graph) → Fields k g → Fields k ((cleanupSeqGraph g) .graph)
@@ -66,7 +66,7 @@ unfolding afterChoice
 after-bytes w none t N = N .few
 after-bytes w (some s) none N = N .few
 after-bytes w (some s) (some t) N =
-    let z = (simplifyGraphFull 10 (removePathsNotConnectedToRef (w .graph) s t)) .graph in
+    let z = (simplifyGraphFull minTailSuffixLen (removePathsNotConnectedToRef (w .graph) s t)) .graph in
     omega (arith, dummy-bytes z, (simplify-narrow (removePathsNotConnectedToRef (w .graph) s t) (between-narrow (w .graph) s t N)) .few)
 
 pub cleanup-bytes : (g : Graph) → Narrow g → sequenceBytes ((cleanupSeqGraph g) .graph .verts) ≤ 8192

@@ -19,7 +19,7 @@ use Rattle.tabs.proofs.Tabs.{tab-zero}
 use Rattle.tabs.proofs.ListTabs.{keepIf-append}
 use Rattle.store.specs.Store.{graphIn, numsIn}
 use Rattle.index.specs.Index.{endOf, edgesAt, atFrom, Index, pairAt, Indexed}
-use Rattle.index.proofs.IndexLaws.{out-degree-is, in-degree-is, outgoing-is, incoming-is, nums-push, at-none, at-first}
+use Rattle.index.proofs.IndexLaws.{out-degree-is, in-degree-is, outgoing-is, incoming-is, nums-push, at-none, at-first, pair-first}
 use Rattle.refs.specs.Refs.{RefNode}
 use Rattle.chain.specs.Chain.{ChainStart, GoesOn, Traced, Starts}
 
@@ -30,13 +30,9 @@ one-head {m} {n} {es} {heads} {nexts} off b I v h t = Rattle.laws.proofs.ListLa
     (λ c. absurd (omega (arith, eqb-true (length (edgesAt (endOf off es) m v)) 1 (sym t), ap length (at-none (I .index off b) h (pairAt off heads v) refl c))))
     (λ c. c)
 
--- the first edge out of v
-pub head-zero : (heads : List ℕ) (v : ℕ) → getD heads (2 * v) 0 ≡ pairAt 0 heads v
-head-zero heads v = ap (λ (x : ℕ). getD heads x 0) (sym (add-zero (2 * v)))
-
 pub one-out : {m n : ℕ} {es heads nexts : List ℕ} → Indexed m n es heads nexts → (v : ℕ) → v < n → true
     ≡ eqb (length (edgesAt (endOf 0 es) m v)) 1 → getD heads (2 * v) 0 < m
-one-out {m} {n} {es} {heads} I v h t = omega (arith, one-head 0 (omega arith) I v h t, head-zero heads v)
+one-out {m} {n} {es} {heads} I v h t = omega (arith, one-head 0 (omega arith) I v h t, pair-first heads v)
 
 module _ {m n : ℕ} {es heads nexts : List ℕ} (I : Indexed m n es heads nexts) (v : ℕ) (h : v < n) where
   start-of : (k : ℕ) (vs p : List ℕ) → isLinearChainStart (graphIn k n m es vs p) v
@@ -144,7 +140,7 @@ module _ {m n : ℕ} {es heads nexts : List ℕ} (I : Indexed m n es heads nexts
         ∙ ap (map (endOf 1 es)) (at-first (I .index 0 (omega arith)) (T .last-below) (pairAt 0 heads last) refl d)))
 
     place : (e : ℕ) → e ≡ getD heads (2 * last) 0 → getD es (4 * e + 1) 0 ≡ getD es (4 * pairAt 0 heads last + 1) 0
-    place e z = ap (λ (x : ℕ). getD es (4 * x + 1) 0) (z ∙ head-zero heads last)
+    place e z = ap (λ (x : ℕ). getD es (4 * x + 1) 0) (z ∙ pair-first heads last)
 
     ended : ((k : ℕ) (vs p : List ℕ) → chainGoesOn (graphIn k n m es vs p) last (headOr 0 (outgoingNodes (graphIn k n m es vs p) last))
         ≡ false) → Traced m n es start c out
@@ -161,7 +157,7 @@ module _ {m n : ℕ} {es heads nexts : List ℕ} (I : Indexed m n es heads nexts
 
     pub tracing-stop : {next e : ℕ} {r : Bool} → e < m → e ≡ getD heads (2 * last) 0 → next ≡ getD es (4 * e + 1) 0
         → GoesOn m n es last next r → r ≡ false → Traced m n es start c out
-    tracing-stop {next} {e} d z q G t = ended (λ k vs p. rw (← head-out k vs p next (omega (arith, z, head-zero heads last)) (q
+    tracing-stop {next} {e} d z q G t = ended (λ k vs p. rw (← head-out k vs p next (omega (arith, z, pair-first heads last)) (q
         ∙ place e z)) (sym (G .is k vs p) ∙ t))
 
     pub tracing-more : {next e : ℕ} {r : Bool} → n ≤ length out₀ → e < m → e ≡ getD heads (2 * last) 0 → next ≡ getD es (4 * e + 1) 0
@@ -176,7 +172,7 @@ module _ {m n : ℕ} {es heads nexts : List ℕ} (I : Indexed m n es heads nexts
       ];
       is = λ k vs p. T .is k vs p ∙ ap (λ (l : List ℕ). numsIn c out
           ++ l) (ap (λ (x : ℕ). traceLinearChain x (graphIn k n m es vs p) last) fuel-is
-          ∙ trace-on (n - (c + 1)) (graphIn k n m es vs p) last next (head-out k vs p next (omega (arith, z, head-zero heads last)) (q
+          ∙ trace-on (n - (c + 1)) (graphIn k n m es vs p) last next (head-out k vs p next (omega (arith, z, pair-first heads last)) (q
           ∙ place e z)) (sym (G .is k vs p) ∙ t))
           ∙ sym (append-assoc (numsIn c out) (next ∷ []) _) ∙ ap (λ (l : List ℕ). l ++ traceLinearChain
           (n - (c + 1)) (graphIn k n m es vs p) next) (sym (nums-push c next out (omega (arith, T .len))));

@@ -7,7 +7,7 @@ use lib.ListN.{length}
 use Rattle.defs.specs.SeqGraph.{Graph}
 use Rattle.defs.specs.Zip as Z
 use Rattle.defs.specs.Zip.{zipLinearChains}
-use Rattle.defs.specs.Simplify.{simplifyGraphFull}
+use Rattle.defs.specs.Simplify.{simplifyGraphFull, minTailSuffixLen}
 use Rattle.defs.specs.Cleanup.{beforeChoice, removeSingletonOrphanVertices, removeVerticesNotConnectedToRef}
 use Rattle.laws.proofs.Bound.{begun, zip-paid}
 use Rattle.compact.specs.Compact.{Compactable}
@@ -138,7 +138,7 @@ reduced-lean {f} {h} {r = r} {vs′ = vs′} {p = p} R H L =
     }
 
 pub full-lean : {h : Held} {es vs p heads nexts : List ℕ} {r : Simplified} {es′ vs′ p′ : List ℕ}
-    → Full 10 h es vs p heads nexts r es′ vs′ p′ → Lean (graphOf h es vs p) heads nexts → HoldsLean (r .held) es′ vs′ p′ heads nexts
+    → Full minTailSuffixLen h es vs p heads nexts r es′ vs′ p′ → Lean (graphOf h es vs p) heads nexts → HoldsLean (r .held) es′ vs′ p′ heads nexts
 full-lean F L = record { lean = lean-as (F .answers .graph) (lean-simplified L); within = F .holds .within; used-room = F .holds .used-room }
 
 module _ {h : Held} {es vs p heads nexts nodes mp starts tried sig : List ℕ} (C : Cleanable h es vs p heads nexts nodes mp starts tried sig) where
@@ -158,7 +158,7 @@ module _ {h : Held} {es vs p heads nexts nodes mp starts tried sig : List ℕ} (
   pub cleanable-zippable : Zippable h es vs p heads nexts nodes mp starts
   cleanable-zippable = record { room = C .room; holds = lean-holds (C .holds); starts-room = C .scratch .starts-room }
 
-  pub cleanable-simplifiable : Simplifiable 10 h es vs p heads nexts nodes mp starts tried sig
+  pub cleanable-simplifiable : Simplifiable minTailSuffixLen h es vs p heads nexts nodes mp starts tried sig
   cleanable-simplifiable = record {
     least-is = omega arith;
     room = C .room;
@@ -204,15 +204,15 @@ module _ {h : Held} {es vs p heads nexts : List ℕ} (H : HoldsLean h es vs p he
   cut-is : graphOf a es₂ vs₂ p₁ ≡ removeVerticesNotConnectedToRef (removeSingletonOrphanVertices ((zipLinearChains (begun (graphOf h es vs p))) .graph))
   cut-is = R .is p₁ ∙ ap (λ (x : Z.Work). removeVerticesNotConnectedToRef (removeSingletonOrphanVertices (x .graph))) (Q .is)
 
-  module _ {heads₂ nexts₂ : List ℕ} {s : Simplified} {es₃ vs₃ p₃ : List ℕ} (F : Full 10 a es₂ vs₂ p₁ heads₂ nexts₂ s es₃ vs₃ p₃) where
+  module _ {heads₂ nexts₂ : List ℕ} {s : Simplified} {es₃ vs₃ p₃ : List ℕ} (F : Full minTailSuffixLen a es₂ vs₂ p₁ heads₂ nexts₂ s es₃ vs₃ p₃) where
     pub before-most : z .rewrites + s .rewrites ≤ 203 * vertexRoom heads
     before-most = omega (arith, Q .less, held-vertices (lean-holds H), F .answers .rewrites, lean-rewrites (cut-lean .lean))
 
     before-is : workOf record { held = s .held; rewrites = z .rewrites + s .rewrites } es₃ vs₃ p₃ ≡ beforeChoice (graphOf h es vs p)
     unfolding beforeChoice
     before-is = λ i. record {
-      graph = (F .answers .graph ∙ ap (λ (x : Graph). (simplifyGraphFull 10 x) .graph) cut-is) i;
-      rewrites = (ap (λ (x : Z.Work). x .rewrites) (Q .is)) i + (F .answers .rewrites ∙ ap (λ (x : Graph). (simplifyGraphFull 10 x) .rewrites) cut-is) i;
+      graph = (F .answers .graph ∙ ap (λ (x : Graph). (simplifyGraphFull minTailSuffixLen x) .graph) cut-is) i;
+      rewrites = (ap (λ (x : Z.Work). x .rewrites) (Q .is)) i + (F .answers .rewrites ∙ ap (λ (x : Graph). (simplifyGraphFull minTailSuffixLen x) .rewrites) cut-is) i;
     }
 
     pub before-all : {w : Work} → w ≡ record { held = s .held; rewrites = z .rewrites + s .rewrites } → length heads₂ ≡ length heads

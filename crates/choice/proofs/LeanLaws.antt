@@ -6,7 +6,7 @@ use Prim.Native.Nat.{ℕ, suc, _*_, _≤_}
 use native.Mathlib.Omega.{arith}
 use lib.ListN.{length}
 use Rattle.defs.specs.SeqGraph.{Graph, nodeCount, compactVertices}
-use Rattle.defs.specs.Simplify.{simplifyGraphFull}
+use Rattle.defs.specs.Simplify.{simplifyGraphFull, minTailSuffixLen}
 use Rattle.defs.specs.Cleanup.{removeSingletonOrphanVertices, removeVerticesNotConnectedToRef, removePathsNotConnectedToRef}
 use Rattle.laws.proofs.Counts.{total, heft}
 use Rattle.laws.proofs.Branching.{branching-restrict, surplus-branching}
@@ -52,8 +52,8 @@ module _ {heads nexts : List ℕ} {g : Graph} (L : Lean g heads nexts) where
   unfolding removePathsNotConnectedToRef
   lean-between s t = lean-restrict _ g L
 
-  pub lean-simplified : Lean ((simplifyGraphFull 10 g) .graph) heads nexts
-  lean-simplified = lean-tame L (simplify-tame 10 (omega arith) g (L .good))
+  pub lean-simplified : Lean ((simplifyGraphFull minTailSuffixLen g) .graph) heads nexts
+  lean-simplified = lean-tame L (simplify-tame minTailSuffixLen (omega arith) g (L .good))
 
-  pub lean-rewrites : (simplifyGraphFull 10 g) .rewrites ≤ 202 * vertexRoom heads
-  lean-rewrites = omega (arith, simplify-bound 10 (omega arith) g (L .good), L .light)
+  pub lean-rewrites : (simplifyGraphFull minTailSuffixLen g) .rewrites ≤ 202 * vertexRoom heads
+  lean-rewrites = omega (arith, simplify-bound minTailSuffixLen (omega arith) g (L .good), L .light)

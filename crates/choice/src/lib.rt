@@ -81,7 +81,7 @@ pub fn before_choice(
     let a = keep_connected(zipped, es, vs, heads, nexts, nodes, map, tried);
     let s = rounds::simplify_graph_full(
         a,
-        10,
+        rounds::MIN_TAIL_SUFFIX_LEN,
         es,
         vs,
         p,

@@ -10,30 +10,22 @@ use Rattle.defs.specs.SeqGraph.{Edge, Graph, nodeCount}
 use Rattle.defs.specs.Cleanup.{forward, grow, reached, leadsToSource, leadsFromSink, withoutNonRefEdges, cleanBetween, cleanNonRefPaths}
 use Rattle.defs.specs.Cleanup.{removeSingletonOrphanVertices}
 use Rattle.laws.proofs.Walks.{byTest}
-use Rattle.laws.proofs.ListLaws.{keepIf-yes, keepIf-no}
+use Rattle.laws.proofs.ListLaws.{keepIf-yes, keepIf-no, keepIf-same}
 use Rattle.store.specs.Store.{edgesIn, graphIn, EndsBelow}
 use Rattle.compact.specs.Compact.{Compactable}
 use Rattle.compact.proofs.CompactLaws.{ends-mem}
-use Rattle.index.specs.Index.{Indexed, Indexable}
+use Rattle.index.specs.Index.{Indexed, Indexable, endAt}
 use Rattle.memory.specs.Memory.{graphOf}
 use Rattle.memory.specs.declared.Held.{Held}
 use Rattle.refs.specs.Refs.{FirstSource, FirstSink}
 use Rattle.refs.specs.declared.OptionVertex.{OptionVertex}
 use Rattle.refs.specs.declared.OptionVertex.the-variants.{Some, None}
 use Rattle.refs.proofs.RefLaws.{source-found, source-missing, sink-found, sink-missing}
-use Rattle.reach.specs.Reach.{endAt, stepOf, walkStep, Reached}
+use Rattle.reach.specs.Reach.{stepOf, walkStep, Reached}
 use Rattle.orphans.specs.Orphans.{Reduced}
 use Rattle.clean_non_ref.specs.CleanNonRef.{staysBy, leads, EdgesKept, EdgesDropped}
 
 -- ---- the marks say which edges go
-
-keepIf-same : {A : Type 0} (p q : A → Bool) (l : List A) → ((x : A) → List·Memᴰ x l → p x ≡ q x) → keepIf p l ≡ keepIf q l
-unfolding keepIf
-keepIf-same p q [] h = refl
-keepIf-same p q (x ∷ l) h = byTest (p x)
-    (λ t. keepIf-yes p x l t ∙ ap (λ r. x ∷ r) (keepIf-same p q l (λ y m. h y (List·Memᴰ·tail m)))
-    ∙ sym (keepIf-yes q x l (sym (h x (List·Memᴰ·head refl)) ∙ t)))
-    (λ t. keepIf-no p x l t ∙ keepIf-same p q l (λ y m. h y (List·Memᴰ·tail m)) ∙ sym (keepIf-no q x l (sym (h x (List·Memᴰ·head refl)) ∙ t)))
 
 end-below : (off n m : ℕ) (es : List ℕ) → EndsBelow n m es → (e : Edge) → List·Memᴰ e (edgesIn m es) → endAt off e < n
 unfolding endAt

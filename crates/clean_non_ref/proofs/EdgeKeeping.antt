@@ -9,21 +9,17 @@ use lib.Dec.{eqb}
 use lib.ListN.{length, getD}
 use borrow.Author.Tests.{eq-eqb, ne-eqb}
 use Rattle.defs.specs.Lists.{keepIf}
-use Rattle.laws.proofs.ListLaws.{of-keepIf}
+use Rattle.laws.proofs.ListLaws.{of-keepIf, not-not}
 use Rattle.tabs.proofs.Tabs.{tab-zero}
 use Rattle.tabs.proofs.ListTabs.{keepIf-tab-yes, keepIf-tab-no}
 use Rattle.store.specs.Store.{isSet, edge, edgeIn, edgesIn, putEdge, EndsBelow}
 use Rattle.store.proofs.EdgeLaws.{length-put, put-push, put-at}
 use Rattle.compact.proofs.CompactLaws.{ends-mem, mem-ends}
-use Rattle.reach.specs.Reach.{endAt}
-use Rattle.reach.proofs.StepLaws.{end-is}
+use Rattle.index.specs.Index.{endAt}
+use Rattle.index.proofs.IndexLaws.{end-is}
 use Rattle.clean_non_ref.specs.CleanNonRef.{staysBy, EdgesKept}
 
 -- ---- the test
-
-not-not : (b : Bool) → b ≡ not (not b)
-not-not true = refl
-not-not false = refl
 
 plain-stays : {r : Bool} (x : ℕ) → r ≡ false → eqb x 0 ≡ not (not r && isSet x)
 plain-stays x q = rw q (not-not _)

@@ -8,7 +8,8 @@ use Rattle.defs.specs.Lists.{keepIf, elemOf}
 use Rattle.defs.specs.SeqGraph.{Edge, Graph}
 use Rattle.defs.specs.Cleanup.{reached}
 use Rattle.store.specs.Store.{isSet, edgesIn, graphIn, EndsBelow}
-use Rattle.reach.specs.Reach.{endAt, walkStep}
+use Rattle.reach.specs.Reach.{walkStep}
+use Rattle.index.specs.Index.{endAt}
 
 -- a reference edge stays, and one whose end has no mark
 unfoldable pub staysBy : ℕ → List ℕ → Edge → Bool

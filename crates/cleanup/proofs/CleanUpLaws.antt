@@ -8,7 +8,7 @@ use native.Mathlib.Omega.{arith}
 use lib.ListN.{length}
 use Rattle.defs.specs.SeqGraph.{Graph, nodeCount}
 use Rattle.defs.specs.Zip as Z
-use Rattle.defs.specs.Simplify.{sequenceBytes, emptyVertices, simplifyGraphFull}
+use Rattle.defs.specs.Simplify.{sequenceBytes, emptyVertices, simplifyGraphFull, minTailSuffixLen}
 use Rattle.defs.specs.Cleanup.{referenceSourceVertex, referenceSinkVertex, removePathsNotConnectedToRef, withDummyVertex}
 use Rattle.defs.specs.Cleanup.{afterChoice, cleanupSeqGraph}
 use Rattle.laws.proofs.Fuel.{Good}
@@ -99,7 +99,7 @@ module _ (w : Work) (s t : ℕ) {es vs p heads nexts : List ℕ} (H : HoldsLean 
   pub between-lean : HoldsLean b es₁ vs₁ p heads nexts
   between-lean = reduced-lean R H (lean-between (H .lean) s t)
 
-  module _ {heads₁ nexts₁ : List ℕ} {z : Simplified} {es₂ vs₂ p₂ : List ℕ} (F : Full 10 b es₁ vs₁ p heads₁ nexts₁ z es₂ vs₂ p₂) where
+  module _ {heads₁ nexts₁ : List ℕ} {z : Simplified} {es₂ vs₂ p₂ : List ℕ} (F : Full minTailSuffixLen b es₁ vs₁ p heads₁ nexts₁ z es₂ vs₂ p₂) where
     pub between-counted : Countable 202 (w .rewrites) heads → w .rewrites + z .rewrites < 4294967296
     between-counted K = omega (arith, K .small, F .answers .rewrites, lean-rewrites (between-lean .lean))
 
@@ -112,9 +112,9 @@ module _ (w : Work) (s t : ℕ) {es vs p heads nexts : List ℕ} (H : HoldsLean 
       } es₃ vs₃ p₂
       unfolding afterChoice
       between-answers = record {
-        graph = D .is p₂ ∙ ap withDummyVertex (F .answers .graph ∙ ap (λ (x : Graph). (simplifyGraphFull 10 x) .graph) (R .is p));
+        graph = D .is p₂ ∙ ap withDummyVertex (F .answers .graph ∙ ap (λ (x : Graph). (simplifyGraphFull minTailSuffixLen x) .graph) (R .is p));
         status = refl;
-        rewrites = ap (λ (x : ℕ). w .rewrites + x) (F .answers .rewrites ∙ ap (λ (x : Graph). (simplifyGraphFull 10 x) .rewrites) (R .is p));
+        rewrites = ap (λ (x : ℕ). w .rewrites + x) (F .answers .rewrites ∙ ap (λ (x : Graph). (simplifyGraphFull minTailSuffixLen x) .rewrites) (R .is p));
       }
 
       pub between-after : {r : CleanedUp} → r ≡ record { held = d; status = AssembledSomeVariation; rewrites = w .rewrites + z .rewrites } → length heads₁

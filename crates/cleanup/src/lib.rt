@@ -76,7 +76,7 @@ fn keep_between(
     );
     let z = rounds::simplify_graph_full(
         b,
-        10,
+        rounds::MIN_TAIL_SUFFIX_LEN,
         es,
         vs,
         p,

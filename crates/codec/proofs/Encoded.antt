@@ -14,16 +14,12 @@ use Rattle.defs.specs.SeqGraph.{Edge, Graph, nodeCount}
 use Rattle.defs.specs.Simplify.{sequenceBytes}
 use Rattle.defs.specs.Record.{RecordKind, recordKindNumber, le16, le32, u16At, u32At, kOf, verticesOf, edgesOf, encodeEdge, encodeHeader}
 use Rattle.defs.specs.Record.{encode, lengthAt, sequenceStart, sequenceAt, edgeStart, edgeAt}
+use Rattle.laws.proofs.ListLaws.{at-mem}
 use Rattle.tabs.proofs.Tabs.{tab-ext}
 use Rattle.le.proofs.LeLaws.{length-le16, value-of-digits}
 use Rattle.record.proofs.Fields.{lengthAt-is, edgeStart-is, from-is, to-is, support-is, flagAt-is, isRef-is, sequenceStart-is, sequenceAt-is, bytesAt-is}
 use Rattle.codec.specs.Encodable.{EncodableEdge, Encodable}
 use Rattle.codec.proofs.Concat.{Shows, shows-field, length-fields, part-of-concat}
-
-at-mem : {A : Type 0} (d : A) (l : List A) (i : ℕ) → i < length l → List·Memᴰ (getD l i d) l
-at-mem d [] i h = absurd (not-suc-le-zero h)
-at-mem d (x ∷ l) zero h = List·Memᴰ·head refl
-at-mem d (x ∷ l) (suc i) h = List·Memᴰ·tail (at-mem d l i (le-of-suc-le-suc h))
 
 -- a number within what stands at s
 module _ (bs : List ℕ) (s : ℕ) (m : List ℕ) (shown : Shows bs s m) where
@@ -70,7 +66,7 @@ unfolding u16At le16
 u16At-own n h = omega arith
 
 -- an edge's nine bytes
-edge-width : (e : Edge) → length (encodeEdge e) ≡ 9
+pub edge-width : (e : Edge) → length (encodeEdge e) ≡ 9
 unfolding encodeEdge le16 le32
 edge-width e = refl
 

@@ -118,3 +118,7 @@ removed {n} {m} {es} {vs} {mp₀} {mp} {gone} {mp′} F M C = record {
   where
     marks : (v : ℕ) → v < n → eqb (getD mp v 0) 0 ≡ not (elemOf v gone)
     marks v h = ap (λ (x : ℕ). eqb x 0) (M .at v h) ∙ zero-bit (elemOf v gone)
+
+-- the map is written, and keeps its length
+pub compactable-kept : {n m : ℕ} {es vs mp mp′ : List ℕ} → Compactable n m es vs mp → length mp′ ≡ length mp → Compactable n m es vs mp′
+compactable-kept C q = record { es-room = C .es-room; vs-room = C .vs-room; mp-room = omega (arith, C .mp-room); small = C .small; ends = C .ends }

@@ -23,7 +23,7 @@ use Rattle.store.specs.Store.{isSet, edge, edgeIn, edgesIn, putEdge, putVertex,
 use Rattle.store.proofs.EdgeLaws.{put-push, put-other, length-put}
 use Rattle.store.proofs.VertexLaws.{put-start, put-len, put-rest, length-put-vertex}
 use Rattle.tabs.proofs.ListTabs.{tab-append, keepIf-tab-yes, keepIf-tab-no, keepAt-tab-yes, keepAt-tab-no, mem-tab, of-mem-tab, elemOf-snoc}
-use Rattle.compact.specs.Compact.{BothSet, Marked, Renumbered, VertsClosed, EdgesClosed}
+use Rattle.compact.specs.Compact.{BothSet, Marked, Renumbered, VertsClosed, EdgesClosed, unmarked}
 
 -- ---- marks
 
@@ -69,9 +69,6 @@ pub rank-same : (p q : ℕ → Bool) (n : ℕ) → ((v : ℕ) → v < n → p v 
 unfolding rank
 rank-same p q zero h = refl
 rank-same p q (suc n) h = rw (h n (omega arith)) (ap (λ (x : ℕ). bit (q n) + x) (rank-same p q n (λ v b. h v (omega arith))))
-
-abbrev pub unmarked : List ℕ → ℕ → Bool
-unmarked mp v = eqb (getD mp v 0) 0
 
 -- the first v vertices have their numbers, j of them stay
 pub record Numbering (n : ℕ) (mp₀ mp : List ℕ) (v j : ℕ) : Type 0 where

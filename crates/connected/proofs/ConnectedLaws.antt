@@ -116,6 +116,3 @@ module _ (h : Held) (es vs : List ℕ) (E : EndsBelow (h .n) (h .m) es) (mp : Li
       ∙ ap (λ (x : Bool). x && elemOf v (reached backward g t)) (A .at (h .k .0) vs p v (below p v b)
       ∙ ap (λ (x : Bool). x && elemOf v (reached forward g s)) (stays v (below p v b))))
       (bounded-in {es = es} E (h .k .0) vs p)
-
-pub compactable-kept : {n m : ℕ} {es vs mp mp′ : List ℕ} → Compactable n m es vs mp → length mp′ ≡ length mp → Compactable n m es vs mp′
-compactable-kept C q = record { es-room = C .es-room; vs-room = C .vs-room; mp-room = omega (arith, C .mp-room); small = C .small; ends = C .ends }

@@ -12,31 +12,21 @@ use Rattle.defs.specs.Lists.{sameList}
 use Rattle.defs.specs.SeqGraph.{Edge, Graph, vertexSequence}
 use Rattle.defs.specs.Assembly.{bytesBefore, edgeBefore, insertEdge, sortEdges}
 use Rattle.laws.proofs.Walks.{byTest}
-use Rattle.laws.proofs.ListLaws.{clash}
+use Rattle.laws.proofs.ListLaws.{clash, sameList-eq, sameList-refl, or-false}
 use Rattle.laws.proofs.Edges.{Linked}
 use Rattle.laws.proofs.Counts.{Single}
-use Rattle.laws.proofs.Merge.{sameList-eq}
 use Rattle.kmer_order.proofs.BytesOrder.{not-before-trans, before-not, before-same, neither-before}
 
 -- ---- pairs of byte strings, the first one first
 
-same-refl : (l : List ℕ) → sameList l l ≡ true
-unfolding sameList
-same-refl [] = refl
-same-refl (x ∷ l) = rw (eq-eqb x x refl, sameList) (same-refl l)
-
 abbrev pairBefore : List ℕ → List ℕ → List ℕ → List ℕ → Bool
 pairBefore a b c d = bytesBefore a c || (sameList a c && bytesBefore b d)
-
-or-false : (x y : Bool) → x || y ≡ false → (x ≡ false) × (y ≡ false)
-or-false true y h = clash refl h
-or-false false y h = (refl, h)
 
 module _ (a b c d : List ℕ) where
   pair-not : pairBefore a b c d ≡ false → (bytesBefore a c ≡ false) × (a ≡ c → bytesBefore b d ≡ false)
   pair-not f =
       let s = or-false (bytesBefore a c) (sameList a c && bytesBefore b d) f in
-      (s .0, λ q. sym (ap (λ (x : Bool). x && bytesBefore b d) (ap (sameList a) (sym q) ∙ same-refl a)) ∙ s .1)
+      (s .0, λ q. sym (ap (λ (x : Bool). x && bytesBefore b d) (ap (sameList a) (sym q) ∙ sameList-refl a)) ∙ s .1)
 
   pair-no : bytesBefore a c ≡ false → (a ≡ c → bytesBefore b d ≡ false) → pairBefore a b c d ≡ false
   pair-no h k = byTest (sameList a c) (λ t. rw (h, t) (k (sameList-eq a c t))) (λ t. rw (h, t))

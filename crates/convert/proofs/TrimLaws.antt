@@ -14,10 +14,9 @@ use Rattle.defs.specs.SeqGraph.{Graph, vertexSequence, inDegree}
 use Rattle.defs.specs.Assembly.{additionalSequence}
 use Rattle.tabs.proofs.Tabs.{tab-ext, getD-tab}
 use Rattle.store.specs.Store.{part, seqIn, seqsIn, graphIn, putVertex, Within}
-use Rattle.store.proofs.VertexLaws.{put-start, put-len, put-rest, length-put-vertex}
+use Rattle.store.proofs.VertexLaws.{part-long, put-start, put-len, put-rest, length-put-vertex}
 use Rattle.index.specs.Index.{endOf, edgesAt, atFrom, pairAt, Indexed}
 use Rattle.index.proofs.IndexLaws.{in-degree-is, at-none, at-first}
-use Rattle.pool.proofs.PoolLaws.{part-long}
 use Rattle.convert.specs.Convert.{Trimmable, Trimmed}
 
 -- ---- a part's last byte

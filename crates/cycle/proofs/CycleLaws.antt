@@ -19,32 +19,14 @@ use Rattle.laws.proofs.Edges.{elemOf-true, elemOf-mem, of-edgesFrom, in-edgesFr
 use Rattle.laws.proofs.Counts.{Distinct}
 use Rattle.laws.proofs.Nets.{Ranks, Bounded}
 use Rattle.laws.proofs.Cycles.{Walk, one, more, Closed, anyOf-true, anyOf-mem, mem-upFrom, distinct-length, ranked-open, rounds, ranked-or-closed}
-use Rattle.laws.proofs.Reach.{Hop, Way, of-reached}
+use Rattle.laws.proofs.Reach.{Hop, Way, of-reached, hop-edge, edge-hop, short-reached}
+use Rattle.laws.proofs.Diamonds.{mem-outs, of-mem-outs}
 
 module _ (g : Graph) where
-  hop-edge : (u v : ℕ) → Hop forward g u v → HasEdge g u v
-  unfolding forward
-  hop-edge u v (e, m, t) = let s = and-split _ _ t in (e, m, eqb-true _ _ (s .0), eqb-true _ _ (s .1))
-
-  edge-hop : (u v : ℕ) → HasEdge g u v → Hop forward g u v
-  unfolding forward
-  edge-hop u v (e, m, p, q) = (e, m, and-true _ _ (eq-eqb _ _ p) (eq-eqb _ _ q))
-
-  of-mem-outs : (v w : ℕ) → List·Memᴰ w (outgoingNodes g v) → HasEdge g v w
-  unfolding outgoingNodes
-  of-mem-outs v w m =
-      let r = Memᴰ·of-map (λ (e : Edge). e .to) (edgesFrom g v) m in
-      let s = of-edgesFrom g v (r .0) (r .1) in
-      (r .0, s .0, s .1, r .2)
-
-  mem-outs : (v w : ℕ) → HasEdge g v w → List·Memᴰ w (outgoingNodes g v)
-  unfolding outgoingNodes
-  mem-outs v w (e, m, p, q) = rw (sym q) (Memᴰ·map (λ (e : Edge). e .to) (in-edgesFrom g v e m p))
-
   -- an edge and a way back make a closed walk
   way-walk : (n u v w : ℕ) → HasEdge g u v → Way forward g n v w → Walk g u w
   way-walk zero u v w h e = one (rw e at h)
-  way-walk (suc n) u v w h (x, k, y) = more h (way-walk n v x w (hop-edge v x k) y)
+  way-walk (suc n) u v w h (x, k, y) = more h (way-walk n v x w (hop-edge g v x k) y)
 
   pub cycle-closed : hasCycle g ≡ true → Closed g
   unfolding hasCycle
@@ -52,7 +34,7 @@ module _ (g : Graph) where
       let x = anyOf-true (λ (v : ℕ). anyOf (λ (w : ℕ). elemOf v (reached forward g w)) (outgoingNodes g v)) (upFrom 0 (nodeCount g)) t in
       let y = anyOf-true (λ (w : ℕ). elemOf (x .0) (reached forward g w)) (outgoingNodes g (x .0)) (x .2) in
       let r = of-reached forward g (y .0) (x .0) (y .2) in
-      (x .0, way-walk (r .0) (x .0) (y .0) (x .0) (of-mem-outs (x .0) (y .0) (y .1)) (r .1))
+      (x .0, way-walk (r .0) (x .0) (y .0) (x .0) (of-mem-outs g (x .0) (y .0) (y .1)) (r .1))
 
   pub ranked-no-cycle : (r : ℕ → ℕ) → Ranks g r → hasCycle g ≡ false
   ranked-no-cycle r ranks = byTest (hasCycle g) (λ t. absurd (ranked-open g r ranks (cycle-closed t))) (λ t. t)
@@ -63,7 +45,7 @@ module _ (g : Graph) where
   walk-way (one {u = u} {v = v} h) = (v, h, 0, refl)
   walk-way (more {u = u} {v = v} {w = w} h k) =
       let r = walk-way k in
-      (v, h, suc (r .2), (r .0, edge-hop v (r .0) (r .1), r .3))
+      (v, h, suc (r .2), (r .0, edge-hop g v (r .0) (r .1), r .3))
 
   -- u and then each of vs along edges, to v
   Chain : ℕ → List ℕ → ℕ → Type 0
@@ -95,7 +77,7 @@ module _ (g : Graph) where
 
   module _ (bounded : Bounded g) where
     hop-below : (u v : ℕ) → Hop forward g u v → (u < nodeCount g) × (v < nodeCount g)
-    hop-below u v k = let h = hop-edge u v k in rw (h .2, h .3) at (bounded (h .0) (h .1))
+    hop-below u v k = let h = hop-edge g u v k in rw (h .2, h .3) at (bounded (h .0) (h .1))
 
     simple-more : (u w v : ℕ) → Hop forward g u w → Simple w v → Simple u v
     unfolding Chain
@@ -118,52 +100,21 @@ module _ (g : Graph) where
     }
     simple (suc n) u v h (w, k, y) = simple-more u w v k (simple n w v (hop-below u w k .1) y)
 
-    -- a step of `grow` keeps what was reached, and takes in the next vertices
-    abbrev next : List ℕ → ℕ → Bool
-    next seen v = elemOf v seen || anyOf (λ (e : Edge). anyOf (λ (u : ℕ). forward e u v) seen) (g .edges)
-
-    abbrev step : List ℕ → List ℕ
-    step seen = keepIf (next seen) (upFrom 0 (nodeCount g))
-
-    in-step : (seen : List ℕ) (v : ℕ) → v < nodeCount g → next seen v ≡ true → elemOf v (step seen) ≡ true
-    in-step seen v h t = elemOf-mem v (step seen) (mem-keepIf (next seen) (mem-upFrom 0 (nodeCount g) v (omega arith) (omega arith)) t)
-
-    or-right : (a : Bool) {b : Bool} → b ≡ true → (a || b) ≡ true
-    or-right true t = refl
-    or-right false t = t
-
-    step-hop : (seen : List ℕ) (u v : ℕ) → elemOf u seen ≡ true → Hop forward g u v → elemOf v (step seen) ≡ true
-    step-hop seen u v t k =
-        in-step seen v (hop-below u v k .1)
-        (or-right (elemOf v seen) (anyOf-mem (λ (e : Edge). anyOf (λ (u : ℕ). forward e u v) seen) (g .edges) (k .1)
-        (anyOf-mem (λ (u : ℕ). forward (k .0) u v) seen (elemOf-true u seen t) (k .2))))
-
-    in-grow : (n : ℕ) (seen : List ℕ) (i u v : ℕ) → i ≤ n → u < nodeCount g → elemOf u seen ≡ true → Way forward g i u v
-        → elemOf v (grow forward g n seen) ≡ true
-    unfolding grow
-    in-grow zero seen zero u v l h t e = rw e at t
-    in-grow zero seen (suc i) u v l h t w = absurd (omega arith)
-    in-grow (suc n) seen zero u v l h t e = in-grow n (step seen) zero u v (omega arith) h (in-step seen u h (rw t)) e
-    in-grow (suc n) seen (suc i) u v l h t (x, k, w) = in-grow n (step seen) i x v (omega arith) (hop-below u x k .1) (step-hop seen u x t k) w
-
     way-reached : (n u v : ℕ) → u < nodeCount g → Way forward g n u v → elemOf v (reached forward g u) ≡ true
-    unfolding reached
     way-reached n u v h w =
         let s = simple n u v h w in
-        in-grow (nodeCount g) (u ∷ []) (length (s .vs)) u v (omega (
-          arith,
-          distinct-length (nodeCount g) (u ∷ s .vs) (s .distinct) (s .below),
-        )) h (elemOf-mem u (u ∷ []) (List·Memᴰ·head refl))
+        short-reached forward g (λ u v k. hop-below u v k .1) (length (s .vs)) u v
+        (omega (arith, distinct-length (nodeCount g) (u ∷ s .vs) (s .distinct) (s .below))) h
         (chain-way u v (s .vs) (s .chain))
 
     pub closed-cycle : Closed g → hasCycle g ≡ true
     unfolding hasCycle
     closed-cycle (v, k) =
         let r = walk-way k in
-        let b = hop-below v (r .0) (edge-hop v (r .0) (r .1)) in
+        let b = hop-below v (r .0) (edge-hop g v (r .0) (r .1)) in
         anyOf-mem (λ (v : ℕ). anyOf (λ (w : ℕ). elemOf v (reached forward g w)) (outgoingNodes g v)) (upFrom 0 (nodeCount g))
         (mem-upFrom 0 (nodeCount g) v (omega arith) (omega (arith, b .0)))
-        (anyOf-mem (λ (w : ℕ). elemOf v (reached forward g w)) (outgoingNodes g v) (mem-outs v (r .0) (r .1)) (way-reached (r .2) (r .0) v (b .1) (r .3)))
+        (anyOf-mem (λ (w : ℕ). elemOf v (reached forward g w)) (outgoingNodes g v) (mem-outs g v (r .0) (r .1)) (way-reached (r .2) (r .0) v (b .1) (r .3)))
 
     pub no-cycle-ranked : hasCycle g ≡ false → Ranks g (rounds g bounded)
     no-cycle-ranked t = ⊎-elim (λ r. r) (λ c. clash (closed-cycle c) t) (ranked-or-closed g bounded)

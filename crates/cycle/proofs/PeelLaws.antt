@@ -23,15 +23,12 @@ use Rattle.tabs.proofs.ListTabs.{mem-tab, of-mem-tab}
 use Rattle.store.specs.Store.{edgeIn, graphIn, EndsBelow}
 use Rattle.compact.proofs.CompactLaws.{order-in, ends-mem}
 use Rattle.index.specs.Index.{endOf, edgesAt, pairAt, Next, Index, Indexed}
-use Rattle.index.proofs.IndexLaws.{end-below}
+use Rattle.index.proofs.IndexLaws.{end-below, pair-first, end-first}
 use Rattle.cycle.specs.Peel.{Peelable, Counted, stands, entering, Queued, Peeling, Sourced, HasCycle}
 use Rattle.cycle.proofs.CycleLaws.{ranked-no-cycle, closed-cycle}
 use Rattle.tabs.proofs.Ranks.{rank-same, rank-most, rank-none, rank-find, length-kept, distinct-tab}
 use Rattle.cycle.proofs.QueueLaws.{stands-later, stands-yes, stands-move, stands-turn, of-entering, placeAt, at-same, at-other}
 use Rattle.cycle.proofs.QueueLaws.{queue-room, queued-as, queued-push, queued-take, entered-some, entered-out}
-
-pub pair-first : (l : List ℕ) (i : ℕ) → getD l (2 * i) 0 ≡ pairAt 0 l i
-pair-first l i = ap (λ (x : ℕ). getD l x 0) (sym (add-zero (2 * i)))
 
 -- ---- the degrees
 
@@ -297,13 +294,10 @@ module _ {m n : ℕ} {es degrees queue : List ℕ} {h tail : ℕ} (E : EndsBelow
   bounded : Bounded (graphIn k n m es vs p)
   bounded e i = rw (order-in k n m es vs p) (ends-mem E e i)
 
-  from-is : (i : ℕ) → getD es (4 * i) 0 ≡ endOf 0 es i
-  from-is i = ap (λ (x : ℕ). getD es x 0) (sym (add-zero (4 * i)))
-
   all-ranked : n ≤ tail → Ranks (graphIn k n m es vs p) (P .place)
   all-ranked all u v (e, i, q, r) =
       let j = of-mem-tab m (edgeIn es) i in
-      let a : u ≡ endOf 0 es (j .0) = sym q ∙ ap (λ (x : Edge). x .from) (j .2) ∙ from-is (j .0) in
+      let a : u ≡ endOf 0 es (j .0) = sym q ∙ ap (λ (x : Edge). x .from) (j .2) ∙ sym (end-first es (j .0)) in
       let b : v ≡ endOf 1 es (j .0) = sym r ∙ ap (λ (x : Edge). x .to) (j .2) in
       rw (a, b) (P .queued .order (j .0) (j .1) (byOrder tail (P .place (endOf 1 es (j .0)))
       (λ l. absurd (omega (arith, queue-room (P .queued) (endOf 1 es (j .0)) (end-below 1 E (j .0) (j .1) (omega arith)) l)))
@@ -315,7 +309,7 @@ module _ {m n : ℕ} {es degrees queue : List ℕ} {h tail : ℕ} (E : EndsBelow
   descent r ranks (suc i) v l b o = rank-find (entering es (P .place) h 0 v) m
       (λ z. omega (arith, P .zero v b (P .queued .count v b ∙ z)))
       (λ e j t. let s = of-entering es (P .place) h 0 v e t in
-      let y = ranks (endOf 0 es e) v (edgeIn es e, mem-tab m (edgeIn es) e j, from-is e, s .0) in
+      let y = ranks (endOf 0 es e) v (edgeIn es e, mem-tab m (edgeIn es) e j, sym (end-first es e), s .0) in
       descent r ranks i (endOf 0 es e) (omega arith) (end-below 0 E e j (omega arith)) (omega (arith, stands-yes h 0 (P .place (endOf 0 es e)) e (s .1))))
 
   -- a vertex is left where there are more than were queued

@@ -12,34 +12,20 @@ use Rattle.defs.specs.Lists.{tab, tabFrom, allOf}
 use Rattle.defs.specs.SeqGraph.{outgoingNodes, outDegree, inDegree}
 use Rattle.defs.specs.Rewrites.{isDiamond, isTails}
 use Rattle.laws.proofs.Walks.{byTest}
+use Rattle.laws.proofs.ListLaws.{allOf-same, all-yes, all-no}
 use Rattle.tabs.proofs.Tabs.{length-tab, and-then, and-else}
 use Rattle.store.specs.Store.{numsIn, graphIn}
 use Rattle.index.specs.Index.{endOf, edgesAt, Indexed}
 use Rattle.index.proofs.AdjLaws.{Testing, testing-start, testing-more}
-use Rattle.index.proofs.IndexLaws.{out-degree-is, in-degree-is, outgoing-is}
+use Rattle.index.proofs.IndexLaws.{out-degree-is, in-degree-is, outgoing-is, pair-first}
 use Rattle.diamond.specs.Diamond.{inCount, isMiddle, isTail, Diamond, Tails}
-
-step-yes : {A : Type 0} (p : A → Bool) (x : A) (xs : List A) → p x ≡ true → allOf p (x ∷ xs) ≡ allOf p xs
-unfolding allOf
-step-yes p x xs t = rw (t, allOf)
-
-step-no : {A : Type 0} (p : A → Bool) (x : A) (xs : List A) → p x ≡ false → allOf p (x ∷ xs) ≡ false
-unfolding allOf
-step-no p x xs t = rw (t, allOf)
 
 allOf-map : {A B : Type 0} (p : B → Bool) (f : A → B) (l : List A) → allOf p (map f l) ≡ allOf (λ (x : A). p (f x)) l
 unfolding allOf
 allOf-map p f [] = refl
 allOf-map {A} p f (x ∷ xs) = byTest (p (f x))
-    (λ t. step-yes p (f x) (map f xs) t ∙ allOf-map p f xs ∙ sym (step-yes (λ (y : A). p (f y)) x xs t))
-    (λ t. step-no p (f x) (map f xs) t ∙ sym (step-no (λ (y : A). p (f y)) x xs t))
-
-allOf-same : {A : Type 0} (p q : A → Bool) (l : List A) → ((x : A) → p x ≡ q x) → allOf p l ≡ allOf q l
-unfolding allOf
-allOf-same p q [] h = refl
-allOf-same p q (x ∷ xs) h = byTest (q x)
-    (λ t. step-yes p x xs (h x ∙ t) ∙ allOf-same p q xs h ∙ sym (step-yes q x xs t))
-    (λ t. step-no p x xs (h x ∙ t) ∙ sym (step-no q x xs t))
+    (λ t. all-yes p (f x) (map f xs) t ∙ allOf-map p f xs ∙ sym (all-yes (λ (y : A). p (f y)) x xs t))
+    (λ t. all-no p (f x) (map f xs) t ∙ sym (all-no (λ (y : A). p (f y)) x xs t))
 
 module _ {A : Type 0} (p : A → Bool) where
   yes-from : (s n : ℕ) (f : ℕ → A) → ((k : ℕ) → k < n → p (f (s + k)) ≡ true) → allOf p (tabFrom s n f) ≡ true
@@ -80,12 +66,12 @@ module _ (k n m : ℕ) (es vs p : List ℕ) where
   diamond-at b nodes c = rw (
     length-tab c (λ (i : ℕ). getD nodes i 0),
     in-degree-is k n m es vs p b,
-    ← allOf-same (isMiddle m es b) _ (numsIn c nodes) (middle-is b),
+    ← allOf-same (isMiddle m es b) _ (numsIn c nodes) (λ x _. middle-is b x),
   ) refl
 
   tails-at : (nodes : List ℕ) (c : ℕ) → isTails (graphIn k n m es vs p) (numsIn c nodes) ≡ (ltb 1 c && allOf (isTail m es) (numsIn c nodes))
   unfolding isTails
-  tails-at nodes c = rw (length-tab c (λ (i : ℕ). getD nodes i 0), ← allOf-same (isTail m es) _ (numsIn c nodes) tail-is) refl
+  tails-at nodes c = rw (length-tab c (λ (i : ℕ). getD nodes i 0), ← allOf-same (isTail m es) _ (numsIn c nodes) (λ x _. tail-is x)) refl
 
 module _ {m n : ℕ} {es nodes : List ℕ} {c : ℕ} where
   pub diamond-few : {b : ℕ} → c < 2 → Diamond m n es nodes c b false
@@ -118,12 +104,12 @@ module _ {m n : ℕ} {es heads nexts : List ℕ} (I : Indexed m n es heads nexts
   enters e = eqb b (endOf 1 es e)
 
   pub enter-start : v < n → Testing (endOf 0 es) m v enters (getD heads (2 * v) 0)
-  enter-start h = subst (Testing (endOf 0 es) m v enters) (ap (λ (x : ℕ). getD heads x 0) (add-zero (2 * v)))
+  enter-start h = subst (Testing (endOf 0 es) m v enters) (sym (pair-first heads v))
       (testing-start (I .index 0 (omega arith)) enters h)
 
   pub enter-more : (e : ℕ) → Testing (endOf 0 es) m v enters e → e < m → b ≡ endOf 1 es e → Testing (endOf 0 es) m v enters (getD nexts (2 * e) 0)
-  enter-more e T h q = subst (Testing (endOf 0 es) m v enters) (ap (λ (x : ℕ). getD nexts x 0) (add-zero (2 * e)))
+  enter-more e T h q = subst (Testing (endOf 0 es) m v enters) (sym (pair-first nexts e))
       (testing-more (I .index 0 (omega arith)) enters T h (eq-eqb _ _ q))
 
   pub enter-on : (e : ℕ) → e < m → e < getD nexts (2 * e) 0
-  enter-on e h = omega (arith, (I .index 0 (omega arith)) .nexts e h .low, ap (λ (x : ℕ). getD nexts x 0) (add-zero (2 * e)))
+  enter-on e h = omega (arith, (I .index 0 (omega arith)) .nexts e h .low, pair-first nexts e)

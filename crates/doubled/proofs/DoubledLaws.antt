@@ -9,7 +9,7 @@ use native.Mathlib.Decide.{ℕ-discrete}
 use lib.ListN.{length, getD, set, length-set}
 use lib.Seq.{getD-set-same, getD-set-other}
 use Rattle.laws.proofs.Walks.{byTest}
-use Rattle.laws.proofs.ListLaws.{clash, byOrder}
+use Rattle.laws.proofs.ListLaws.{clash, byOrder, or-right}
 use Rattle.laws.proofs.Edges.{joins-ends}
 use Rattle.laws.proofs.Counts.{ends-join}
 use Rattle.defs.specs.Lists.{tabFrom, anyOf}
@@ -17,13 +17,8 @@ use Rattle.defs.specs.SeqGraph.{Edge, hasEnds}
 use Rattle.defs.specs.Refusals.{doubledEdge}
 use Rattle.store.specs.Store.{edgeIn, edgesIn, EndsBelow}
 use Rattle.index.specs.Index.{endOf, pairAt, Index, Indexed}
+use Rattle.index.proofs.IndexLaws.{pair-first, end-first}
 use Rattle.doubled.specs.Doubled.{Twins, Markable, Stale, DoubledFrom}
-
-pub pair-first : (l : List ℕ) (i : ℕ) → getD l (2 * i) 0 ≡ pairAt 0 l i
-pair-first l i = ap (λ (x : ℕ). getD l x 0) (sym (add-zero (2 * i)))
-
-from-is : (es : List ℕ) (i : ℕ) → endOf 0 es i ≡ getD es (4 * i) 0
-from-is es i = ap (λ (x : ℕ). getD es x 0) (add-zero (4 * i))
 
 -- ---- the marks, when the edges of v before number e have been passed
 
@@ -145,16 +140,12 @@ module _ (f : ℕ → Edge) where
   abbrev twin : ℕ → ℕ → Bool
   twin i j = hasEnds (f i .from) (f i .to) (f j)
 
-  or-right : (a : Bool) {b : Bool} → b ≡ true → (a || b) ≡ true
-  or-right true t = refl
-  or-right false t = t
-
   doubled-from : (s n i j : ℕ) → s ≤ i → i < j → j < s + n → twin i j ≡ true → doubledEdge (tabFrom s n f) ≡ true
   unfolding tabFrom doubledEdge
   doubled-from s zero i j a b c t = absurd (omega arith)
   doubled-from s (suc n) i j a b c t = elim (ℕ-discrete i s) [
     | yes q ↦ rw (any-from (hasEnds (f s .from) (f s .to)) (suc s) n f j (omega arith) (omega arith) (rw q at t))
-    | no ne ↦ or-right (anyOf (hasEnds (f s .from) (f s .to)) (tabFrom (suc s) n f)) (doubled-from (suc s) n i j (omega arith) b (omega arith) t)
+    | no ne ↦ or-right (anyOf (hasEnds (f s .from) (f s .to)) (tabFrom (suc s) n f)) _ (doubled-from (suc s) n i j (omega arith) b (omega arith) t)
   ]
 
   single-from : (s n : ℕ) → ((i j : ℕ) → s ≤ i → i < j → j < s + n → twin i j ≡ false) → doubledEdge (tabFrom s n f) ≡ false
@@ -167,7 +158,7 @@ module _ (f : ℕ → Edge) where
 pub twins-doubled : {m : ℕ} {es : List ℕ} {v : ℕ} → Twins m es v → true ≡ doubledEdge (edgesIn m es)
 twins-doubled {m} {es} T =
     sym (doubled-from (edgeIn es) 0 m (T .first) (T .second) (omega arith) (T .order) (omega (arith, T .below))
-    (ends-join _ _ (edgeIn es (T .second)) (sym (from-is es (T .first)) ∙ T .from-first ∙ sym (T .from-second) ∙ from-is es (T .second)) (T .to-same)))
+    (ends-join _ _ (edgeIn es (T .second)) (sym (end-first es (T .first)) ∙ T .from-first ∙ sym (T .from-second) ∙ end-first es (T .second)) (T .to-same)))
 
 pub twinless : {m n : ℕ} {es : List ℕ} → EndsBelow n m es → ((v : ℕ) → v < n → Twins m es v → ⊥) → false ≡ doubledEdge (edgesIn m es)
 twinless {m} {n} {es} E o = sym (single-from (edgeIn es) 0 m (λ i j a b c.
@@ -176,8 +167,8 @@ twinless {m} {n} {es} E o = sym (single-from (edgeIn es) 0 m (λ i j a b c.
     none : (i j : ℕ) → i < j → j < m → hasEnds (getD es (4 * i) 0) (getD es (4 * i + 1) 0) (edgeIn es j) ≡ true → ⊥
     none i j b c t =
         let q = joins-ends (getD es (4 * i) 0) (getD es (4 * i + 1) 0) 0 true (edgeIn es j) t in
-        o (endOf 0 es i) (omega (arith, from-is es i, E .at i (omega arith) .0))
-        record { first = i; second = j; order = b; below = c; from-first = refl; from-second = from-is es j ∙ q .0 ∙ sym (from-is es i); to-same = sym (q .1) }
+        o (endOf 0 es i) (omega (arith, end-first es i, E .at i (omega arith) .0))
+        record { first = i; second = j; order = b; below = c; from-first = refl; from-second = end-first es j ∙ q .0 ∙ sym (end-first es i); to-same = sym (q .1) }
 
 -- ---- the scan over the vertices
 

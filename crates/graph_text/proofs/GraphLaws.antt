@@ -13,8 +13,9 @@ use Rattle.defs.specs.Simplify.{sequenceBytes, End, quiet, repeated, full, endN
 use Rattle.tabs.proofs.Tabs.{length-tab, getD-tab, tab-ext}
 use Rattle.tabs.proofs.SumTabs.{map-tab}
 use Rattle.store.specs.Store.{isSet, edgeIn, seqIn, part, graphIn}
+use Rattle.store.proofs.VertexLaws.{part-long}
 use Rattle.pool.specs.Pool.{bytesIn}
-use Rattle.pool.proofs.PoolLaws.{part-long, bytes-below}
+use Rattle.pool.proofs.PoolLaws.{bytes-below}
 use Rattle.write_record.proofs.WriteLaws.{bytes-are}
 use Rattle.memory.specs.declared.Held.{Held}
 use Rattle.text.specs.Printed.{ascii, field, signed, surplus, printedSequence, firstLine, endName, secondLine, vertexLine, edgeLine}

@@ -15,12 +15,25 @@ use Rattle.defs.specs.Lists.{tab, tabFrom, keepIf}
 use Rattle.defs.specs.SeqGraph.{Edge, Graph, edgesFrom, edgesInto, outgoingNodes, incomingNodes, outDegree, inDegree}
 use Rattle.tabs.proofs.Tabs.{getD-tab, tab-snoc, tab-ext, tab-zero}
 use Rattle.store.specs.Store.{edgeIn, edgesIn, graphIn, numsIn, EndsBelow}
-use Rattle.index.specs.Index.{endOf, atFrom, edgesAt, Index, pairAt, Indexed, Indexable, Collected}
+use Rattle.index.specs.Index.{endOf, endAt, atFrom, edgesAt, Index, pairAt, Indexed, Indexable, Collected}
 use Rattle.index.proofs.AdjLaws.{Built, built-start, built-more, built-done, at-head, at-step, at-end}
+
+-- the first of two numbers, and the first of four
+pub pair-first : (l : List ℕ) (i : ℕ) → getD l (2 * i) 0 ≡ pairAt 0 l i
+pair-first l i = ap (λ (x : ℕ). getD l x 0) (sym (add-zero (2 * i)))
+
+pub end-first : (es : List ℕ) (e : ℕ) → endOf 0 es e ≡ getD es (4 * e) 0
+end-first es e = ap (λ (x : ℕ). getD es x 0) (add-zero (4 * e))
+
+pub end-is : (es : List ℕ) (off e : ℕ) → off ≤ 1 → endAt off (edgeIn es e) ≡ endOf off es e
+unfolding endAt
+end-is es zero e l = sym (end-first es e)
+end-is es (suc zero) e l = refl
+end-is es (suc (suc n)) e l = absurd (omega arith)
 
 pub end-below : {m n : ℕ} {es : List ℕ} (off : ℕ) → EndsBelow n m es → (e : ℕ) → e < m → off ≤ 1 → getD es (4 * e + off) 0 < n
 end-below {m} {n} {es} off E e h b = elim (ℕ-discrete off 0) [
-  | yes q ↦ omega (arith, E .at e h .0, ap (λ (x : ℕ). getD es (4 * e + x) 0) q, ap (λ (x : ℕ). getD es x 0) (add-zero (4 * e)))
+  | yes q ↦ omega (arith, E .at e h .0, ap (λ (x : ℕ). getD es (4 * e + x) 0) q, end-first es e)
   | no ne ↦ let q : off ≡ 1 = omega arith in omega (arith, E .at e h .1, ap (λ (x : ℕ). getD es (4 * e + x) 0) q)
 ]
 
@@ -83,7 +96,7 @@ module _ {m n : ℕ} {es heads₀ nexts₀ : List ℕ} (F : Indexable m n es hea
       h = omega (arith, B .out .low)
 
       f₀ : getD es (4 * e + 0) 0 ≡ getD es (4 * e) 0
-      f₀ = ap (λ (x : ℕ). getD es x 0) (add-zero (4 * e))
+      f₀ = end-first es e
 
       f₀′ : getD es (4 * e) 0 ≡ getD es (4 * e + 0) 0
       f₀′ = sym f₀
@@ -171,7 +184,7 @@ module _ (off m : ℕ) (es : List ℕ) (end : Edge → ℕ) (is : (e : ℕ) → 
 module _ (k n m : ℕ) (es vs p : List ℕ) (v : ℕ) where
   pub from-is : edgesFrom (graphIn k n m es vs p) v ≡ map (edgeIn es) (edgesAt (endOf 0 es) m v)
   unfolding edgesFrom
-  from-is = keep-is 0 m es (λ (e : Edge). e .from) (λ e. ap (λ (x : ℕ). getD es x 0) (sym (add-zero (4 * e)))) v
+  from-is = keep-is 0 m es (λ (e : Edge). e .from) (λ e. sym (end-first es e)) v
 
   pub into-is : edgesInto (graphIn k n m es vs p) v ≡ map (edgeIn es) (edgesAt (endOf 1 es) m v)
   unfolding edgesInto

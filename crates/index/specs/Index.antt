@@ -1,15 +1,21 @@
 -- The edges at a vertex, by number and in order, and the index over them. Assumes nothing.
 use mathlib.Core.Path.{_≡_}
 use mathlib.Core.List.{List, map}
-use Prim.Native.Nat.{ℕ, _+_, _*_, _-_, _≤_, _<_}
+use Prim.Native.Nat.{ℕ, zero, suc, _+_, _*_, _-_, _≤_, _<_}
 use lib.ListN.{length, getD}
 use lib.Dec.{eqb}
 use Rattle.defs.specs.Lists.{tabFrom, keepIf}
+use Rattle.defs.specs.SeqGraph.{Edge}
 use Rattle.store.specs.Store.{numsIn, EndsBelow}
 
 -- the end `off` of edge e: 0 from, 1 to
 abbrev pub endOf : ℕ → List ℕ → ℕ → ℕ
 endOf off es e = getD es (4 * e + off) 0
+
+-- the same of an edge by itself
+unfoldable pub endAt : ℕ → Edge → ℕ
+endAt zero e = e .from
+endAt (suc n) e = e .to
 
 -- the numbers of the edges at v from number k on, of the m that there are; f gives an end of each edge
 abbrev pub atFrom : (ℕ → ℕ) → ℕ → ℕ → ℕ → List ℕ

@@ -17,17 +17,9 @@ use Rattle.laws.proofs.ListLaws.{clash, and-split, and-true, rank-no}
 use Rattle.laws.proofs.Nets.{Ranks, Bounded, partOf, order-restrict, bounded-restrict, ranks-restrict, closed, reads-restrict}
 use Rattle.laws.proofs.Nets.{of-reads-restrict, spells-reads, reads-spells}
 use Rattle.laws.proofs.Sound.{Sound}
-use Rattle.laws.proofs.Reach.{Hop, Way, way-more, way-last, is-reached, of-reached}
+use Rattle.laws.proofs.Reach.{Hop, Way, way-more, way-last, is-reached, of-reached, hop-edge, edge-hop}
 
 module _ (g : Graph) where
-  forth : (u v : ℕ) → Hop forward g u v → HasEdge g u v
-  unfolding forward
-  forth u v (e, m, j) = let h = and-split _ _ j in (e, m, eqb-true _ _ (h .0), eqb-true _ _ (h .1))
-
-  forth-hop : (u v : ℕ) → HasEdge g u v → Hop forward g u v
-  unfolding forward
-  forth-hop u v (e, m, p, q) = (e, m, and-true _ _ (eq-eqb _ _ p) (eq-eqb _ _ q))
-
   back : (u v : ℕ) → Hop backward g u v → HasEdge g v u
   unfolding backward
   back u v (e, m, j) = let h = and-split _ _ j in (e, m, eqb-true _ _ (h .1), eqb-true _ _ (h .0))
@@ -41,8 +33,8 @@ module _ (g : Graph) where
     inside u v (e, m, p, q) = rw (← p, ← q) (bounded e m)
 
     is-forward : (m u v : ℕ) → u < nodeCount g → Way forward g m u v → elemOf v (reached forward g u) ≡ true
-    is-forward = is-reached forward g (λ u v h. (inside u v (forth u v h)) .1) (λ u v. r u < r v) (λ a b c h k. omega arith) (λ a h.
-        omega arith) (λ u v h. ranks u v (forth u v h))
+    is-forward = is-reached forward g (λ u v h. (inside u v (hop-edge g u v h)) .1) (λ u v. r u < r v) (λ a b c h k. omega arith) (λ a h.
+        omega arith) (λ u v h. ranks u v (hop-edge g u v h))
 
     is-backward : (m u v : ℕ) → u < nodeCount g → Way backward g m u v → elemOf v (reached backward g u) ≡ true
     is-backward = is-reached backward g (λ u v h. (inside v u (back u v h)) .0) (λ u v. r v < r u) (λ a b c h k. omega arith) (λ a h.
@@ -50,7 +42,7 @@ module _ (g : Graph) where
 
     up : (m u v : ℕ) → Way forward g m u v → r u ≤ r v
     up zero u v e = rw e (omega arith)
-    up (suc m) u v (w, h, y) = omega (arith, up m w v y, ranks u w (forth u w h))
+    up (suc m) u v (w, h, y) = omega (arith, up m w v y, ranks u w (hop-edge g u w h))
 
     down : (m u v : ℕ) → Way backward g m u v → r v ≤ r u
     down zero u v e = rw e (omega arith)
@@ -80,7 +72,7 @@ module _ (g : Graph) where
       source-by v zero w b h = sym w
       source-by v (suc m) w b h =
           let z = way-last forward g m s v w in
-          let e = forth (z .0) v (z .2) in
+          let e = hop-edge g (z .0) v (z .2) in
           absurd (h (z .0) e (is-p (z .0) ((m, z .1), (suc (b .0), way-more backward g (b .0) t v (z .0) (b .1) (back-hop v (z .0) e)))))
 
       sink-by : (v m : ℕ) → Way backward g m t v → ((k : ℕ) × Way forward g k s v) → ((u : ℕ) → HasEdge g v u → p u ≡ true → ⊥) → v ≡ t
@@ -88,7 +80,7 @@ module _ (g : Graph) where
       sink-by v (suc m) w b h =
           let z = way-last backward g m t v w in
           let e = back (z .0) v (z .2) in
-          absurd (h (z .0) e (is-p (z .0) ((suc (b .0), way-more forward g (b .0) s v (z .0) (b .1) (forth-hop v (z .0) e)), (m, z .1))))
+          absurd (h (z .0) e (is-p (z .0) ((suc (b .0), way-more forward g (b .0) s v (z .0) (b .1) (edge-hop g v (z .0) e)), (m, z .1))))
 
       pub only-source : (v : ℕ) → IsSource U v → v ≡ s
       only-source v h = let w = of-p v (h .0 .1) in source-by v (w .0 .0) (w .0 .1) (w .1) (λ u e q. h .1 u (e, q, h .0 .1))
@@ -139,7 +131,7 @@ module _ (g : Graph) where
       unfolding spelled concat lastOf
       walk v [] m h e y = step {p = at v} {q = stop} (t-sink v e h (is-p v ((m, y), (0, sym e)))) stay
       walk v (w ∷ ws) m h e y =
-          let y′ = way-more forward g m s v w y (forth-hop v w (h .1)) in
+          let y′ = way-more forward g m s v w y (edge-hop g v w (h .1)) in
           step {p = at v} {q = at w} (
             h .1,
             is-p v ((m, y), unfold lastOf in (to-end v (w ∷ ws) h e)),
@@ -179,7 +171,7 @@ module _ (g : Graph) where
       joinedData m zero v a b = (m, rw (← b) at a)
       joinedData m (suc n) v a b =
           let z = way-last backward g n t v b in
-          joinedData (suc m) n (z .0) (way-more forward g m s v (z .0) a (forth-hop v (z .0) (back (z .0) v (z .2)))) (z .1)
+          joinedData (suc m) n (z .0) (way-more forward g m s v (z .0) a (edge-hop g v (z .0) (back (z .0) v (z .2)))) (z .1)
 
       pub unreached-empty : elemOf t (reached forward g s) ≡ false → nodeCount (removePathsNotConnectedToRef g s t) ≡ 0
       unreached-empty e = rw between-is (order-restrict p g ∙ none-kept (nodeCount g) (λ v _. byTest (p v)

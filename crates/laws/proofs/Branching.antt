@@ -53,7 +53,7 @@ unfolding sumTo
 sum-zero f zero k = refl
 sum-zero f (suc n) k = omega (arith, k n (omega arith), sum-zero f n (λ v l. k v (omega arith)))
 
-sum-ones : (n : ℕ) → sumTo (λ _. 1) n ≡ n
+pub sum-ones : (n : ℕ) → sumTo (λ _. 1) n ≡ n
 unfolding sumTo
 sum-ones zero = refl
 sum-ones (suc n) = omega (arith, sum-ones n)

@@ -11,7 +11,7 @@ use lib.ListN.{length, getD}
 use Rattle.defs.specs.Lists.{elemOf, concat, upFrom, firstOf}
 use Rattle.defs.specs.SeqGraph.{Edge, Graph, nodeCount, vertexSequence, keeps, compactVertices, removeVerticesById}
 use Rattle.defs.specs.Zip.{Work, zipLinearChains, lastOf}
-use Rattle.defs.specs.Simplify.{simplifyGraphFull, sequenceBytes, emptyVertices}
+use Rattle.defs.specs.Simplify.{simplifyGraphFull, sequenceBytes, emptyVertices, minTailSuffixLen}
 use Rattle.defs.specs.Cleanup.{beforeChoice, removeSingletonOrphanVertices, referenceSourceVertex, referenceSinkVertex, singletonOrphans}
 use Rattle.defs.specs.Cleanup.{removeOrphans, either, forward, reached, removeVerticesNotConnectedToRef, justReference, someVariation}
 use Rattle.defs.specs.Cleanup.{choiceGraph, removePathsNotConnectedToRef, withDummyVertex, afterChoice, cleanupSeqGraph}
@@ -74,7 +74,7 @@ unfolding choiceGraph beforeChoice removeSingletonOrphanVertices
 choice-good g h =
     let g₁ = (zipLinearChains (begun g)) .graph in
     let g₂ = removeOrphans (suc (nodeCount g₁)) g₁ in
-    (simplify-tame 10 (omega arith) (removeVerticesNotConnectedToRef g₂)
+    (simplify-tame minTailSuffixLen (omega arith) (removeVerticesNotConnectedToRef g₂)
     (connected-keeps Good restrict-good g₂ (orphans-keep Good restrict-good (suc (nodeCount g₁)) g₁
     ((zip-paid (begun g) h) .tame .good)))) .good
 
@@ -217,7 +217,7 @@ finish-chosen h (some s) none e = absurd (omega (arith, bad))
 finish-chosen h (some s) (some t) e = (s, t, refl, refl)
 
 finish-is : (h : Work) (a b : Option ℕ) (s t : ℕ) → a ≡ some s → b ≡ some t → (afterChoice h a b) .graph
-    ≡ withDummyVertex ((simplifyGraphFull 10 (removePathsNotConnectedToRef (h .graph) s t)) .graph)
+    ≡ withDummyVertex ((simplifyGraphFull minTailSuffixLen (removePathsNotConnectedToRef (h .graph) s t)) .graph)
 unfolding afterChoice
 finish-is h a b s t p q = rw (p, q)
 
@@ -241,14 +241,14 @@ unfolding cleanupSeqGraph choiceGraph
 cleanup-plain g e = finish-plain (beforeChoice g) (referenceSourceVertex (choiceGraph g)) (referenceSinkVertex (choiceGraph g)) e
 
 pub cleanup-is : (g : Graph) (c : Choice (choiceGraph g)) → (cleanupSeqGraph g) .graph
-    ≡ withDummyVertex ((simplifyGraphFull 10 (removePathsNotConnectedToRef (choiceGraph g) (c .source) (c .sink))) .graph)
+    ≡ withDummyVertex ((simplifyGraphFull minTailSuffixLen (removePathsNotConnectedToRef (choiceGraph g) (c .source) (c .sink))) .graph)
 unfolding cleanupSeqGraph choiceGraph
 cleanup-is g c = finish-is (beforeChoice g) (referenceSourceVertex (choiceGraph g)) (referenceSinkVertex (choiceGraph g)) (c .source)
     (c .sink) (c .isSource) (c .isSink)
 
 -- THE STRINGS, for any graph in which a choice is made
 pub finished-spells : (h : Graph) → Good h → (c : Choice h) (x : List ℕ)
-    → Spells (withDummyVertex ((simplifyGraphFull 10 (removePathsNotConnectedToRef h (c .source) (c .sink))) .graph)) x
+    → Spells (withDummyVertex ((simplifyGraphFull minTailSuffixLen (removePathsNotConnectedToRef h (c .source) (c .sink))) .graph)) x
     ↔ SpellsBetween h (c .source) (c .sink) x
 finished-spells h (z, o) c x =
     let s = c .source in
@@ -259,7 +259,7 @@ finished-spells h (z, o) c x =
     let ms = between-sound h (z .bounded) (z .rank) (z .ranks) s t si ti in
     let b = between-spells h (z .bounded) (z .rank) (z .ranks) s t si ti {x = x} in
     let d = simplify-spells m ms x in
-    let e = withSink-spells ((simplifyGraphFull 10 m) .graph) ((Rattle.laws.proofs.Whole.simplify-keeps m ms) .sound) x in
+    let e = withSink-spells ((simplifyGraphFull minTailSuffixLen m) .graph) ((Rattle.laws.proofs.Whole.simplify-keeps m ms) .sound) x in
     (λ w. b .0 (d .1 (e .1 w)), λ a. e .0 (d .0 (b .1 a)))
 
 pub cleanup-spells : (g : Graph) → Good g → (c : Choice (choiceGraph g)) (x : List ℕ) → Spells ((cleanupSeqGraph g) .graph) x
@@ -293,6 +293,6 @@ cleanup-empty g h c e = rw (cleanup-is g c)
     (let k = choice-good g h in
     let z = k .0 in
     let m = removePathsNotConnectedToRef (choiceGraph g) (c .source) (c .sink) in
-    let t = simplify-tame 10 (omega arith) m (between-good (choiceGraph g) (c .source) (c .sink) k) in
+    let t = simplify-tame minTailSuffixLen (omega arith) m (between-good (choiceGraph g) (c .source) (c .sink) k) in
     let o = unreached-empty (choiceGraph g) (z .bounded) (z .rank) (z .ranks) (c .source) (c .sink) (source-in _ _ (c .isSource)) (sink-in _ _ (c .isSink)) e in
-    sink-empty ((simplifyGraphFull 10 m) .graph) (omega (arith, t .light, no-weight m o, order-weight ((simplifyGraphFull 10 m) .graph))))
+    sink-empty ((simplifyGraphFull minTailSuffixLen m) .graph) (omega (arith, t .light, no-weight m o, order-weight ((simplifyGraphFull minTailSuffixLen m) .graph))))

@@ -12,6 +12,7 @@ use lib.ListN.{length, getD, length-append}
 use borrow.Author.Tests.{eqb-true, eq-eqb, ne-eqb}
 use Rattle.defs.specs.Lists.{keepIf, keepAt, bit, concat, rank}
 use Rattle.defs.specs.SeqGraph.{Edge, hasEnds, addOrUpdateEdge, addOrUpdateEdges, keeps, remapEdge}
+use Rattle.defs.specs.Rewrites.{nonEmpty}
 use Rattle.laws.proofs.Walks.{byTest}
 use Rattle.laws.proofs.ListLaws.{clash, and-split, and-true, keepIf-yes, keepIf-no, of-keepIf, keepAt-yes, keepAt-no, rank-inj}
 use Rattle.laws.proofs.Edges.{Linked, raise-yes, raise-no, of-raise, keeps-not, not-keeps, keeps-other, keeps-gone}
@@ -213,6 +214,11 @@ pub length-heft : (l : List ℕ) → length l ≤ heft l
 unfolding heft
 length-heft [] = omega arith
 length-heft (x ∷ l) = omega arith
+
+pub heft-full : (l : List ℕ) → nonEmpty l ≡ true → heft l ≡ length l
+unfolding nonEmpty heft
+heft-full [] e = clash e refl
+heft-full (x ∷ l) e = refl
 
 pub heft-append : (a b : List ℕ) → heft (a ++ b) ≤ heft a + heft b
 unfolding heft

@@ -19,7 +19,7 @@ use Rattle.defs.specs.Rewrites.{splitAndUpdate, isDiamond, tryMergeDiamond, isT
 use Rattle.defs.specs.Strings.{HasEdge}
 use Rattle.laws.proofs.SplitForms.{splitOf, diamond-parts, tails-parts}
 use Rattle.laws.proofs.Walks.{Pt, start, at, stop, Go, byTest}
-use Rattle.laws.proofs.ListLaws.{clash, given-some, and-split, mem-keepIf, of-keepIf}
+use Rattle.laws.proofs.ListLaws.{clash, given-some, and-split, mem-keepIf, of-keepIf, or-cases, mem-at, at-mem}
 use Rattle.laws.proofs.Nets.{Ranks, netOf, Bounded}
 use Rattle.laws.proofs.Edges.{allOf-mem, of-edgesFrom, in-edgesInto, in-edgesFrom, singleton, nonempty}
 use Rattle.laws.proofs.Counts.{total, Distinct, Single, total-same, total-add, total-append, total-one, total-le, heft, length-heft, total-times, length-both}
@@ -30,15 +30,12 @@ use Rattle.laws.proofs.SplitWith as S
 use Rattle.laws.proofs.SplitWith.{exitOf}
 use Rattle.laws.proofs.Sound.{Sound, Keeps}
 use Rattle.laws.proofs.Branching.{ends, sinks, branching, branching-is}
+use Rattle.laws.proofs.Counts.{heft-full}
 
-pub mem-at : {A : Type 0} (d : A) {l : List A} {x : A} → List·Memᴰ x l → (i : ℕ) × (i < length l) × (getD l i d ≡ x)
-mem-at d (List·Memᴰ·head e) = (0, omega arith, sym e)
-mem-at d (List·Memᴰ·tail m) = let r = mem-at d m in (suc (r .0), omega (arith, r .1), r .2)
-
-pub at-mem : {A : Type 0} (d : A) (l : List A) (i : ℕ) → i < length l → List·Memᴰ (getD l i d) l
-at-mem d [] i h = absurd (not-suc-le-zero h)
-at-mem d (x ∷ l) zero h = List·Memᴰ·head refl
-at-mem d (x ∷ l) (suc i) h = List·Memᴰ·tail (at-mem d l i (le-of-suc-le-suc h))
+pub nonEmpty-yes : (l : List ℕ) → 0 < length l → nonEmpty l ≡ true
+unfolding nonEmpty
+nonEmpty-yes [] h = absurd (omega arith)
+nonEmpty-yes (x ∷ l) h = refl
 
 pub empty-is : (l : List ℕ) → nonEmpty l ≡ false → l ≡ []
 unfolding nonEmpty
@@ -229,11 +226,6 @@ module _ (g : Graph) (bounded : Bounded g) (r : ℕ → ℕ) (ranks : Ranks g r)
   heft-one [] = refl
   heft-one (x ∷ l) = omega arith
 
-  heft-full : (l : List ℕ) → nonEmpty l ≡ true → heft l ≡ length l
-  unfolding nonEmpty heft
-  heft-full [] e = clash e refl
-  heft-full (x ∷ l) e = refl
-
   heft-lefts : total heft (map (λ p. p .remaining) lefts′) ≡ total length (map (λ p. p .remaining) lefts′)
   unfolding hasRemaining
   heft-lefts = total-same heft length (map (λ (p : MidPlan). p .remaining) lefts′) (λ x m.
@@ -327,15 +319,6 @@ module _ (g : Graph) (bounded : Bounded g) (r : ℕ → ℕ) (ranks : Ranks g r)
         plans-are,
       )
 
-pub or-cases : (a b : Bool) → (a || b) ≡ true → (a ≡ true) ⊎ (b ≡ true)
-or-cases true b e = inl refl
-or-cases false b e = inr e
-
-long-is : (l : List ℕ) → 0 < length l → nonEmpty l ≡ true
-unfolding nonEmpty
-long-is [] h = absurd (omega arith)
-long-is (x ∷ l) h = refl
-
 -- a diamond
 pub diamond-keeps : (g g′ : Graph) (top : ℕ) → Sound g → tryMergeDiamond g top ≡ some g′ → Keeps g g′
 unfolding isDiamond
@@ -377,7 +360,7 @@ tails-keeps least pos g g′ top sound did =
     (λ m k. (each m k) .1) (ltb-true _ _ (a .0))
     (λ m k. (let e = of-mem-outs g top m k in rw (e .3) at ((sound .bounded (e .0) (e .1)) .1), λ w l. no-out g m w ((each m k) .0) l))
     (λ m. elim [ start ↦ λ k l. absurd l | at v ↦ λ k l. absurd (no-out g m v ((each m k) .0) l) | stop ↦ λ k l. refl ])
-    (λ p s. leb least (length s)) (λ p s t. let n = leb-true least (length s) t in (inr (long-is s (omega arith)), λ e. clash (long-is s (omega arith)) e))
+    (λ p s. leb least (length s)) (λ p s t. let n = leb-true least (length s) t in (inr (nonEmpty-yes s (omega arith)), λ e. clash (nonEmpty-yes s (omega arith)) e))
     g′ (h .1)
 
 -- edges less vertices plus a quarter of the bytes
@@ -425,7 +408,7 @@ module _ (least : ℕ) (pos : 3 < least) (g g′ : Graph) (top : ℕ) (sound : S
 
   enough′ : (p s : List ℕ) → leb least (length s) ≡ true → ((nonEmpty p ≡ true) ⊎ (nonEmpty s ≡ true))
       × (nonEmpty s ≡ false → (b : ℕ) × (_≡_ {A = Option ℕ} none (some b)))
-  enough′ p s t = let n = leb-true least (length s) t in (inr (long-is s (omega arith)), λ e. clash (long-is s (omega arith)) e)
+  enough′ p s t = let n = leb-true least (length s) t in (inr (nonEmpty-yes s (omega arith)), λ e. clash (nonEmpty-yes s (omega arith)) e)
 
   abbrev pre : List ℕ
   pre = prefix g (sound .bounded) (sound .rank) (sound .ranks) top none (λ m k. ((tests .1) m k) .1) (tests .0) exits onlyExit (λ p s.
@@ -454,7 +437,7 @@ module _ (least : ℕ) (pos : 3 < least) (g g′ : Graph) (top : ℕ) (sound : S
 
   one-suffix : bit (nonEmpty suf) ≡ 1
   unfolding bit
-  one-suffix = rw (long-is suf (omega (arith, long)))
+  one-suffix = rw (nonEmpty-yes suf (omega (arith, long)))
 
   pub tails-surplus : length (g′ .edges) + nodeCount g + total length (g′ .verts) / 4 ≤ length (g .edges) + nodeCount g′ + total length (g .verts) / 4
   tails-surplus =

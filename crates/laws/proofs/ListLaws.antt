@@ -1,4 +1,4 @@
--- Laws of the lists with tests.
+-- Laws of tests, and of the lists with tests.
 -- Assumes nothing.
 use Prim.Native.Nat.{ℕ, zero, suc, _+_, _≤_, _<_}
 use native.Mathlib.Nat.{le-of-suc-le-suc, not-suc-le-zero, zero-add, add-zero, suc-add, add-suc}
@@ -12,7 +12,7 @@ use lib.Dec.{T, eqb, leb}
 use lib.ListN.{length, getD}
 use borrow.Author.Tests.{leb-true, leb-false, eqb-true, eqb-false, eq-eqb, ne-eqb}
 use Rattle.laws.proofs.Walks.{byTest}
-use Rattle.defs.specs.Lists.{keepIf, anyOf, allOf, keepAt, bit, given, rank, elemOf, upFrom}
+use Rattle.defs.specs.Lists.{keepIf, anyOf, allOf, keepAt, bit, given, rank, sameList}
 
 pub clash : {X : Type 0} {b : Bool} → b ≡ true → b ≡ false → X
 clash p q = absurd (true≢false (sym p ∙ q))
@@ -25,12 +25,43 @@ given-some false a x e = absurd (omega (arith, bad))
     bad : _≡_ {A = ℕ} 0 1
     bad = cc
 
+pub given-yes : {A : Type 0} (b : Bool) (a : A) → b ≡ true → given b a ≡ some a
+unfolding given
+given-yes b a t = rw t
+
+pub given-no : {A : Type 0} (b : Bool) (a : A) → b ≡ false → given b a ≡ none
+unfolding given
+given-no b a t = rw t
+
 pub and-split : (a b : Bool) → (a && b) ≡ true → (a ≡ true) × (b ≡ true)
 and-split true b e = (refl, e)
 and-split false b e = absurd (false≢true e)
 
 pub and-true : (a b : Bool) → a ≡ true → b ≡ true → (a && b) ≡ true
 and-true a b p q = rw (p, q)
+
+pub or-left : (a b : Bool) → a ≡ true → (a || b) ≡ true
+or-left a b t = rw t
+
+pub or-right : (a b : Bool) → b ≡ true → (a || b) ≡ true
+or-right true b t = refl
+or-right false b t = t
+
+pub or-cases : (a b : Bool) → (a || b) ≡ true → (a ≡ true) ⊎ (b ≡ true)
+or-cases true b e = inl refl
+or-cases false b e = inr e
+
+pub or-false : (a b : Bool) → (a || b) ≡ false → (a ≡ false) × (b ≡ false)
+or-false true b h = clash refl h
+or-false false b h = (refl, h)
+
+pub not-not : (b : Bool) → b ≡ not (not b)
+not-not true = refl
+not-not false = refl
+
+pub bit-yes : (b : Bool) → b ≡ true → bit b ≡ 1
+unfolding bit
+bit-yes b t = rw t
 
 pub byOrder : {X : Type 0} (m n : ℕ) → (m ≤ n → X) → (n < m → X) → X
 byOrder m n f g = byTest (leb m n) (λ t. f (leb-true m n t)) (λ t. g (leb-false m n t))
@@ -57,6 +88,68 @@ module _ {A : Type 0} (p : A → Bool) where
       (λ py. ⊎-elim (λ (e : x ≡ y). (List·Memᴰ·head e, ap p e ∙ py)) (λ m′. let r = of-keepIf ys m′ in (List·Memᴰ·tail (r .0), r .1))
       (List·Memᴰ·cases-cons (rw (keepIf-yes y ys py) at m)))
       (λ py. let r = of-keepIf ys (rw (keepIf-no y ys py) at m) in (List·Memᴰ·tail (r .0), r .1))
+
+  pub any-yes : (x : A) (xs : List A) → p x ≡ true → anyOf p (x ∷ xs) ≡ true
+  unfolding anyOf
+  any-yes x xs t = rw (t, anyOf)
+
+  pub any-no : (x : A) (xs : List A) → p x ≡ false → anyOf p (x ∷ xs) ≡ anyOf p xs
+  unfolding anyOf
+  any-no x xs t = rw (t, anyOf)
+
+  pub all-yes : (x : A) (xs : List A) → p x ≡ true → allOf p (x ∷ xs) ≡ allOf p xs
+  unfolding allOf
+  all-yes x xs t = rw (t, allOf)
+
+  pub all-no : (x : A) (xs : List A) → p x ≡ false → allOf p (x ∷ xs) ≡ false
+  unfolding allOf
+  all-no x xs t = rw (t, allOf)
+
+pub any-map : {A B : Type 0} (p : B → Bool) (f : A → B) (xs : List A) → anyOf p (map f xs) ≡ anyOf (λ (x : A). p (f x)) xs
+unfolding anyOf
+any-map p f [] = refl
+any-map p f (x ∷ xs) = byTest (p (f x)) (λ t. rw (t, anyOf)) (λ t. rw (t, anyOf) (any-map p f xs))
+
+-- two tests that agree on the members of a list
+module _ {A : Type 0} (p q : A → Bool) where
+  pub allOf-same : (l : List A) → ((x : A) → List·Memᴰ x l → p x ≡ q x) → allOf p l ≡ allOf q l
+  unfolding allOf
+  allOf-same [] h = refl
+  allOf-same (x ∷ xs) h = byTest (q x)
+      (λ t. all-yes p x xs (h x (List·Memᴰ·head refl) ∙ t) ∙ allOf-same xs (λ y m. h y (List·Memᴰ·tail m)) ∙ sym (all-yes q x xs t))
+      (λ t. all-no p x xs (h x (List·Memᴰ·head refl) ∙ t) ∙ sym (all-no q x xs t))
+
+  pub keepIf-same : (l : List A) → ((x : A) → List·Memᴰ x l → p x ≡ q x) → keepIf p l ≡ keepIf q l
+  unfolding keepIf
+  keepIf-same [] h = refl
+  keepIf-same (x ∷ l) h = λ i. cond (h x (List·Memᴰ·head refl) i) (x ∷ keepIf-same l (λ y k. h y (List·Memᴰ·tail k)) i)
+      (keepIf-same l (λ y k. h y (List·Memᴰ·tail k)) i)
+
+-- members by index
+pub mem-at : {A : Type 0} (d : A) {l : List A} {x : A} → List·Memᴰ x l → (i : ℕ) × (i < length l) × (getD l i d ≡ x)
+mem-at d (List·Memᴰ·head e) = (0, omega arith, sym e)
+mem-at d (List·Memᴰ·tail m) = let r = mem-at d m in (suc (r .0), omega (arith, r .1), r .2)
+
+pub at-mem : {A : Type 0} (d : A) (l : List A) (i : ℕ) → i < length l → List·Memᴰ (getD l i d) l
+at-mem d [] i h = absurd (not-suc-le-zero h)
+at-mem d (x ∷ l) zero h = List·Memᴰ·head refl
+at-mem d (x ∷ l) (suc i) h = List·Memᴰ·tail (at-mem d l i (le-of-suc-le-suc h))
+
+-- lists of numbers compared
+pub sameList-eq : (a b : List ℕ) → sameList a b ≡ true → a ≡ b
+unfolding sameList
+sameList-eq [] [] t = refl
+sameList-eq [] (y ∷ ys) t = clash t refl
+sameList-eq (x ∷ xs) [] t = clash t refl
+sameList-eq (x ∷ xs) (y ∷ ys) t =
+    byTest (eqb x y)
+    (λ e. let p = eqb-true x y e in let q = sameList-eq xs ys (rw (e, sameList) at t) in cc)
+    (λ e. clash (rw (e, sameList) at t) refl)
+
+pub sameList-refl : (l : List ℕ) → sameList l l ≡ true
+unfolding sameList
+sameList-refl [] = refl
+sameList-refl (x ∷ xs) = rw (eq-eqb x x refl, sameList) (sameList-refl xs)
 
 -- ranks
 module _ (p : ℕ → Bool) where

@@ -20,22 +20,12 @@ use Rattle.defs.specs.Strings.{HasEdge, Spells}
 use Rattle.laws.proofs.Sound.{Sound, Keeps}
 use Rattle.laws.proofs.Walks.{Net, Pt, start, at, stop, Go, text, IsSource, IsSink, Steps, stay, step, single, then, cast, Reads}
 use Rattle.laws.proofs.Walks.{Tour, hit, pass, Replaces, kept, reads, byTest}
-use Rattle.laws.proofs.ListLaws.{clash, given-some, and-split, byOrder}
+use Rattle.laws.proofs.ListLaws.{clash, given-some, and-split, byOrder, sameList-eq}
 use Rattle.laws.proofs.Nets.{Ranks, ranks-restrict, closed, netOf, partOf, Bounded, reads-restrict, of-reads-restrict, spells-reads}
 use Rattle.laws.proofs.Nets.{reads-spells, bounded-restrict}
 use Rattle.laws.proofs.Edges.{Linked, raiseAll-keeps, raiseAll-adds, of-raiseAll, keeps-not, not-keeps, keeps-other, allOf-mem}
 use Rattle.laws.proofs.Edges.{mem-ins, of-mem-ins, of-edgesInto, of-edgesFrom, in-edgesInto, in-edgesFrom, only-out, some-in}
 use Rattle.laws.proofs.Edges.{nonempty, order-grown, seq-grown-old, seq-grown-new}
-
-pub sameList-eq : (a b : List ℕ) → sameList a b ≡ true → a ≡ b
-unfolding sameList
-sameList-eq [] [] t = refl
-sameList-eq [] (y ∷ ys) t = clash t refl
-sameList-eq (x ∷ xs) [] t = clash t refl
-sameList-eq (x ∷ xs) (y ∷ ys) t =
-    byTest (eqb x y)
-    (λ e. let p = eqb-true x y e in let q = sameList-eq xs ys (rw (e, sameList) at t) in cc)
-    (λ e. clash (rw (e, sameList) at t) refl)
 
 pub mem-flat : {A B : Type 0} (f : B → List A) (l : List B) {x : A} {b : B} → List·Memᴰ b l → List·Memᴰ x (f b) → List·Memᴰ x (concat (map f l))
 unfolding concat

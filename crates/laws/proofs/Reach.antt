@@ -7,21 +7,15 @@ use mathlib.Core.Logic.{_⊎_, inl, inr, ⊎-elim}
 use mathlib.Core.Bool.{Bool, true, false, _||_}
 use mathlib.Core.List.{List, [], _∷_, List·Memᴰ, List·Memᴰ·head, List·Memᴰ·not-nil, List·Memᴰ·cases-cons, List·Memᴰ·eq-of-singleton}
 use lib.ListN.{length}
+use borrow.Author.Tests.{eqb-true, eq-eqb}
 use Rattle.defs.specs.Lists.{keepIf, anyOf, elemOf, upFrom}
 use Rattle.defs.specs.SeqGraph.{Edge, Graph, nodeCount}
-use Rattle.defs.specs.Cleanup.{grow, reached}
-use Rattle.laws.proofs.ListLaws.{mem-keepIf, of-keepIf}
+use Rattle.defs.specs.Strings.{HasEdge}
+use Rattle.defs.specs.Cleanup.{forward, grow, reached}
+use Rattle.laws.proofs.ListLaws.{mem-keepIf, of-keepIf, or-cases, or-left, or-right, and-split, and-true}
 use Rattle.laws.proofs.Edges.{elemOf-true, elemOf-mem}
 use Rattle.laws.proofs.Counts.{Distinct}
 use Rattle.laws.proofs.Cycles.{anyOf-true, anyOf-mem, mem-upFrom, distinct-length}
-use Rattle.laws.proofs.Diamonds.{or-cases}
-
-or-left : (a b : Bool) → a ≡ true → (a || b) ≡ true
-or-left a b t = rw t
-
-or-right : (a b : Bool) → b ≡ true → (a || b) ≡ true
-or-right true b t = refl
-or-right false b t = t
 
 module _ (hasEnds : Edge → ℕ → ℕ → Bool) (g : Graph) where
   -- an edge that leads from u to v, as `joins` reads it
@@ -89,6 +83,11 @@ module _ (hasEnds : Edge → ℕ → ℕ → Bool) (g : Graph) where
     in-grow (suc n) seen zero u v l h t e = in-grow n (more seen) zero u v (omega arith) h (more-old seen u h t) e
     in-grow (suc n) seen (suc m) u v l h t (x, k, w) = in-grow n (more seen) m x v (omega arith) (inside u x k) (more-hop seen u x (inside u x k) t k) w
 
+    -- where a way of at most as many steps as there are vertices ends is reached
+    pub short-reached : (m u v : ℕ) → m ≤ nodeCount g → u < nodeCount g → Way m u v → elemOf v (reached hasEnds g u) ≡ true
+    unfolding reached
+    short-reached m u v l h w = in-grow (nodeCount g) (u ∷ []) m u v l h (elemOf-mem u (u ∷ []) (List·Memᴰ·head refl)) w
+
     -- where each hop goes on in an order, no way is longer than there are vertices
     module _ (Below : ℕ → ℕ → Type 0) (trans : (a b c : ℕ) → Below a b → Below b c → Below a c) (irrefl : (a : ℕ) → Below a a → ⊥) (rises :
         (u v : ℕ) → Hop u v → Below u v) where
@@ -120,9 +119,18 @@ module _ (hasEnds : Edge → ℕ → ℕ → Bool) (g : Graph) where
       short m u v h w = let r = listed m u v h w in omega (arith, distinct-length (nodeCount g) (u ∷ r .0) (r .2) (r .3), r .1)
 
       pub is-reached : (m u v : ℕ) → u < nodeCount g → Way m u v → elemOf v (reached hasEnds g u) ≡ true
-      unfolding reached
-      is-reached m u v h w = in-grow (nodeCount g) (u ∷ []) m u v (omega (arith, short m u v h w)) h (elemOf-mem u (u ∷ []) (List·Memᴰ·head refl)) w
+      is-reached m u v h w = short-reached m u v (omega (arith, short m u v h w)) h w
 
   pub of-reached : (u v : ℕ) → elemOf v (reached hasEnds g u) ≡ true → (m : ℕ) × Way m u v
   unfolding reached From
   of-reached u v t = let r = of-grow (nodeCount g) (u ∷ []) v t in (r .2, rw (List·Memᴰ·eq-of-singleton (elemOf-true (r .0) (u ∷ []) (r .1))) at (r .3))
+
+-- a hop along an edge, as `forward` reads it
+module _ (g : Graph) where
+  pub hop-edge : (u v : ℕ) → Hop forward g u v → HasEdge g u v
+  unfolding forward
+  hop-edge u v (e, m, j) = let h = and-split _ _ j in (e, m, eqb-true _ _ (h .0), eqb-true _ _ (h .1))
+
+  pub edge-hop : (u v : ℕ) → HasEdge g u v → Hop forward g u v
+  unfolding forward
+  edge-hop u v (e, m, p, q) = (e, m, and-true _ _ (eq-eqb _ _ p) (eq-eqb _ _ q))

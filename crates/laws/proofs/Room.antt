@@ -10,7 +10,7 @@ use lib.ListN.{length}
 use Rattle.defs.specs.Lists.{keepAt, bit}
 use Rattle.defs.specs.SeqGraph.{Edge, Graph, nodeCount, compactVertices}
 use Rattle.defs.specs.Zip.{Work, zipLinearChains}
-use Rattle.defs.specs.Simplify.{sequenceBytes, emptyVertices, simplifyGraphFull}
+use Rattle.defs.specs.Simplify.{sequenceBytes, emptyVertices, simplifyGraphFull, minTailSuffixLen}
 use Rattle.defs.specs.Cleanup.{beforeChoice, removeSingletonOrphanVertices, referenceSourceVertex, referenceSinkVertex, removeOrphans}
 use Rattle.defs.specs.Cleanup.{removeVerticesNotConnectedToRef, choiceGraph, removePathsNotConnectedToRef, withDummyVertex, afterChoice}
 use Rattle.defs.specs.Cleanup.{cleanupSeqGraph}
@@ -19,7 +19,7 @@ use Rattle.laws.proofs.ListLaws.{keepAt-yes, keepAt-no}
 use Rattle.laws.proofs.Counts.{total, heft, bit-le}
 use Rattle.laws.proofs.Fuel.{Good}
 use Rattle.laws.proofs.Whole.{byList}
-use Rattle.laws.proofs.Branching.{sumTo, sum-le, sinks, ends, branching, branching-is, branching-restrict, surplus-branching}
+use Rattle.laws.proofs.Branching.{sumTo, sum-le, sinks, ends, branching, branching-is, branching-restrict, surplus-branching, sum-ones}
 use Rattle.laws.proofs.Measures.{weight, load, bytes-is, weight-is, Tame}
 use Rattle.laws.proofs.Bound.{begun, zip-paid, simplify-tame, simplify-fits, Small, Fits, small-fits}
 use Rattle.laws.proofs.Cleaned.{restrict-good, orphans-keep, connected-keeps, sink-nil, sink-one, sink-more}
@@ -75,8 +75,8 @@ orphans-narrow = orphans-keep Narrow narrow-restrict
 pub connected-narrow : (g : Graph) → Narrow g → Narrow (removeVerticesNotConnectedToRef g)
 connected-narrow = connected-keeps Narrow narrow-restrict
 
-pub simplify-narrow : (g : Graph) → Narrow g → Narrow ((simplifyGraphFull 10 g) .graph)
-simplify-narrow g h = narrow-tame h (simplify-tame 10 (omega arith) g (h .good))
+pub simplify-narrow : (g : Graph) → Narrow g → Narrow ((simplifyGraphFull minTailSuffixLen g) .graph)
+simplify-narrow g h = narrow-tame h (simplify-tame minTailSuffixLen (omega arith) g (h .good))
 
 pub choice-narrow : (g : Graph) → Narrow g → Narrow (choiceGraph g)
 unfolding choiceGraph beforeChoice removeSingletonOrphanVertices
@@ -123,7 +123,7 @@ finish-fits : (h : Work) (a b : Option ℕ) → Narrow (h .graph) → Fits ((aft
 unfolding afterChoice
 finish-fits h none b k = narrow-fits (h .graph) k
 finish-fits h (some s) none k = narrow-fits (h .graph) k
-finish-fits h (some s) (some t) k = withSink-fits ((simplifyGraphFull 10 (removePathsNotConnectedToRef (h .graph) s t)) .graph)
+finish-fits h (some s) (some t) k = withSink-fits ((simplifyGraphFull minTailSuffixLen (removePathsNotConnectedToRef (h .graph) s t)) .graph)
     (narrow-fits _ (simplify-narrow (removePathsNotConnectedToRef (h .graph) s t) (between-narrow (h .graph) s t k)))
 
 pub cleanup-fits : (g : Graph) → Narrow g → Fits ((cleanupSeqGraph g) .graph)
@@ -142,11 +142,6 @@ empties-le [] = omega arith
 empties-le ([] ∷ vs) = omega (arith, empties-le vs)
 empties-le ((x ∷ xs) ∷ vs) = omega (arith, empties-le vs)
 
-sum-ones : (n : ℕ) → sumTo (λ _. 1) n ≡ n
-unfolding sumTo
-sum-ones zero = refl
-sum-ones (suc n) = omega (arith, sum-ones n)
-
 pub sinks-le : (g : Graph) → sinks g ≤ nodeCount g
 unfolding sinks
 sinks-le g = omega (arith, sum-le (λ v. bit (ends g v)) (λ _. 1) (nodeCount g) (λ v _. bit-le (ends g v)), sum-ones (nodeCount g))
@@ -161,8 +156,8 @@ limits-narrow g h l = record {
 }
 
 -- both calls, from the limits
-pub simplify-room : (g : Graph) → Good g → Limits g → Fits ((simplifyGraphFull 10 g) .graph)
-simplify-room g h l = simplify-fits 10 (omega arith) g h (narrow-small g (limits-narrow g h l))
+pub simplify-room : (g : Graph) → Good g → Limits g → Fits ((simplifyGraphFull minTailSuffixLen g) .graph)
+simplify-room g h l = simplify-fits minTailSuffixLen (omega arith) g h (narrow-small g (limits-narrow g h l))
 
 pub cleanup-room : (g : Graph) → Good g → Limits g → Fits ((cleanupSeqGraph g) .graph)
 cleanup-room g h l = cleanup-fits g (limits-narrow g h l)

@@ -82,10 +82,10 @@ unfoldable pub loads : Option EdgeData → ℕ
 loads none = 0
 loads (some l) = 1
 
-length-linksInto : (t n : ℕ) (ps : List MidPlan) → length (edgesToMiddles t n ps) ≡ length ps
+pub length-toMiddles : (t n : ℕ) (ps : List MidPlan) → length (edgesToMiddles t n ps) ≡ length ps
 unfolding edgesToMiddles
-length-linksInto t n [] = refl
-length-linksInto t n (p ∷ ps) = ap suc (length-linksInto t (suc n) ps)
+length-toMiddles t n [] = refl
+length-toMiddles t n (p ∷ ps) = ap suc (length-toMiddles t (suc n) ps)
 
 length-linksFrom : (n b : ℕ) (ps : List MidPlan) → length (edgesFromMiddles n b ps) ≡ length ps
 unfolding edgesFromMiddles
@@ -97,7 +97,7 @@ unfolding newEdgeIf loads
 length-linkMaybe u v none = refl
 length-linkMaybe u v (some l) = refl
 
-length-only : (b : Bool) (e : Edge) → length (onlyIf b (e ∷ [])) ≡ bit b
+pub length-only : (b : Bool) (e : Edge) → length (onlyIf b (e ∷ [])) ≡ bit b
 unfolding onlyIf bit
 length-only true e = refl
 length-only false e = refl
@@ -154,7 +154,7 @@ module _ (P S′ : Bool) (g : Graph) (top : ℕ) (bottom : Option ℕ) (lefts : 
         length-append e₄ e₅,
         length-only P (S.first P S′ n top bottom lefts gone prefix suffix mids),
         length-only (S′ && not (isNone bottom)) (S.last P S′ n top bottom lefts gone prefix suffix mids),
-        length-linksInto t (S.mv P S′ n top bottom lefts gone prefix suffix mids) lefts,
+        length-toMiddles t (S.mv P S′ n top bottom lefts gone prefix suffix mids) lefts,
         length-linkMaybe t b gone,
         length-linksFrom (S.mv P S′ n top bottom lefts gone prefix suffix mids) b lefts,
       )

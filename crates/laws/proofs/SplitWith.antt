@@ -19,7 +19,7 @@ use Rattle.defs.specs.Strings.{HasEdge, Spells}
 use Rattle.laws.proofs.Counts.{total, Distinct}
 use Rattle.laws.proofs.Sound.{Keeps}
 use Rattle.laws.proofs.Walks.{Net, Pt, start, at, stop, Go, text, IsSink, Steps, stay, step, single, then, cast, Tour, hit, pass, kept, byTest}
-use Rattle.laws.proofs.ListLaws.{clash, byOrder, and-split, and-true}
+use Rattle.laws.proofs.ListLaws.{clash, byOrder, and-split, and-true, bit-yes}
 use Rattle.laws.proofs.Nets.{Ranks, netOf, partOf, Bounded}
 use Rattle.laws.proofs.Edges.{Linked, linked-cases, linked-tail, keeps-other, order-grown, seq-grown-new, seq-grown-old}
 use Rattle.laws.proofs.Changes.{Local, Forth, Back, common, common-is, is-common, linked-old, link-U, of-U-new, spells-change}
@@ -288,10 +288,6 @@ module _ (g : Graph) (bounded : Bounded g) (r : ℕ → ℕ) (ranks : Ranks g r)
   b-no : S ≡ false → (b : ℕ) → bottom ≡ some b → b″ ≡ b
   unfolding orElse
   b-no s b e = rw (s, e)
-
-  bit-yes : (p : Bool) → p ≡ true → bit p ≡ 1
-  unfolding bit
-  bit-yes p e = rw e
 
   bit-no : (p : Bool) → p ≡ false → bit p ≡ 0
   unfolding bit

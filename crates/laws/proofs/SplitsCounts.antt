@@ -19,7 +19,7 @@ use Rattle.defs.specs.Strings.{HasEdge}
 use Rattle.laws.proofs.Walks.{byTest}
 use Rattle.laws.proofs.ListLaws.{clash, given-some, and-split}
 use Rattle.laws.proofs.Edges.{allOf-mem, only-out, of-mem-ins}
-use Rattle.laws.proofs.Counts.{total, total-le, total-same, total-append, total-one, Distinct, Single, heft, length-heft}
+use Rattle.laws.proofs.Counts.{total, total-le, total-same, total-append, total-one, Distinct, Single, heft, length-heft, heft-full}
 use Rattle.laws.proofs.Changes.{Local, weight-change, order-change, edges-change, single-change}
 use Rattle.laws.proofs.SharedLaws.{sharedSuffix-each}
 use Rattle.laws.proofs.Sound.{Sound}
@@ -29,22 +29,19 @@ use Rattle.laws.proofs.Splits as P
 
 -- the new vertices and edges of a list of predecessors
 module _ (g : Graph) (bottom : ℕ) (suffix : List ℕ) where
-  abbrev remaining : ℕ → List ℕ
-  remaining m = withoutSuffix g (length suffix) m
-
   module _ (f : List ℕ → ℕ) (full : (l : List ℕ) → nonEmpty l ≡ true → f l ≡ length l) (some-suffix : nonEmpty suffix ≡ true) where
     one-weight : (l : List ℕ) → total f (suffixAndPrefix suffix l) ≡ length suffix + length l
     unfolding suffixAndPrefix total nonEmpty
     one-weight [] = omega (arith, full suffix some-suffix)
     one-weight (x ∷ l) = omega (arith, full suffix some-suffix, full (x ∷ l) refl)
 
-    all-weight : (ms : List ℕ) → total f (splitVertices g suffix ms) ≡ total (λ m. length suffix + length (remaining m)) ms
+    all-weight : (ms : List ℕ) → total f (splitVertices g suffix ms) ≡ total (λ m. length suffix + length (P.remaining g bottom suffix m)) ms
     unfolding splitVertices total
     all-weight [] = refl
     all-weight (m ∷ ms) = omega (
       arith,
-      total-append f (suffixAndPrefix suffix (remaining m)) (splitVertices g suffix ms),
-      one-weight (remaining m),
+      total-append f (suffixAndPrefix suffix (P.remaining g bottom suffix m)) (splitVertices g suffix ms),
+      one-weight (P.remaining g bottom suffix m),
       all-weight ms,
     )
 
@@ -61,10 +58,10 @@ module _ (g : Graph) (bottom : ℕ) (suffix : List ℕ) where
   all-count : (ms : List ℕ) → length ms ≤ length (splitVertices g suffix ms)
   unfolding splitVertices
   all-count [] = omega arith
-  all-count (m ∷ ms) = omega (arith, length-append (suffixAndPrefix suffix (remaining m)) (splitVertices g suffix ms), one-count (remaining m), all-count ms)
+  all-count (m ∷ ms) = omega (arith, length-append (suffixAndPrefix suffix (P.remaining g bottom suffix m)) (splitVertices g suffix ms), one-count (P.remaining g bottom suffix m), all-count ms)
 
   -- not all of them are just the suffix
-  more-count : (ms : List ℕ) → ((m : ℕ) → List·Memᴰ m ms → length (vertexSequence g m) ≡ length (remaining m) + length suffix)
+  more-count : (ms : List ℕ) → ((m : ℕ) → List·Memᴰ m ms → length (vertexSequence g m) ≡ length (P.remaining g bottom suffix m) + length suffix)
       → allOf (λ p. eqb (length (vertexSequence g p)) (length suffix)) ms ≡ false
       → length ms < length (splitVertices g suffix ms)
   unfolding splitVertices allOf
@@ -72,15 +69,15 @@ module _ (g : Graph) (bottom : ℕ) (suffix : List ℕ) where
   more-count (m ∷ ms) h t = byTest (eqb (length (vertexSequence g m)) (length suffix))
       (λ e. omega (
         arith,
-        length-append (suffixAndPrefix suffix (remaining m)) (splitVertices g suffix ms),
-        one-count (remaining m),
+        length-append (suffixAndPrefix suffix (P.remaining g bottom suffix m)) (splitVertices g suffix ms),
+        one-count (P.remaining g bottom suffix m),
         more-count ms (λ x k. h x (List·Memᴰ·tail k)) (rw (e, allOf) at t),
       ))
       (λ e. omega (
         arith,
-        length-append (suffixAndPrefix suffix (remaining m)) (splitVertices g suffix ms),
+        length-append (suffixAndPrefix suffix (P.remaining g bottom suffix m)) (splitVertices g suffix ms),
         all-count ms,
-        two-count (remaining m) (λ z. eqb-false (length (vertexSequence g m)) (length suffix) e (omega (arith, h m (List·Memᴰ·head refl)))),
+        two-count (P.remaining g bottom suffix m) (λ z. eqb-false (length (vertexSequence g m)) (length suffix) e (omega (arith, h m (List·Memᴰ·head refl)))),
       ))
 
   one-edges : (n : ℕ) (l : List ℕ) (toMid : List Edge) (out : EdgeData) → length (suffixAndPrefixEdges bottom n l toMid out)
@@ -96,17 +93,12 @@ module _ (g : Graph) (bottom : ℕ) (suffix : List ℕ) where
       let out = processEdge g m (edgesFrom g m) in
       omega (
         arith,
-        length-append (suffixAndPrefixEdges bottom n (remaining m) (edgesInto g m) out)
-            (splitEdges g bottom suffix (length (suffixAndPrefix suffix (remaining m)) + n) ms),
-        one-edges n (remaining m) (edgesInto g m) out,
-        all-edges (length (suffixAndPrefix suffix (remaining m)) + n) ms,
-        length-append (suffixAndPrefix suffix (remaining m)) (splitVertices g suffix ms),
+        length-append (suffixAndPrefixEdges bottom n (P.remaining g bottom suffix m) (edgesInto g m) out)
+            (splitEdges g bottom suffix (length (suffixAndPrefix suffix (P.remaining g bottom suffix m)) + n) ms),
+        one-edges n (P.remaining g bottom suffix m) (edgesInto g m) out,
+        all-edges (length (suffixAndPrefix suffix (P.remaining g bottom suffix m)) + n) ms,
+        length-append (suffixAndPrefix suffix (P.remaining g bottom suffix m)) (splitVertices g suffix ms),
       )
-
-heft-full : (l : List ℕ) → nonEmpty l ≡ true → heft l ≡ length l
-unfolding nonEmpty heft
-heft-full [] e = clash e refl
-heft-full (x ∷ l) e = refl
 
 module _ (g g′ : Graph) (bottom : ℕ) (sound : Sound g) (once : Single (g .edges)) (did : trySplitCommonSuffix g bottom ≡ some g′) where
   abbrev prevs : List ℕ
@@ -145,8 +137,8 @@ module _ (g g′ : Graph) (bottom : ℕ) (sound : Sound g) (once : Single (g .ed
   pub cuts : (m : ℕ) → List·Memᴰ m prevs → vertexSequence g m ≡ withoutSuffix g (length suffix) m ++ suffix
   cuts m k = P.cut-end g suffix m (sharedSuffix-each (map (vertexSequence g) prevs) (Memᴰ·map (vertexSequence g) k))
 
-  lengths : (m : ℕ) → List·Memᴰ m prevs → length (vertexSequence g m) ≡ length (remaining g bottom suffix m) + length suffix
-  lengths m k = ap length (cuts m k) ∙ length-append (remaining g bottom suffix m) suffix
+  lengths : (m : ℕ) → List·Memᴰ m prevs → length (vertexSequence g m) ≡ length (P.remaining g bottom suffix m) + length suffix
+  lengths m k = ap length (cuts m k) ∙ length-append (P.remaining g bottom suffix m) suffix
 
   pub local : Local g c
   local = P.local g (sound .bounded) (sound .rank) (sound .ranks) bottom suffix onlyOut cuts
@@ -162,7 +154,7 @@ module _ (g g′ : Graph) (bottom : ℕ) (sound : Sound g) (once : Single (g .ed
         arith,
         weight-change g (sound .bounded) c local f once-prevs,
         all-weight g bottom suffix f full (tests .1) prevs,
-        total-le (λ m. length suffix + length (remaining g bottom suffix m)) (λ m. f (vertexSequence g m)) prevs (λ m k.
+        total-le (λ m. length suffix + length (P.remaining g bottom suffix m)) (λ m. f (vertexSequence g m)) prevs (λ m k.
             omega (arith, lengths m k, more (vertexSequence g m))),
       ))
 

@@ -14,7 +14,7 @@ use Rattle.defs.specs.SeqGraph.{Graph, nodeCount, incomingNodes, remapNumbers}
 use Rattle.defs.specs.Zip.{Work, isLinearChainStart, linearChain, traceLinearChain, mergeLinearChain, zipStarts, zipLinearChains}
 use Rattle.defs.specs.Rewrites.{tryMergeDiamond, tryMergeTails, trySplitCommonSuffix, tryMergeCommonSuffices}
 use Rattle.defs.specs.Simplify.{firstAt, transformUntilComplete, Split, firstSplit, splitUntilComplete, simplifyGraphOnce, roundsFrom}
-use Rattle.defs.specs.Simplify.{simplified, graphTopologySignature, simplifyGraphFull, fuelFor}
+use Rattle.defs.specs.Simplify.{simplified, graphTopologySignature, simplifyGraphFull, fuelFor, minTailSuffixLen}
 use Rattle.defs.specs.Strings.{Spells}
 use Rattle.laws.proofs.Walks.{byTest}
 use Rattle.laws.proofs.Sound.{Sound, Keeps, keeps-same, keeps-then}
@@ -232,12 +232,12 @@ rounds-keeps least pos (suc remaining) n sig w h = rounds-next least pos remaini
     rounds-keeps least pos remaining m l (simplifyGraphOnce least w) s)
 
 -- THE WHOLE CALL: simplification keeps the strings of a graph without cycles
-pub simplify-keeps : (g : Graph) → Sound g → Keeps g ((simplifyGraphFull 10 g) .graph)
+pub simplify-keeps : (g : Graph) → Sound g → Keeps g ((simplifyGraphFull minTailSuffixLen g) .graph)
 unfolding simplifyGraphFull
 simplify-keeps g h =
     let w : Work = record { graph = g; rewrites = 0 } in
     let k = zip-all w h in
-    keeps-then k (rounds-keeps 10 (omega arith) 100 0 [] (zipLinearChains w) (k .sound))
+    keeps-then k (rounds-keeps minTailSuffixLen (omega arith) 100 0 [] (zipLinearChains w) (k .sound))
 
-pub simplify-spells : (g : Graph) → Sound g → (s : List ℕ) → Spells g s ↔ Spells ((simplifyGraphFull 10 g) .graph) s
+pub simplify-spells : (g : Graph) → Sound g → (s : List ℕ) → Spells g s ↔ Spells ((simplifyGraphFull minTailSuffixLen g) .graph) s
 simplify-spells g h s = (simplify-keeps g h) .spells s

@@ -12,6 +12,7 @@ use Rattle.laws.proofs.ListLaws.{byOrder, of-keepIf}
 use Rattle.tabs.proofs.Tabs.{getD-tab, tab-ext}
 use Rattle.tabs.proofs.ListTabs.{mem-tab, of-mem-tab}
 use Rattle.store.specs.Store.{seqIn, seqsIn, numsIn, EndsBelow}
+use Rattle.store.proofs.VertexLaws.{part-long}
 use Rattle.compact.specs.Compact.{Below}
 use Rattle.index.specs.Index.{Index, endOf, edgesAt, atFrom, pairAt, Indexed, Collected}
 use Rattle.index.proofs.AdjLaws.{at-head, at-step, at-end}
@@ -20,7 +21,7 @@ use Rattle.memory.specs.Memory.{graphOf, Room, Holds}
 use Rattle.memory.specs.declared.Held.{Held}
 use Rattle.memory.proofs.RoomLaws.{held-vertices, held-edges, held-ends}
 use Rattle.shared.specs.Shared.{Parts, startAt, lenAt, seqsAt, Prefix, Suffix}
-use Rattle.shared.proofs.PartLaws.{length-part, map-tab}
+use Rattle.shared.proofs.PartLaws.{map-tab}
 use Rattle.shared.proofs.SharedLoops.{in-pool}
 use Rattle.split_update.specs.Split.{Middle, prefixAt, suffixAt, splitChange, Splittable}
 use Rattle.merge_diamond.proofs.GrownLaws.{Grown}
@@ -155,10 +156,10 @@ module _ {h : Held} {es vs p heads nexts nodes mp : List ℕ} {top c : ℕ} (F :
     inside = in-pool (parts s) 0 (omega arith)
 
     pub length-prefix : length (prefixAt vs p nodes x) ≡ x
-    length-prefix = length-part p (startAt vs nodes 0) x (omega (arith, inside, X .all 0 (omega arith)))
+    length-prefix = part-long p (startAt vs nodes 0) x (omega (arith, inside, X .all 0 (omega arith)))
 
     pub length-suffix : length (suffixAt vs p nodes y) ≡ y
-    length-suffix = length-part p (startAt vs nodes 0 + lenAt vs nodes 0 - y) y (omega (arith, inside, Y .all 0 (omega arith)))
+    length-suffix = part-long p (startAt vs nodes 0 + lenAt vs nodes 0 - y) y (omega (arith, inside, Y .all 0 (omega arith)))
 
     pub prefix-is : sharedPrefix g (numsIn c nodes) ≡ prefixAt vs p nodes x
     unfolding sharedPrefix

@@ -14,10 +14,10 @@ use Rattle.defs.specs.SeqGraph.{Graph, Change, nodeCount, outgoingNodes, outDeg
 use Rattle.defs.specs.Rewrites.{nonEmpty, isDiamond, bottomOf, sharedPrefix, sharedSuffix, diamondChange, tryMergeDiamond, isTails, tailsChange, tryMergeTails}
 use Rattle.defs.specs.Strings.{HasEdge}
 use Rattle.laws.proofs.Walks.{start, at, stop}
-use Rattle.laws.proofs.ListLaws.{clash, and-split}
+use Rattle.laws.proofs.ListLaws.{clash, and-split, or-cases}
 use Rattle.laws.proofs.Edges.{allOf-mem}
 use Rattle.laws.proofs.SplitForms.{diamond-parts, tails-parts}
-use Rattle.laws.proofs.Diamonds.{mem-outs, of-mem-outs, some-out, no-out, or-cases, distinct-outs, room-split}
+use Rattle.laws.proofs.Diamonds.{mem-outs, of-mem-outs, some-out, no-out, distinct-outs, room-split, nonEmpty-yes}
 use Rattle.laws.proofs.Fuel.{Good}
 use Rattle.laws.proofs.Measures.{diamond-tame, tails-tame}
 use Rattle.memory.specs.Memory.{vertexRoom, edgeRoom, Fit}
@@ -28,11 +28,6 @@ pub record Grown (g : Graph) (c : Change) (g′ : Graph) (heads nexts : List ℕ
   pub vertices : nodeCount (withAdditions c g) ≤ 2 * vertexRoom heads
   pub edges : length ((withAdditions c g) .edges) ≤ 2 * edgeRoom nexts
   pub fit : Fit g′ heads nexts
-
-long-is : (l : List ℕ) → 0 < length l → nonEmpty l ≡ true
-unfolding nonEmpty
-long-is [] h = absurd (omega arith)
-long-is (x ∷ l) h = refl
 
 diamond-within : (g g′ : Graph) (top : ℕ) → Good g → tryMergeDiamond g top ≡ some g′
     → (nodeCount (withAdditions (diamondChange g top) g) ≤ nodeCount g′ + nodeCount g)
@@ -79,7 +74,7 @@ tails-within least pos g g′ top (sound, once) did =
     (λ m k. (each m k) .1) (ltb-true _ _ (a .0))
     (λ m k. (let e = of-mem-outs g top m k in rw (e .3) at ((sound .bounded (e .0) (e .1)) .1), λ w l. no-out g m w ((each m k) .0) l))
     (λ m. elim [ start ↦ λ k l. absurd l | at v ↦ λ k l. absurd (no-out g m v ((each m k) .0) l) | stop ↦ λ k l. refl ])
-    (λ p s. leb least (length s)) (λ p s t. let n = leb-true least (length s) t in (inr (long-is s (omega arith)), λ e. clash (long-is s (omega arith)) e))
+    (λ p s. leb least (length s)) (λ p s t. let n = leb-true least (length s) t in (inr (nonEmpty-yes s (omega arith)), λ e. clash (nonEmpty-yes s (omega arith)) e))
     g′ (h .1) (distinct-outs g top once) in
     (z .1, z .2)
 

@@ -13,21 +13,22 @@ use Rattle.defs.specs.Lists.{tab, tabFrom, given, headOr, allOf}
 use Rattle.defs.specs.SeqGraph.{Graph, Change, outgoingNodes, outDegree, inDegree, applyChange}
 use Rattle.defs.specs.Rewrites.{nonEmpty, isDiamond, bottomOf, sharedPrefix, sharedSuffix, mergesDiamond, diamondChange, tryMergeDiamond}
 use Rattle.defs.specs.Rewrites.{isTails, mergesTails, tailsChange, tryMergeTails, splitAndUpdate}
-use Rattle.laws.proofs.ListLaws.{and-split}
+use Rattle.laws.proofs.ListLaws.{and-split, given-yes, given-no}
 use Rattle.laws.proofs.Edges.{allOf-mem}
+use Rattle.laws.proofs.Diamonds.{nonEmpty-yes}
 use Rattle.tabs.proofs.Tabs.{length-tab}
-use Rattle.tabs.proofs.ListTabs.{mem-tab}
+use Rattle.tabs.proofs.ListTabs.{mem-tab, head-tab}
 use Rattle.store.specs.Store.{numsIn}
 use Rattle.index.specs.Index.{endOf, edgesAt, Indexed}
 use Rattle.index.proofs.AdjLaws.{at-head, at-step, at-end}
-use Rattle.index.proofs.IndexLaws.{outgoing-is, in-degree-is}
+use Rattle.index.proofs.IndexLaws.{outgoing-is, in-degree-is, pair-first}
 use Rattle.memory.specs.Memory.{graphOf, Holds, Left}
 use Rattle.memory.specs.declared.Held.{Held}
 use Rattle.memory.specs.declared.Tried.{Tried}
 use Rattle.shared.specs.Shared.{Prefix, Suffix}
 use Rattle.diamond.specs.Diamond.{Diamond, Tails}
 use Rattle.split_update.specs.Split.{prefixAt, suffixAt, bottomIf, splitChange, Splittable, SplitDone}
-use Rattle.split_update.proofs.PushLaws.{nonEmpty-yes, nonEmpty-no}
+use Rattle.split_update.proofs.PushLaws.{nonEmpty-no}
 use Rattle.merge_diamond.specs.Answer.{notMerged, hasMerged}
 use Rattle.merge_diamond.proofs.GrownLaws.{Grown, diamond-grown, tails-grown}
 use Rattle.merge_diamond.proofs.FollowLaws.{Follows, nodes-are, bottom-below, length-prefix, length-suffix, prefix-is, suffix-is, splittable}
@@ -36,7 +37,7 @@ use Rattle.merge_diamond.proofs.FollowLaws.{Follows, nodes-are, bottom-
 
 module _ {m n : ℕ} {es heads nexts : List ℕ} (I : Indexed m n es heads nexts) {v : ℕ} (b : v < n) where
   head-is : getD heads (2 * v) 0 ≡ getD heads (2 * v + 0) 0
-  head-is = ap (λ (x : ℕ). getD heads x 0) (sym (add-zero (2 * v)))
+  head-is = pair-first heads v
 
   pub follower-there : {e : ℕ} → e ≡ getD heads (2 * v) 0 → e < m → getD es (4 * e + 1) 0 ≡ headOr 0 (map (endOf 1 es) (edgesAt (endOf 0 es) m v))
   unfolding headOr
@@ -90,14 +91,6 @@ left-yes q G H D = record {
   holds = λ t. record { fit = rw (D .is) (G .fit); within = D .within; used-room = omega (arith, D .used, H .used-room) };
 }
 
-given-no : {A : Type 0} (t : Bool) (a : A) → t ≡ false → given t a ≡ none
-unfolding given
-given-no t a h = rw h
-
-given-yes : {A : Type 0} (t : Bool) (a : A) → t ≡ true → given t a ≡ some a
-unfolding given
-given-yes t a h = rw h
-
 -- ---- the definitions, with the parts named
 
 module _ (g : Graph) (top : ℕ) (mids : List ℕ) (q : mids ≡ outgoingNodes g top) where
@@ -129,11 +122,6 @@ module _ (g : Graph) (top : ℕ) (mids : List ℕ) (q : mids ≡ outgoingNodes g
 few : (g : Graph) (l : List ℕ) (b : ℕ) → length l < 2 → isDiamond g l b ≡ false
 unfolding isDiamond
 few g l b h = rw (le-ltb 1 (length l) (omega arith))
-
-head-tab : (c : ℕ) (f : ℕ → ℕ) → 0 < c → headOr 0 (tab c f) ≡ f 0
-unfolding headOr tabFrom
-head-tab zero f h = absurd (omega arith)
-head-tab (suc c) f h = refl
 
 or-none : (x y : List ℕ) → length x + length y ≡ 0 → (nonEmpty x || nonEmpty y) ≡ false
 or-none x y h = rw (nonEmpty-no x (omega arith), nonEmpty-no y (omega arith))

@@ -15,8 +15,9 @@ use Rattle.store.specs.Store.{edgeIn, edgesIn, numsIn}
 use Rattle.compact.proofs.CompactLaws.{ends-mem}
 use Rattle.redirect.specs.Redirect.{redirectedAll, Marks, Redirectable, Redirected}
 use Rattle.redirect.proofs.RaiseLaws.{raiseAll-longer, raiseAll-ends}
-use Rattle.redirect.proofs.RedirectLaws.{marks-start, end-at}
+use Rattle.redirect.proofs.RedirectLaws.{marks-start}
 use Rattle.redirect.proofs.SameLaws.{all-same, indexed-same, into-ends}
+use Rattle.index.proofs.IndexLaws.{end-first}
 use Rattle.merge_suffices.specs.Merge.{newInto, newEdges, IntoReady, IntoDone, EdgesReady, EdgesDone}
 
 -- ---- the lists of new edges
@@ -152,7 +153,7 @@ module _ {n m : ℕ} {es heads nexts nodes : List ℕ} {c bottom : ℕ} {mp₀ :
       behind = D .marks .low;
       indexed = indexed-same m es es₁ (D .old) l (F .indexed);
       marks = marks-start 0 n n k es₁ mp (omega arith) (D .marks .room) (D .marks .most) (λ j b q.
-          omega (arith, old-from (edgeIn es₁ j) (mem-tab k (edgeIn es₁) j b), sym (end-at 0 es₁ j (omega arith)) ∙ q));
+          omega (arith, old-from (edgeIn es₁ j) (mem-tab k (edgeIn es₁) j b), sym (end-first es₁ j) ∙ q));
       room = omega (arith, ap length last-is, F .roomy .room, l);
       small = omega (arith, ap length last-is, F .roomy .small);
     }

@@ -25,21 +25,22 @@ use Rattle.laws.proofs.Merge as L
 use Rattle.laws.proofs.Fuel.{Good}
 use Rattle.laws.proofs.Measures.{load, Tame, bytes-is, merge-tame}
 use Rattle.tabs.proofs.Tabs.{length-tab, getD-tab, tab-snoc, tab-ext}
-use Rattle.tabs.proofs.ListTabs.{mem-tab}
+use Rattle.tabs.proofs.ListTabs.{mem-tab, head-tab}
 use Rattle.store.specs.Store.{edgeIn, edgesIn, seqIn, seqsIn, graphIn, numsIn, Within, putVertex}
+use Rattle.store.proofs.VertexLaws.{part-long}
 use Rattle.compact.specs.Compact.{Compactable, Removed}
 use Rattle.compact.specs.declared.Counts.{Counts}
 use Rattle.compact.proofs.CompactLaws.{order-in, mem-ends}
 use Rattle.index.specs.Index.{Indexed}
 use Rattle.pool.specs.Pool.{bytesIn, Packable, Packed}
-use Rattle.pool.proofs.PoolLaws.{part-long, part-same, packed-seqs, packed-within}
+use Rattle.pool.proofs.PoolLaws.{part-same, packed-seqs, packed-within}
 use Rattle.zip.proofs.JoinLaws.{held-bytes}
 use Rattle.memory.specs.Memory.{graphOf, vertexRoom, edgeRoom, Room, Fit, Holds}
 use Rattle.memory.specs.declared.Held.{Held}
 use Rattle.memory.proofs.RoomLaws.{fit-vertices, fit-bytes, fit-tame, held-vertices, held-edges}
 use Rattle.redirect.proofs.SameLaws.{into-all, from-all}
 use Rattle.merge_suffices.specs.Merge.{Writable, Written, newInto, newEdges, EdgesReady, EdgesDone, Mergeable, Merged}
-use Rattle.merge_suffices.proofs.TestLaws.{head-tab, seq-at}
+use Rattle.merge_suffices.proofs.TestLaws.{seq-at}
 
 map-concat : {A B : Type 0} (f : A → B) (h : ℕ → List A) (l : List ℕ) → concat (map (λ (v : ℕ). map f (h v)) l) ≡ map f (concat (map h l))
 unfolding concat

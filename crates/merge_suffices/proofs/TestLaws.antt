@@ -12,22 +12,17 @@ use Rattle.defs.specs.Lists.{tab, tabFrom, allOf, headOr, sameList}
 use Rattle.defs.specs.SeqGraph.{Graph, vertexSequence, outDegree, inDegree}
 use Rattle.defs.specs.Rewrites.{isMerge}
 use Rattle.laws.proofs.Walks.{byTest}
-use Rattle.laws.proofs.Merge.{sameList-eq}
+use Rattle.laws.proofs.ListLaws.{sameList-eq, sameList-refl, allOf-same}
 use Rattle.tabs.proofs.Tabs.{length-tab, getD-tab, and-then, and-else}
-use Rattle.tabs.proofs.ListTabs.{of-mem-tab}
+use Rattle.tabs.proofs.ListTabs.{of-mem-tab, head-tab}
 use Rattle.store.specs.Store.{part, seqIn, graphIn, numsIn}
+use Rattle.store.proofs.VertexLaws.{part-long}
 use Rattle.compact.specs.Compact.{Below}
 use Rattle.index.proofs.IndexLaws.{out-degree-is, in-degree-is}
 use Rattle.pool.proofs.PoolLaws.{part-same}
-use Rattle.pool.proofs.PoolLaws.{part-long}
 use Rattle.merge_suffices.specs.Merge.{Comparable, isPrev, Testable, Merges}
 
 -- ---- equal sequences
-
-same-refl : (l : List ℕ) → sameList l l ≡ true
-unfolding sameList
-same-refl [] = refl
-same-refl (x ∷ xs) = rw (eq-eqb x x refl, sameList) (same-refl xs)
 
 same-not : (a b : List ℕ) → (a ≡ b → ⊥) → sameList a b ≡ false
 same-not a b h = byTest (sameList a b) (λ t. absurd (h (sameList-eq a b t))) (λ t. t)
@@ -46,7 +41,7 @@ comparing-no {p} {a} {b} {n} {i} C h ne = sym (same-not _ _ (λ q. ne (sym (byte
 
 pub comparing-end : {p : List ℕ} {a b n i : ℕ} → Comparing p a b n i → a + n ≤ length p → b + n ≤ length p → n ≤ i → true ≡ sameList (part p a n) (part p b n)
 comparing-end {p} {a} {b} {n} {i} C ha hb h =
-    sym (ap (λ (l : List ℕ). sameList l (part p b n)) (part-same p p b a n hb ha (λ j d. C .same j (omega (arith, h, d)))) ∙ same-refl (part p b n))
+    sym (ap (λ (l : List ℕ). sameList l (part p b n)) (part-same p p b a n hb ha (λ j d. C .same j (omega (arith, h, d)))) ∙ sameList-refl (part p b n))
 
 module _ {vs p : List ℕ} {u v : ℕ} (C : Comparable vs p u v) where
   pub lengths-differ : {a b : ℕ} → a ≡ getD vs (2 * u + 1) 0 → b ≡ getD vs (2 * v + 1) 0 → (a ≡ b → ⊥) → false ≡ sameList (seqIn vs p u) (seqIn vs p v)
@@ -77,26 +72,6 @@ pub third : {a b c r s x : Bool} → r ≡ a → r ≡ true → s ≡ b → s �
 third q t w u z = z ∙ and-then _ (sym w ∙ u) ∙ and-then _ (sym q ∙ t)
 
 -- ---- the definition
-
-step-yes : (p : ℕ → Bool) (x : ℕ) (xs : List ℕ) → p x ≡ true → allOf p (x ∷ xs) ≡ allOf p xs
-unfolding allOf
-step-yes p x xs t = rw (t, allOf)
-
-step-no : (p : ℕ → Bool) (x : ℕ) (xs : List ℕ) → p x ≡ false → allOf p (x ∷ xs) ≡ false
-unfolding allOf
-step-no p x xs t = rw (t, allOf)
-
-pub allOf-same : (p q : ℕ → Bool) (l : List ℕ) → ((x : ℕ) → List·Memᴰ x l → p x ≡ q x) → allOf p l ≡ allOf q l
-unfolding allOf
-allOf-same p q [] h = refl
-allOf-same p q (x ∷ xs) h = byTest (q x)
-    (λ t. step-yes p x xs (h x (List·Memᴰ·head refl) ∙ t) ∙ allOf-same p q xs (λ y m. h y (List·Memᴰ·tail m)) ∙ sym (step-yes q x xs t))
-    (λ t. step-no p x xs (h x (List·Memᴰ·head refl) ∙ t) ∙ sym (step-no q x xs t))
-
-pub head-tab : (c : ℕ) (f : ℕ → ℕ) → 0 < c → headOr 0 (tab c f) ≡ f 0
-unfolding headOr tabFrom
-head-tab zero f h = absurd (omega arith)
-head-tab (suc c) f h = refl
 
 pub seq-at : (k n m : ℕ) (es vs p : List ℕ) (v : ℕ) → v < n → vertexSequence (graphIn k n m es vs p) v ≡ seqIn vs p v
 unfolding vertexSequence

@@ -57,6 +57,3 @@ marked-more {gone} {n} {mp} v h M = record {
     | no ne ↦ getD-set-other mp v u 1 0 ne ∙ M .at u b ∙ sym (rw (ne-eqb u v ne, elemOf))
   ];
 }
-
-pub compactable-kept : {n m : ℕ} {es vs mp mp′ : List ℕ} → Compactable n m es vs mp → length mp′ ≡ length mp → Compactable n m es vs mp′
-compactable-kept F q = record { es-room = F .es-room; vs-room = F .vs-room; mp-room = omega (arith, F .mp-room, q); small = F .small; ends = F .ends }

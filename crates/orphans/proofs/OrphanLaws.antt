@@ -15,12 +15,11 @@ use Rattle.defs.specs.SeqGraph.{keeps, removeVerticesById}
 use Rattle.defs.specs.Cleanup.{singletonOrphans, removeOrphans, removeSingletonOrphanVertices}
 use Rattle.defs.specs.Strings.{HasEdge}
 use Rattle.laws.proofs.Walks.{byTest}
-use Rattle.laws.proofs.ListLaws.{clash, and-split, and-true, mem-keepIf, of-keepIf, rank-yes, keepIf-yes}
+use Rattle.laws.proofs.ListLaws.{clash, and-split, and-true, mem-keepIf, of-keepIf, rank-yes, keepIf-yes, or-cases}
 use Rattle.laws.proofs.Nets.{Bounded, placeOf, link-restrict}
 use Rattle.laws.proofs.Edges.{elemOf-true, elemOf-mem, keeps-not, keeps-other, nonempty, some-in, of-edgesFrom, in-edgesFrom, in-edgesInto}
 use Rattle.laws.proofs.Counts.{keepAt-all}
 use Rattle.laws.proofs.Cycles.{anyOf-true, mem-upFrom, below-upFrom}
-use Rattle.laws.proofs.Diamonds.{or-cases}
 use Rattle.laws.proofs.Whole.{byList}
 use Rattle.laws.proofs.Cleaned.{orphans-nil, orphans-cons}
 use Rattle.tabs.proofs.Tabs.{set-more}

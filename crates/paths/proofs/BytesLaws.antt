@@ -10,6 +10,7 @@ use Rattle.defs.specs.Lists.{given}
 use Rattle.defs.specs.SeqGraph.{Graph}
 use Rattle.defs.specs.Strings.{spelled}
 use Rattle.defs.specs.Paths.{edgeEnds, isPathOf, pathBasesBytes}
+use Rattle.laws.proofs.ListLaws.{given-yes, given-no}
 use Rattle.compact.proofs.CompactLaws.{order-in}
 use Rattle.memory.specs.Memory.{graphOf, Room, Holds}
 use Rattle.memory.proofs.RoomLaws.{held-vertices, fit-bytes}
@@ -31,14 +32,6 @@ held-spellable R H = record {
   small = omega (arith, held-vertices H, R .vertices-edges, R .small);
   bytes = omega (arith, fit-bytes (H .fit), R .p-room);
 }
-
-pub given-yes : {A : Type 0} (b : Bool) (a : A) → b ≡ true → given b a ≡ some a
-unfolding given
-given-yes b a t = rw t
-
-given-no : {A : Type 0} (b : Bool) (a : A) → b ≡ false → given b a ≡ none
-unfolding given
-given-no b a t = rw t
 
 module _ {h : Held} {es vs p nodes : List ℕ} (S : Spellable h es vs p nodes) {start : ℕ} {list : List ℕ} {r : Bool} (E :
     EdgePath (h .m) (h .n) es start list r) where

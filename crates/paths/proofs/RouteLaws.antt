@@ -19,11 +19,11 @@ use Rattle.laws.proofs.Counts.{total, total-kept, Distinct}
 use Rattle.laws.proofs.Measures.{bytes-is}
 use Rattle.laws.proofs.Cycles.{anyOf-true, distinct-length}
 use Rattle.tabs.proofs.Tabs.{length-tab, getD-tab, tab-ext}
-use Rattle.tabs.proofs.SumTabs.{map-tab}
+use Rattle.tabs.proofs.SumTabs.{map-tab, total-sum}
 use Rattle.tabs.proofs.ListTabs.{mem-tab}
 use Rattle.store.specs.Store.{seqIn, numsIn}
+use Rattle.store.proofs.VertexLaws.{part-long}
 use Rattle.compact.proofs.CompactLaws.{order-in}
-use Rattle.pool.proofs.PoolLaws.{part-long}
 use Rattle.memory.specs.Memory.{graphOf}
 use Rattle.memory.specs.declared.Held.{Held}
 use Rattle.spell.specs.Spell.{bytesAt, spelledIn, Listed}
@@ -77,11 +77,6 @@ path-of g bounded start l t =
 
 -- ---- its bytes
 
-total-map : {A : Type 0} (f : A → ℕ) (l : List A) → total f l ≡ sum (map f l)
-unfolding total sum
-total-map f [] = refl
-total-map f (x ∷ l) = ap (λ (y : ℕ). f x + y) (total-map f l)
-
 -- the first c of the nodes are a path of g
 pub record Route (g : Graph) (nodes : List ℕ) (c : ℕ) : Type 0 where
   pub first : ℕ
@@ -104,7 +99,7 @@ module _ {h : Held} {es vs p nodes₀ nodes : List ℕ} {c : ℕ} (S : Spellable
   sums : total (λ (v : ℕ). length (getD (g .verts) v [])) (R .first ∷ R .others) ≡ bytesAt vs nodes c
   sums =
       ap (total (λ (v : ℕ). length (getD (g .verts) v []))) (sym (R .is))
-      ∙ total-map (λ (v : ℕ). length (getD (g .verts) v [])) (numsIn c nodes)
+      ∙ total-sum (λ (v : ℕ). length (getD (g .verts) v [])) (numsIn c nodes)
       ∙ ap sum (map-tab (λ (v : ℕ). length (getD (g .verts) v [])) c (λ (i : ℕ). getD nodes i 0)
       ∙ tab-ext c (λ (i : ℕ). length (getD (g .verts) (getD nodes i 0) [])) (λ (i : ℕ). getD vs (2 * getD nodes i 0 + 1) 0) (λ i b.
       size (getD nodes i 0) (node-below i b)))

@@ -14,7 +14,7 @@ use Rattle.defs.specs.Lists.{keepIf, anyOf}
 use Rattle.defs.specs.SeqGraph.{Edge, Graph, hasEnds, edgesFrom}
 use Rattle.defs.specs.Paths.{isEdgePath, isPathOf}
 use Rattle.laws.proofs.Walks.{byTest}
-use Rattle.laws.proofs.ListLaws.{keepIf-yes, keepIf-no, and-split}
+use Rattle.laws.proofs.ListLaws.{keepIf-yes, keepIf-no, and-split, any-yes, any-no, any-map}
 use Rattle.laws.proofs.Cycles.{anyOf-true}
 use Rattle.store.specs.Store.{edgeIn, edgesIn, graphIn, EndsBelow}
 use Rattle.compact.proofs.CompactLaws.{order-in, ends-mem}
@@ -23,19 +23,6 @@ use Rattle.index.proofs.IndexLaws.{from-is}
 use Rattle.paths.specs.Paths.{EdgePath}
 
 -- ---- an edge, among those that leave its first end
-
-any-yes : {A : Type 0} (p : A → Bool) (x : A) (xs : List A) → p x ≡ true → anyOf p (x ∷ xs) ≡ true
-unfolding anyOf
-any-yes p x xs t = rw (t, anyOf)
-
-any-no : {A : Type 0} (p : A → Bool) (x : A) (xs : List A) → p x ≡ false → anyOf p (x ∷ xs) ≡ anyOf p xs
-unfolding anyOf
-any-no p x xs t = rw (t, anyOf)
-
-any-map : {A B : Type 0} (p : B → Bool) (f : A → B) (xs : List A) → anyOf p (map f xs) ≡ anyOf (λ (x : A). p (f x)) xs
-unfolding anyOf
-any-map p f [] = refl
-any-map p f (x ∷ xs) = byTest (p (f x)) (λ t. rw (t, anyOf)) (λ t. rw (t, anyOf) (any-map p f xs))
 
 -- a test of both ends is a test of the other end of those that pass the first
 any-kept : (u v : ℕ) (l : List Edge) → anyOf (hasEnds u v) l ≡ anyOf (λ (e : Edge). eqb (e .to) v) (keepIf (λ (e : Edge). eqb (e .from) u) l)

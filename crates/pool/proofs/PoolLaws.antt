@@ -13,6 +13,7 @@ use Rattle.defs.specs.Lists.{tab, sum}
 use Rattle.tabs.proofs.Tabs.{tab-ext}
 use Rattle.tabs.proofs.SumTabs.{sum-none, sum-more, sum-below}
 use Rattle.store.specs.Store.{part, seqIn, seqsIn, Within}
+use Rattle.store.proofs.VertexLaws.{part-long}
 use Rattle.pool.specs.Pool.{Apart, Moved, bytesIn, Packable, Packed}
 
 -- ---- copying
@@ -49,11 +50,11 @@ module _ {p₀ : List ℕ} {to from n : ℕ} where
 
 -- ---- sums of lengths
 
-pub bytes-more : (v : ℕ) (vs : List ℕ) → bytesIn (v + 1) vs ≡ bytesIn v vs + getD vs (2 * v + 1) 0
-bytes-more v vs = sum-more v (λ (v : ℕ). getD vs (2 * v + 1) 0)
+pub bytesIn-more : (v : ℕ) (vs : List ℕ) → bytesIn (v + 1) vs ≡ bytesIn v vs + getD vs (2 * v + 1) 0
+bytesIn-more v vs = sum-more v (λ (v : ℕ). getD vs (2 * v + 1) 0)
 
-pub bytes-none : (vs : List ℕ) → bytesIn 0 vs ≡ 0
-bytes-none vs = sum-none (λ (v : ℕ). getD vs (2 * v + 1) 0)
+pub bytesIn-none : (vs : List ℕ) → bytesIn 0 vs ≡ 0
+bytesIn-none vs = sum-none (λ (v : ℕ). getD vs (2 * v + 1) 0)
 
 -- a vertex's bytes end before those of all
 pub bytes-below : (n v : ℕ) (vs : List ℕ) → v < n → bytesIn v vs + getD vs (2 * v + 1) 0 ≤ bytesIn n vs
@@ -78,7 +79,7 @@ module _ {base n : ℕ} {vs₀ p₀ : List ℕ} (F : Packable n vs₀ p₀ base)
     high = omega arith;
     vs-len = refl;
     p-len = refl;
-    used-is = sym (bytes-none vs₀);
+    used-is = sym (bytesIn-none vs₀);
     starts = λ u h. absurd (omega arith);
     sizes = λ u. refl;
     rest = λ u h. refl;
@@ -108,7 +109,7 @@ module _ {base n : ℕ} {vs₀ p₀ : List ℕ} (F : Packable n vs₀ p₀ base)
         high = omega arith;
         vs-len = ap length e ∙ length-set vs _ _ ∙ G .vs-len;
         p-len = l ∙ G .p-len;
-        used-is = omega (arith, G .used-is, bytes-more v vs₀, ql, G .sizes v);
+        used-is = omega (arith, G .used-is, bytesIn-more v vs₀, ql, G .sizes v);
         starts = λ u b. elim (ℕ-discrete u v) [
           | yes q ↦ rw q (ap (λ (x : List ℕ). getD x (2 * v) 0) e ∙ getD-set-same vs (2 * v) used 0 (omega (arith, G .vs-len, F .vs-room)) ∙ G .used-is)
           | no ne ↦ other (2 * u) (λ z. ne (omega arith)) ∙ G .starts u (omega arith)
@@ -152,10 +153,6 @@ module _ {base n : ℕ} {vs₀ p₀ : List ℕ} (F : Packable n vs₀ p₀ base)
   }
 
 -- ---- the sequences, after packing
-
--- a part within the pool is as long as it says
-pub part-long : (p : List ℕ) (a n : ℕ) → a + n ≤ length p → length (part p a n) ≡ n
-part-long p a n h = length-take n (drop a p) ∙ rw (length-drop a p) (omega arith)
 
 pub part-same : (p p′ : List ℕ) (a b n : ℕ) → a + n ≤ length p → b + n ≤ length p′
     → ((i : ℕ) → i < n → getD p′ (b + i) 0 ≡ getD p (a + i) 0) → part p′ b n ≡ part p a n

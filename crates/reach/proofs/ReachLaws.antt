@@ -15,22 +15,17 @@ use Rattle.laws.proofs.Walks.{byTest}
 use Rattle.laws.proofs.ListLaws.{clash, byOrder}
 use Rattle.laws.proofs.Counts.{Distinct}
 use Rattle.laws.proofs.Cycles.{distinct-length}
-use Rattle.laws.proofs.Reach.{Hop, Way, way-more, of-reached}
+use Rattle.laws.proofs.Reach.{Hop, Way, way-more, of-reached, short-reached}
 use Rattle.tabs.proofs.Tabs.{length-tab, set-more}
 use Rattle.tabs.proofs.ListTabs.{of-mem-tab}
 use Rattle.store.specs.Store.{isSet, graphIn, EndsBelow}
+use Rattle.store.proofs.EdgeLaws.{set-not}
 use Rattle.compact.proofs.CompactLaws.{order-in}
 use Rattle.index.specs.Index.{endOf, pairAt, Next, Index, Indexed}
 use Rattle.index.proofs.IndexLaws.{end-below}
 use Rattle.tabs.proofs.Ranks.{distinct-tab}
 use Rattle.reach.specs.Reach.{walkStep, takesEnd, passable, bare, Walkable, Cleared, Found, Grown, Spread, Pushed, VertexLeft, Reached}
-use Rattle.reach.proofs.StepLaws.{step-hop, hop-step, short-reached}
-
-pub set-is : {x : ℕ} → (x ≡ 0 → ⊥) → isSet x ≡ true
-set-is {x} ne = ap not (ne-eqb x 0 ne)
-
-pub set-not : {x : ℕ} → x ≡ 0 → isSet x ≡ false
-set-not {x} e = ap not (eq-eqb x 0 e)
+use Rattle.reach.proofs.StepLaws.{step-hop, hop-step}
 
 pub both-ways : (a b : Bool) → (a ≡ true → b ≡ true) → (b ≡ true → a ≡ true) → a ≡ b
 both-ways true b f g = sym (f refl)

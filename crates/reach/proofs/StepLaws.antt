@@ -1,4 +1,4 @@
--- The steps of a walk over the edges in slices, and that a short way's end is reached. Assumes nothing.
+-- The steps of a walk over the edges in slices. Assumes nothing.
 use mathlib.Core.Path.{_≡_, refl, sym, ap, _∙_}
 use mathlib.Core.Logic.{_⊎_, ⊎-elim}
 use mathlib.Core.Bool.{Bool, true, false, not, _||_}
@@ -12,15 +12,15 @@ use borrow.Author.Tests.{eqb-true, eq-eqb}
 use Rattle.defs.specs.Lists.{keepIf, anyOf, elemOf, upFrom}
 use Rattle.defs.specs.SeqGraph.{Edge, Graph, nodeCount}
 use Rattle.defs.specs.Cleanup.{forward, backward, either, grow, reached}
-use Rattle.laws.proofs.ListLaws.{and-split, and-true, mem-keepIf}
+use Rattle.laws.proofs.ListLaws.{and-split, and-true, mem-keepIf, or-cases, not-not, or-left, or-right}
 use Rattle.laws.proofs.Edges.{elemOf-true, elemOf-mem}
 use Rattle.laws.proofs.Cycles.{anyOf-mem, mem-upFrom}
-use Rattle.laws.proofs.Diamonds.{or-cases}
 use Rattle.laws.proofs.Reach.{Hop, Way}
 use Rattle.tabs.proofs.ListTabs.{mem-tab, of-mem-tab}
 use Rattle.store.specs.Store.{edgeIn}
-use Rattle.index.specs.Index.{endOf}
-use Rattle.reach.specs.Reach.{endAt, stepOf, walkStep, takesEnd, passable, bare}
+use Rattle.index.specs.Index.{endOf, endAt}
+use Rattle.index.proofs.IndexLaws.{end-is}
+use Rattle.reach.specs.Reach.{stepOf, walkStep, takesEnd, passable, bare}
 
 -- a step by its parts: the end at which it takes the edge
 pub record Over (kind : ℕ) (x : Edge) (u w : ℕ) : Type 0 where
@@ -29,13 +29,6 @@ pub record Over (kind : ℕ) (x : Edge) (u w : ℕ) : Type 0 where
   pub takes : takesEnd kind off ≡ true
   pub here : endAt off x ≡ u
   pub there : endAt (1 - off) x ≡ w
-
-or-left : {a : Bool} (b : Bool) → a ≡ true → (a || b) ≡ true
-or-left b t = rw t
-
-or-right : (a : Bool) {b : Bool} → b ≡ true → (a || b) ≡ true
-or-right true t = refl
-or-right false t = t
 
 along : (x : Edge) (u w : ℕ) → x .from ≡ u → x .to ≡ w → forward x u w ≡ true
 unfolding forward
@@ -52,8 +45,8 @@ step-yes zero (suc n) x u w l t p q = absurd (omega (arith, eqb-true (suc n) 0 t
 step-yes (suc zero) zero x u w l t p q = absurd (omega (arith, eqb-true 0 1 t))
 step-yes (suc zero) (suc zero) x u w l t p q = against x u w p q
 step-yes (suc zero) (suc (suc n)) x u w l t p q = absurd (omega arith)
-step-yes (suc (suc kind)) zero x u w l t p q = or-left _ (along x u w p q)
-step-yes (suc (suc kind)) (suc zero) x u w l t p q = or-right (forward x u w) (against x u w p q)
+step-yes (suc (suc kind)) zero x u w l t p q = or-left _ _ (along x u w p q)
+step-yes (suc (suc kind)) (suc zero) x u w l t p q = or-right (forward x u w) _ (against x u w p q)
 step-yes (suc (suc kind)) (suc (suc n)) x u w l t p q = absurd (omega arith)
 
 of-along : (kind : ℕ) (x : Edge) (u w : ℕ) → takesEnd kind 0 ≡ true → forward x u w ≡ true → Over kind x u w
@@ -71,13 +64,6 @@ unfolding stepOf either takesEnd
 of-step zero x u w e = of-along zero x u w refl e
 of-step (suc zero) x u w e = of-against (suc zero) x u w refl e
 of-step (suc (suc n)) x u w e = ⊎-elim (of-along (suc (suc n)) x u w refl) (of-against (suc (suc n)) x u w refl) (or-cases (forward x u w) (backward x u w) e)
-
--- in slices
-pub end-is : (es : List ℕ) (off e : ℕ) → off ≤ 1 → endAt off (edgeIn es e) ≡ endOf off es e
-unfolding endAt
-end-is es zero e l = ap (λ (x : ℕ). getD es x 0) (sym (add-zero (4 * e)))
-end-is es (suc zero) e l = refl
-end-is es (suc (suc n)) e l = absurd (omega arith)
 
 walk-yes : (plain : Bool) (kind : ℕ) (es : List ℕ) (e u w : ℕ) → passable plain es e ≡ true → stepOf kind (edgeIn es e) u w ≡ true
     → walkStep plain kind (edgeIn es e) u w ≡ true
@@ -129,34 +115,6 @@ pub hop-step : {plain : Bool} {kind m : ℕ} {es : List ℕ} {u w : ℕ} → Hop
 hop-step {plain} {kind} {m} {es} {u} {w} (x, i, t) = let j = of-mem-tab m (edgeIn es) i in hop-at plain
     kind m es u w (j .0) (j .1) (ap (λ (y : Edge). walkStep plain kind y u w) (sym (j .2)) ∙ t)
 
--- ---- a way of at most as many steps as there are vertices ends in a vertex that is reached
-
-module _ (step : Edge → ℕ → ℕ → Bool) (g : Graph) (inside : (u v : ℕ) → Hop step g u v → v < nodeCount g) where
-  abbrev test : List ℕ → ℕ → Bool
-  test seen v = elemOf v seen || anyOf (λ e. anyOf (λ u. step e u v) seen) (g .edges)
-
-  abbrev more : List ℕ → List ℕ
-  more seen = keepIf (test seen) (upFrom 0 (nodeCount g))
-
-  in-more : (seen : List ℕ) (v : ℕ) → v < nodeCount g → test seen v ≡ true → elemOf v (more seen) ≡ true
-  in-more seen v h t = elemOf-mem v (more seen) (mem-keepIf (test seen) (mem-upFrom 0 (nodeCount g) v (omega arith) (omega arith)) t)
-
-  more-hop : (seen : List ℕ) (u v : ℕ) → elemOf u seen ≡ true → Hop step g u v → elemOf v (more seen) ≡ true
-  more-hop seen u v t (e, m, j) =
-      in-more seen v (inside u v (e, m, j)) (or-right (elemOf v seen)
-      (anyOf-mem (λ e. anyOf (λ u. step e u v) seen) (g .edges) m (anyOf-mem (λ u. step e u v) seen (elemOf-true u seen t) j)))
-
-  in-grow : (n : ℕ) (seen : List ℕ) (l u v : ℕ) → l ≤ n → u < nodeCount g → elemOf u seen ≡ true → Way step g l u v → elemOf v (grow step g n seen) ≡ true
-  unfolding grow
-  in-grow zero seen zero u v b h t e = rw e at t
-  in-grow zero seen (suc l) u v b h t w = absurd (omega arith)
-  in-grow (suc n) seen zero u v b h t e = in-grow n (more seen) zero u v (omega arith) h (in-more seen u h (or-left _ t)) e
-  in-grow (suc n) seen (suc l) u v b h t (x, k, w) = in-grow n (more seen) l x v (omega arith) (inside u x k) (more-hop seen u x t k) w
-
-  pub short-reached : (l u v : ℕ) → l ≤ nodeCount g → u < nodeCount g → Way step g l u v → elemOf v (reached step g u) ≡ true
-  unfolding reached
-  short-reached l u v b h w = in-grow (nodeCount g) (u ∷ []) l u v b h (elemOf-mem u (u ∷ []) (List·Memᴰ·head refl)) w
-
 -- ---- the tests, as they are made
 
 pub takes-along : (kind off : ℕ) → kind ≡ 0 → eqb off 0 ≡ takesEnd kind off
@@ -172,10 +130,6 @@ unfolding takesEnd
 takes-either zero off a b = absurd (a refl)
 takes-either (suc zero) off a b = absurd (b refl)
 takes-either (suc (suc kind)) off a b = refl
-
-not-not : (b : Bool) → b ≡ not (not b)
-not-not true = refl
-not-not false = refl
 
 pub pass-plain : (plain : Bool) (es : List ℕ) (e : ℕ) {x : ℕ} → plain ≡ true → x ≡ getD es (4 * e + 3) 0 → eqb x 0 ≡ passable plain es e
 unfolding passable

@@ -39,11 +39,6 @@ pub record Reached (plain : Bool) (kind m n : ℕ) (es : List ℕ) (s : ℕ) (ma
 pub record Cleared (n : ℕ) (marks : List ℕ) : Type 0 where
   pub none : (v : ℕ) → v < n → getD marks v 0 ≡ 0
 
--- an end of an edge: 0 from, else to
-unfoldable pub endAt : ℕ → Edge → ℕ
-endAt zero e = e .from
-endAt (suc n) e = e .to
-
 -- whether a walk of this kind leaves a vertex over the edges at its end `off`: 0 those that leave it, 1 those that enter it
 unfoldable pub takesEnd : ℕ → ℕ → Bool
 takesEnd zero off = eqb off 0

@@ -13,12 +13,12 @@ use Rattle.defs.specs.SeqGraph as seq
 use Rattle.defs.specs.SeqGraph.{vertexSequence}
 use Rattle.defs.specs.Record.{kindOf, kOf, verticesOf, bytesOf, lengthAt, decode}
 use Rattle.defs.specs.Refusals.{kmerOnly, refusalOf, recordCauses, recordRefusal, doubledEdge, equalKmers, doubled, hasCycle}
-use Rattle.laws.proofs.ListLaws.{clash, byOrder}
+use Rattle.laws.proofs.ListLaws.{clash, byOrder, or-false}
 use Rattle.tabs.proofs.Tabs.{getD-tab}
 use Rattle.tabs.proofs.SumTabs.{sum-none, sum-suc}
 use Rattle.store.specs.Store.{edgesIn, seqIn, seqsIn}
+use Rattle.store.proofs.VertexLaws.{part-long}
 use Rattle.index.specs.Index.{Indexed, Indexable}
-use Rattle.pool.proofs.PoolLaws.{part-long}
 use Rattle.memory.specs.declared.Held.{Held}
 use Rattle.record.specs.Kinds.{takesOf}
 use Rattle.record.specs.declared.Takes.the-variants.{KmerOnly}
@@ -28,7 +28,6 @@ use Rattle.record.specs.declared.Layout.{Layout}
 use Rattle.record.specs.declared.Layout.the-variants.{Formed}
 use Rattle.record.specs.declared.Layout.the-variants as checked
 use Rattle.record.proofs.Accepted.{well-formed, kmer-kind, formed-none, formed-size, refused-number, refused-some}
-use Rattle.record.proofs.Tests.{or-false}
 use Rattle.record.proofs.Sequences.{vertex-is, length-sequence}
 use Rattle.load.specs.Loaded.{Loadable, Loaded}
 use Rattle.doubled.specs.Doubled.{Markable}

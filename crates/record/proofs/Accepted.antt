@@ -11,29 +11,14 @@ use borrow.Author.Tests.{ltb-false, leb-true, leb-false, eqb-true, eq-eqb, not-f
 use Rattle.defs.specs.Lists.{sameList}
 use Rattle.defs.specs.Record.{mark, kindOf, statusOf, kOf, verticesOf, edgesOf, bytesOf, u32At, edgeAt, flagAt}
 use Rattle.defs.specs.Refusals.{Takes, kmerOnly, sequenceOnly, bothKinds, refusalOf, recordCauses, takesKind, otherLength, wrongMark, pastLimit, badEdge}
-use Rattle.laws.proofs.ListLaws.{clash}
+use Rattle.laws.proofs.ListLaws.{clash, or-false, sameList-eq}
 use Rattle.kmer.specs.declared.KmerSize.{KmerSize}
 use Rattle.record.specs.Layout.{otherKmerLength, GoodEdge, WellFormed, layoutOf}
 use Rattle.record.specs.declared.Layout.{Layout}
 use Rattle.record.specs.declared.Layout.the-variants.{Formed, Refused}
 use Rattle.record.proofs.TurnLaws.{any-false}
-use Rattle.record.proofs.Tests.{same-cons, or-false, no-cause, any-bad-is, offsets-agree, lengths-offset, edges-offset, bytes-offset}
+use Rattle.record.proofs.Tests.{same-cons, no-cause, any-bad-is, offsets-agree, lengths-offset, edges-offset, bytes-offset}
 use Rattle.record.proofs.Tests.{whole-is, sum-is, kmers-are}
-
-and-true : (a b : Bool) → (a && b) ≡ true → (a ≡ true) × (b ≡ true)
-and-true true b h = (refl, h)
-and-true false b h = clash h refl
-
-same-eq : (xs ys : List ℕ) → sameList xs ys ≡ true → xs ≡ ys
-unfolding sameList
-same-eq [] [] h = refl
-same-eq [] (y ∷ ys) h = clash h refl
-same-eq (x ∷ xs) [] h = clash h refl
-same-eq (x ∷ xs) (y ∷ ys) h =
-    let s = and-true (eqb x y) (sameList xs ys) (sym (same-cons x y xs ys) ∙ h) in
-    let p : x ≡ y = eqb-true x y (s .0) in
-    let q : xs ≡ ys = same-eq xs ys (s .1) in
-    cc
 
 kind-most : (t : Takes) (n : ℕ) → takesKind t n ≡ true → n ≤ 1
 unfolding takesKind
@@ -52,7 +37,7 @@ module _ (t : Takes) (bs : List ℕ) (h : wrongMark t bs ≡ false) where
       (a .0, b .0, c .0, c .1)
 
   is-marked : take 4 bs ≡ mark
-  is-marked = same-eq (take 4 bs) mark (not-false _ (mark-parts .0))
+  is-marked = sameList-eq (take 4 bs) mark (not-false _ (mark-parts .0))
 
   kind-low : kindOf bs ≤ 1
   kind-low = kind-most t (kindOf bs) (not-false _ (mark-parts .1))

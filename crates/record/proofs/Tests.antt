@@ -12,7 +12,7 @@ use Rattle.defs.specs.Lists.{tabFrom, tab, sum, sameList, anyOf, upFrom}
 use Rattle.defs.specs.Record.{mark, kindOf, statusOf, kOf, verticesOf, edgesOf, bytesOf, u32At, lengthsAt, edgesAt, bytesAt, wholeLength}
 use Rattle.defs.specs.Record.{lengthAt, edgeAt, flagAt}
 use Rattle.defs.specs.Refusals.{Cause, Takes, refusalOf, recordCauses, takesKind, otherLength, wrongMark, pastLimit, layoutDisagrees, badEdge, anyBadEdge}
-use Rattle.laws.proofs.ListLaws.{clash}
+use Rattle.laws.proofs.ListLaws.{clash, or-false}
 use Rattle.tabs.proofs.Tabs.{take-tab}
 use Rattle.kmer.specs.Size.{kPastLimit}
 use Rattle.kmer.specs.declared.KmerSize.{KmerSize}
@@ -34,10 +34,6 @@ and-yes false = refl
 or-assoc : (a b c : Bool) → (a || (b || c)) ≡ ((a || b) || c)
 or-assoc true b c = refl
 or-assoc false b c = refl
-
-pub or-false : (a b : Bool) → (a || b) ≡ false → (a ≡ false) × (b ≡ false)
-or-false true b h = clash refl h
-or-false false b h = (refl, h)
 
 -- 1
 module _ (bs : List ℕ) where

@@ -9,10 +9,7 @@ use native.Mathlib.Omega.{arith}
 use Rattle.defs.specs.Lists.{tabFrom, tab, sum, anyOf, upFrom}
 use Rattle.laws.proofs.Walks.{byTest}
 use Rattle.laws.proofs.ListLaws.{clash}
-
--- the numbers that are left after turn i, of n turns
-left : (i n : ℕ) → i < n → n - i ≡ suc (n - (i + 1))
-left i n h = omega arith
+use Rattle.tabs.proofs.Tabs.{one-less}
 
 spent : (i n : ℕ) → n ≤ i → n - i ≡ 0
 spent i n h = omega arith
@@ -27,12 +24,12 @@ sum-start f n = zero-add _ ∙ ap (λ (k : ℕ). sum (tab k f)) (start n)
 pub sum-turn : (f : ℕ → ℕ) (i n : ℕ) → i < n → sum (tabFrom i (n - i) f) ≡ f i + sum (tabFrom (i + 1) (n - (i + 1)) f)
 unfolding tabFrom sum
 sum-turn f i n h =
-    ap (λ (k : ℕ). sum (tabFrom i k f)) (left i n h)
+    ap (λ (k : ℕ). sum (tabFrom i k f)) (one-less n i h)
     ∙ ap (λ (k : ℕ). f i + sum (tabFrom k (n - (i + 1)) f)) (sym (add-one i))
 
-pub sum-none : (f : ℕ → ℕ) (i n : ℕ) → n ≤ i → sum (tabFrom i (n - i) f) ≡ 0
+pub sum-spent : (f : ℕ → ℕ) (i n : ℕ) → n ≤ i → sum (tabFrom i (n - i) f) ≡ 0
 unfolding tabFrom sum
-sum-none f i n h = ap (λ (k : ℕ). sum (tabFrom i k f)) (spent i n h)
+sum-spent f i n h = ap (λ (k : ℕ). sum (tabFrom i k f)) (spent i n h)
 
 module _ (p : ℕ → Bool) where
   pub any-start : (n : ℕ) → anyOf p (upFrom 0 (n - 0)) ≡ anyOf p (upFrom 0 n)
@@ -49,12 +46,12 @@ module _ (p : ℕ → Bool) where
   -- turn i of a search goes on, or ends it
   pub any-turn : (i n : ℕ) → i < n → p i ≡ false → anyOf p (upFrom i (n - i)) ≡ anyOf p (upFrom (i + 1) (n - (i + 1)))
   any-turn i n h t =
-      ap (λ (k : ℕ). anyOf p (upFrom i k)) (left i n h)
+      ap (λ (k : ℕ). anyOf p (upFrom i k)) (one-less n i h)
       ∙ any-cons-no i (n - (i + 1)) t
       ∙ ap (λ (k : ℕ). anyOf p (upFrom k (n - (i + 1)))) (sym (add-one i))
 
   pub any-found : (i n : ℕ) → i < n → p i ≡ true → anyOf p (upFrom i (n - i)) ≡ true
-  any-found i n h t = ap (λ (k : ℕ). anyOf p (upFrom i k)) (left i n h) ∙ any-cons-yes i (n - (i + 1)) t
+  any-found i n h t = ap (λ (k : ℕ). anyOf p (upFrom i k)) (one-less n i h) ∙ any-cons-yes i (n - (i + 1)) t
 
   pub any-none : (i n : ℕ) → n ≤ i → anyOf p (upFrom i (n - i)) ≡ false
   unfolding anyOf upFrom

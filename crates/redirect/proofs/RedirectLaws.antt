@@ -2,14 +2,14 @@
 use mathlib.Core.Path.{_≡_, refl, sym, ap, _∙_}
 use mathlib.Core.Bool.{Bool, true, false, cond}
 use mathlib.Core.List.{List, [], _∷_, map}
-use Prim.Native.Nat.{ℕ, _+_, _*_, _-_, _≤_, _<_}
+use Prim.Native.Nat.{ℕ, zero, suc, _+_, _*_, _-_, _≤_, _<_}
 use native.Mathlib.Nat.{add-zero}
 use native.Mathlib.Omega.{arith}
 use native.Mathlib.Decide.{ℕ-discrete}
 use lib.ListN.{length, getD, set, length-set}
 use lib.Seq.{getD-set-same, getD-set-other}
 use lib.Dec.{eqb}
-use borrow.Author.Tests.{eqb-true, eqb-false, le-leb, lt-leb}
+use borrow.Author.Tests.{eqb-true, eqb-false, ne-eqb, le-leb, lt-leb}
 use Rattle.defs.specs.SeqGraph.{Edge, hasEnds, addOrUpdateEdge, addOrUpdateEdges}
 use Rattle.laws.proofs.Walks.{byTest}
 use Rattle.laws.proofs.ListLaws.{byOrder}
@@ -17,9 +17,9 @@ use Rattle.laws.proofs.Edges.{joins-ends}
 use Rattle.tabs.proofs.Tabs.{length-tab, getD-tab}
 use Rattle.store.specs.Store.{isSet, edgeIn, edgesIn, findEdge, Joinable}
 use Rattle.store.proofs.EdgeLaws.{no-edge}
-use Rattle.index.specs.Index.{endOf, atFrom, Index, pairAt}
+use Rattle.index.specs.Index.{endOf, atFrom, Index, pairAt, endAt}
 use Rattle.index.proofs.AdjLaws.{at-head, at-step, at-end}
-use Rattle.index.proofs.IndexLaws.{end-below}
+use Rattle.index.proofs.IndexLaws.{end-below, end-is}
 use Rattle.redirect.specs.Redirect.{newFrom, newTo, redirected, redirectedAll, place, Marks, OneReady, OneDone, Redirectable, Redirected}
 use Rattle.redirect.proofs.RaiseLaws.{first-missing, find-raised, find-added, find-other, find-missing, raise-old, raise-longer}
 use Rattle.redirect.proofs.RaiseLaws.{raiseAll-longer, raiseAll-cons}
@@ -34,22 +34,10 @@ else-is x y h = rw h
 
 -- ---- ends
 
--- the end of an edge on the side `off`
-abbrev pub endAt : ℕ → Edge → ℕ
-endAt off e = cond (eqb off 0) (e .from) (e .to)
-
-pub end-at : (off : ℕ) (es : List ℕ) (j : ℕ) → off ≤ 1 → endOf off es j ≡ endAt off (edgeIn es j)
-end-at off es j h = byTest (eqb off 0)
-    (λ t. rw t (ap (λ (x : ℕ). getD es x 0) (ap (λ (x : ℕ). 4 * j + x) (eqb-true off 0 t) ∙ add-zero (4 * j))))
-    (λ t. rw t (ap (λ (x : ℕ). getD es (4 * j + x) 0) (one (eqb-false off 0 t))))
-  where
-    one : (off ≡ 0 → ⊥) → off ≡ 1
-    one ne = byOrder 1 off (λ a. omega arith) (λ a. absurd (ne (omega arith)))
-
 new-end : (off y x : ℕ) (e : Edge) → hasEnds (newFrom off y x) (newTo off y x) e ≡ true → endAt off e ≡ y
-new-end off y x e t =
-    let z = joins-ends _ _ 0 true e t in
-    byTest (eqb off 0) (λ u. rw u (rw u at (z .0))) (λ u. rw u (rw u at (z .1)))
+unfolding endAt
+new-end zero y x e t = joins-ends _ _ 0 true e t .0
+new-end (suc n) y x e t = rw (ne-eqb (suc n) 0 (λ (q : suc n ≡ 0). omega arith)) at (joins-ends _ _ 0 true e t .1)
 
 ends-other : (off y x z : ℕ) → newFrom off y z ≡ newFrom off y x → newTo off y z ≡ newTo off y x → z ≡ x
 ends-other off y x z p q = byTest (eqb off 0) (λ u. rw u at q) (λ u. rw u at p)
@@ -77,7 +65,7 @@ marks-start off y n m es mp h room most free = record {
 }
   where
     none : (x j : ℕ) → j < m → hasEnds (newFrom off y x) (newTo off y x) (getD (edgesIn m es) j no-edge) ≡ false
-    none x j b = rw (getD-tab m (edgeIn es) j no-edge b) (not-there off y x (edgeIn es j) (λ q. free j b (end-at off es j h ∙ q)))
+    none x j b = rw (getD-tab m (edgeIn es) j no-edge b) (not-there off y x (edgeIn es j) (λ q. free j b (sym (end-is es off j h) ∙ q)))
 
 module _ {off y n lo m : ℕ} {es mp : List ℕ} (M : Marks off y n lo m es mp) (x : ℕ) {at : ℕ} (b : x < n) (q : at ≡ place lo m (getD mp x 0)) where
   at-least : lo ≤ at
@@ -166,9 +154,9 @@ redirect off y e = record { from = newFrom off y (endAt (1 - off) e); to = newTo
 
 pub redirected-is : (off y : ℕ) (es : List ℕ) (e : ℕ) → redirected off y es e ≡ redirect off y (edgeIn es e)
 redirected-is off y es e = λ i. record {
-  from = newFrom off y (end-at (1 - off) es e less i);
+  from = newFrom off y ((sym (end-is es (1 - off) e less)) i);
   to =
-      newTo off y (end-at (1 - off) es e less i);
+      newTo off y ((sym (end-is es (1 - off) e less)) i);
   support = getD es (4 * e + 2) 0;
   isRef = isSet (getD es (4 * e + 3) 0);
 }
@@ -180,7 +168,7 @@ redirected-same : (off y : ℕ) (es es′ : List ℕ) (e : ℕ) → edgeIn es′
 redirected-same off y es es′ e q = redirected-is off y es′ e ∙ ap (redirect off y) q ∙ sym (redirected-is off y es e)
 
 pub end-same : (off : ℕ) (es es′ : List ℕ) (j : ℕ) → off ≤ 1 → edgeIn es′ j ≡ edgeIn es j → endOf off es′ j ≡ endOf off es j
-end-same off es es′ j h q = end-at off es′ j h ∙ ap (endAt off) q ∙ sym (end-at off es j h)
+end-same off es es′ j h q = sym (end-is es′ off j h) ∙ ap (endAt off) q ∙ end-is es off j h
 
 pub record Redirecting (off y n lo m₀ m : ℕ) (es₀ mp₀ : List ℕ) (v k : ℕ) (es mp : List ℕ) (e : ℕ) : Type 0 where
   pub high : e ≤ m₀
@@ -265,7 +253,7 @@ module _ {off y n lo m₀ m : ℕ} {es₀ heads nexts mp₀ : List ℕ} {v : ℕ
           )
 
           free : (j : ℕ) → j < m₀ → endAt off (edgeIn es j) ≡ y → ⊥
-          free j c q = let z = sym (end-same off es₀ es j (F .off-low) (R .old j c)) ∙ end-at off es j (F .off-low) ∙ q in
+          free j c q = let z = sym (end-same off es₀ es j (F .off-low) (R .old j c)) ∙ sym (end-is es off j (F .off-low)) ∙ q in
               omega (arith, z, end-below off (F .indexed .ends) j c (F .off-low), F .new)
 
           old-kept : (j : ℕ) → j < m₀ → edgeIn es′ j ≡ edgeIn es j

@@ -12,10 +12,10 @@ use Rattle.laws.proofs.ListLaws.{of-keepIf}
 use Rattle.tabs.proofs.Tabs.{tab-ext}
 use Rattle.store.specs.Store.{edgeIn, edgesIn, graphIn, EndsBelow}
 use Rattle.compact.proofs.CompactLaws.{ends-mem, mem-ends}
-use Rattle.index.specs.Index.{endOf, edgesAt, Next, Indexed}
-use Rattle.index.proofs.IndexLaws.{keep-is}
+use Rattle.index.specs.Index.{endOf, edgesAt, Next, Indexed, endAt}
+use Rattle.index.proofs.IndexLaws.{keep-is, end-is}
 use Rattle.redirect.specs.Redirect.{redirectedAll}
-use Rattle.redirect.proofs.RedirectLaws.{endAt, end-at, end-same, redirect, redirected-is}
+use Rattle.redirect.proofs.RedirectLaws.{end-same, redirect, redirected-is}
 
 -- the edges of a vertex, redirected, by the list of edges
 all-is : (off y m : ℕ) (es : List ℕ) (v : ℕ) → off ≤ 1 → redirectedAll off y m es v
@@ -23,18 +23,19 @@ all-is : (off y m : ℕ) (es : List ℕ) (v : ℕ) → off ≤ 1 → redirectedA
 all-is off y m es v h =
     (λ i. map (λ (j : ℕ). redirected-is off y es j i) (edgesAt (endOf off es) m v))
     ∙ sym (map-map (redirect off y) (edgeIn es) (edgesAt (endOf off es) m v))
-    ∙ ap (map (redirect off y)) (sym (keep-is off m es (endAt off) (λ e. sym (end-at off es e h)) v))
+    ∙ ap (map (redirect off y)) (sym (keep-is off m es (endAt off) (λ e. end-is es off e h) v))
 
 pub into-all : (y k n m : ℕ) (es vs p : List ℕ) (v : ℕ) → redirectedAll 1 y m es v ≡ map (redirectedTo y) (edgesInto (graphIn k n m es vs p) v)
-unfolding redirectedTo newEdge edgeData edgesInto
+unfolding redirectedTo newEdge edgeData edgesInto endAt
 into-all y k n m es vs p v = all-is 1 y m es v (omega arith)
 
 pub from-all : (y k n m : ℕ) (es vs p : List ℕ) (v : ℕ) → redirectedAll 0 y m es v ≡ map (redirectedFrom y) (edgesFrom (graphIn k n m es vs p) v)
-unfolding redirectedFrom newEdge edgeData edgesFrom
+unfolding redirectedFrom newEdge edgeData edgesFrom endAt
 from-all y k n m es vs p v = all-is 0 y m es v (omega arith)
 
 -- an edge that enters y leaves one of the n vertices
 pub into-ends : {n m : ℕ} {es : List ℕ} → EndsBelow n m es → (y v : ℕ) (e : Edge) → List·Memᴰ e (redirectedAll 1 y m es v) → (e .from < n) × (e .to ≡ y)
+unfolding endAt
 into-ends {n} {m} {es} E y v e k =
     let z = Memᴰ·of-map (redirect 1 y) _ (rw (all-is 1 y m es v (omega arith)) at k) in
     let d = of-keepIf (λ (e : Edge). eqb (endAt 1 e) v) (edgesIn m es) (z .1) in

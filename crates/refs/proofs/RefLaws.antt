@@ -15,6 +15,7 @@ use Rattle.defs.specs.SeqGraph.{Edge, Graph, nodeCount, edgesFrom, edgesInto, i
 use Rattle.defs.specs.Cleanup.{referenceSourceVertex, referenceSinkVertex}
 use Rattle.laws.proofs.Walks.{byTest}
 use Rattle.laws.proofs.Cleaned.{source-in, sink-in}
+use Rattle.laws.proofs.ListLaws.{any-yes, any-no, any-map}
 use Rattle.store.specs.Store.{isSet, edgeIn, edgesIn, graphIn}
 use Rattle.compact.proofs.CompactLaws.{order-in}
 use Rattle.index.specs.Index.{endOf, atFrom, edgesAt, Index}
@@ -60,26 +61,12 @@ set-no y q h = ap not (eq-eqb y 0 (sym q ∙ h))
 
 -- ---- the definitions
 
-any-map : {A B : Type 0} (p : B → Bool) (f : A → B) (xs : List A) → anyOf p (map f xs) ≡ anyOf (λ (x : A). p (f x)) xs
-unfolding anyOf
-any-map p f [] = refl
-any-map p f (x ∷ xs) = byTest (p (f x)) (λ t. rw (t, anyOf)) (λ t. rw (t, anyOf) (any-map p f xs))
-
 module _ (k n m : ℕ) (es vs p : List ℕ) (v : ℕ) where
   pub any-out : anyOf (λ (e : Edge). e .isRef) (edgesFrom (graphIn k n m es vs p) v) ≡ anyOf (refAt es) (edgesAt (endOf 0 es) m v)
   any-out = ap (anyOf (λ (e : Edge). e .isRef)) (from-is k n m es vs p v) ∙ any-map (λ (e : Edge). e .isRef) (edgeIn es) (edgesAt (endOf 0 es) m v)
 
   pub any-in : anyOf (λ (e : Edge). e .isRef) (edgesInto (graphIn k n m es vs p) v) ≡ anyOf (refAt es) (edgesAt (endOf 1 es) m v)
   any-in = ap (anyOf (λ (e : Edge). e .isRef)) (into-is k n m es vs p v) ∙ any-map (λ (e : Edge). e .isRef) (edgeIn es) (edgesAt (endOf 1 es) m v)
-
--- a reference edge at v leaves it or enters it
-any-yes : {A : Type 0} (p : A → Bool) (x : A) (xs : List A) → p x ≡ true → anyOf p (x ∷ xs) ≡ true
-unfolding anyOf
-any-yes p x xs t = rw (t, anyOf)
-
-any-no : {A : Type 0} (p : A → Bool) (x : A) (xs : List A) → p x ≡ false → anyOf p (x ∷ xs) ≡ anyOf p xs
-unfolding anyOf
-any-no p x xs t = rw (t, anyOf)
 
 or-true : (a : Bool) → a || true ≡ true
 or-true true = refl

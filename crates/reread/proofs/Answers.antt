@@ -4,7 +4,7 @@ use native.Mathlib.Omega.{arith}
 use mathlib.Core.Path.{_≡_, refl}
 use mathlib.Core.List.{List}
 use Rattle.defs.specs.SeqGraph.{Graph}
-use Rattle.defs.specs.Simplify.{sequenceBytes, simplifyGraphFull}
+use Rattle.defs.specs.Simplify.{sequenceBytes, simplifyGraphFull, minTailSuffixLen}
 use Rattle.defs.specs.Cleanup.{Status, justReference, someVariation, statusNumber, cleanupSeqGraph}
 use Rattle.defs.specs.Record.{sequenceGraph, encode, decode}
 use Rattle.defs.specs.Refusals.{sequenceOnly, recordRefusal}
@@ -35,10 +35,10 @@ module _ (g : Graph) (I : SequenceInput g) where
     supports = F .supports;
   }
 
-  simplified-answer : SequenceAnswer ((simplifyGraphFull 10 g) .graph)
+  simplified-answer : SequenceAnswer ((simplifyGraphFull minTailSuffixLen g) .graph)
   simplified-answer =
       let N = simplify-narrow g narrow in
-      answer-of ((simplifyGraphFull 10 g) .graph) (narrow-fits _ N) (N .few) (simplify-fields g fields)
+      answer-of ((simplifyGraphFull minTailSuffixLen g) .graph) (narrow-fits _ N) (N .few) (simplify-fields g fields)
 
   cleaned-answer : SequenceAnswer ((cleanupSeqGraph g) .graph)
   cleaned-answer = answer-of ((cleanupSeqGraph g) .graph) (cleanup-fits g narrow) (cleanup-bytes g narrow) (cleanup-fields g fields)
@@ -50,7 +50,7 @@ status-most someVariation = omega arith
 
 module _ (bs : List ℕ) (small : Bytes bs) (ok : recordRefusal sequenceOnly bs ≡ 0) where
   abbrev simplified : Graph
-  simplified = (simplifyGraphFull 10 (decode bs)) .graph
+  simplified = (simplifyGraphFull minTailSuffixLen (decode bs)) .graph
 
   pub simplify-reread : RereadAs simplified (encode sequenceGraph 0 simplified)
   simplify-reread = answer-reread simplified (simplified-answer (decode bs) (sequence-input bs small ok)) 0 (omega arith)

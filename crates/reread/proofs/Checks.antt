@@ -31,11 +31,6 @@ use Rattle.sound.specs.Alike.{SameEnds, SameKmers}
 use Rattle.sound.proofs.Accepted as S
 use Rattle.reread.specs.Recordable.{graphPastLimit}
 
-pub at-mem : {A : Type 0} (d : A) (l : List A) (i : ℕ) → i < length l → List·Memᴰ (getD l i d) l
-at-mem d [] i h = absurd (omega arith)
-at-mem d (x ∷ l) zero h = List·Memᴰ·head refl
-at-mem d (x ∷ l) (suc i) h = List·Memᴰ·tail (at-mem d l i (omega arith))
-
 -- no member passes, no number below n passes
 none-of : {A : Type 0} (p : A → Bool) (l : List A) → ((x : A) → List·Memᴰ x l → p x ≡ false) → anyOf p l ≡ false
 none-of p l h = byTest (anyOf p l) (λ t. let x = anyOf-true p l t in clash (x .2) (h (x .0) (x .1))) (λ t. t)

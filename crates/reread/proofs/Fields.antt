@@ -16,7 +16,7 @@ use Rattle.le.proofs.LeLaws.{length-le16, value-of-digits}
 use Rattle.record.proofs.Fields.{edgeStart-is, flagAt-is, edgesAt-is, bytesAt-is}
 use Rattle.codec.specs.Encodable.{Encodable}
 use Rattle.codec.proofs.Concat.{shows-field, length-fields}
-use Rattle.codec.proofs.Encoded.{vertices-read, length-read}
+use Rattle.codec.proofs.Encoded.{vertices-read, length-read, edge-width}
 
 -- the header, whatever stands behind it
 module _ (kind status k v e b : ℕ) (rest : List ℕ) where
@@ -60,10 +60,6 @@ unfolding encodeHeader le16 le32
 header-long kind status k v e b = refl
 
 -- lengths
-edge-width : (e : Edge) → length (encodeEdge e) ≡ 9
-unfolding encodeEdge le16 le32
-edge-width e = refl
-
 edge-flag : (e : Edge) → getD (encodeEdge e) 8 0 ≤ 1
 unfolding encodeEdge le16 le32
 edge-flag e = either (e .isRef)

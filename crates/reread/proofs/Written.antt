@@ -10,6 +10,7 @@ use Rattle.defs.specs.Simplify.{sequenceBytes}
 use Rattle.defs.specs.Record.{RecordKind, recordKindNumber, kindOf, kOf, verticesOf, edgesOf, bytesOf, wholeLength, bytesAt, edgesAt}
 use Rattle.defs.specs.Record.{lengthAt, edgeAt, encode, decode}
 use Rattle.defs.specs.Refusals.{Takes, takesKind, otherLength, wrongMark, pastLimit, layoutDisagrees, anyBadEdge, doubled, hasCycle, recordRefusal}
+use Rattle.laws.proofs.ListLaws.{at-mem}
 use Rattle.codec.proofs.Encoded.{k-read, vertices-read, edges-read, length-read, edge-read}
 use Rattle.codec.proofs.RoundTrip.{decode-encode}
 use Rattle.record.proofs.Fields.{wholeLength-is, bytesAt-is}
@@ -17,7 +18,7 @@ use Rattle.sound.specs.Alike.{noEdge}
 use Rattle.reread.specs.Recordable.{graphPastLimit, KmerVertices, Recordable}
 use Rattle.reread.proofs.Fields.{mark-written, kind-written, status-written, length-written, bytes-written, lengths-at-written}
 use Rattle.reread.proofs.Fields.{edges-at-written, bytes-at-written, stated-written, flag-written, sum-written}
-use Rattle.reread.proofs.Checks.{at-mem, length-right, mark-right, limit-same, layout-right, edges-right, doubled-right, cycle-right, three-decides}
+use Rattle.reread.proofs.Checks.{length-right, mark-right, limit-same, layout-right, edges-right, doubled-right, cycle-right, three-decides}
 
 module _ (kind : RecordKind) (status : ℕ) (g : Graph) (ok : Recordable kind status g) where
   abbrev bs : List ℕ

@@ -7,6 +7,9 @@ ghost use Rattle.rounds.specs.Rounds.{ended, Once, Whole, Full};
 use memory::Held;
 use memory::Work;
 
+// The least common suffix of tails that is split off (`Simplify.minTailSuffixLen`).
+pub const MIN_TAIL_SUFFIX_LEN: usize = 10;
+
 // The simplified graph, the rewrites made, the rounds begun, and the end: 1 quiet, 2 repeated, 3 full.
 pub struct Simplified {
     pub held: Held,

@@ -9,7 +9,7 @@ use Rattle.defs.specs.Lists.{tabFrom, sum}
 use Rattle.defs.specs.Record.{verticesOf, edgesOf, lengthAt, sequenceStart, sequenceAt}
 use Rattle.record.proofs.Fields.{bytesAt-is, sequenceStart-is, sequenceAt-is}
 use Rattle.record.proofs.Sequences.{vertex-is}
-use Rattle.record.proofs.TurnLaws.{sum-start, sum-turn, sum-none}
+use Rattle.record.proofs.TurnLaws.{sum-start, sum-turn, sum-spent}
 use Rattle.sequence.specs.Part.{Part}
 
 -- what is added so far, and what is still to be added, up to vertex v
@@ -32,7 +32,7 @@ module _ (bs : List ℕ) (v : ℕ) where
   adding-fits i at l h e k = omega (arith, sum-turn (lengthAt bs) i v h, k .adds)
 
   pub adding-end : (i at : ℕ) → v ≤ i → Adding bs v i at → at ≡ sequenceStart bs v
-  adding-end i at h k = omega (arith, sum-none (lengthAt bs) i v h, k .adds)
+  adding-end i at h k = omega (arith, sum-spent (lengthAt bs) i v h, k .adds)
 
 -- the part that is cut out
 pub part-is : (bs : List ℕ) (v s e : ℕ) → s ≡ sequenceStart bs v → e ≡ s + lengthAt bs v → v < verticesOf bs → Part bs v (take (e - s) (drop s bs))

@@ -9,12 +9,10 @@ use lib.Seq.{ext-getD, getD-take, getD-drop, length-take-le}
 use Rattle.defs.specs.Lists.{tab, tabFrom}
 use Rattle.tabs.proofs.Tabs.{tab-snoc, tab-ext, length-tab, getD-tab}
 use Rattle.store.specs.Store.{part}
-
-pub length-part : (p : List ℕ) (a n : ℕ) → a + n ≤ length p → length (part p a n) ≡ n
-length-part p a n h = length-take-le n (drop a p) (omega (arith, length-drop a p))
+use Rattle.store.proofs.VertexLaws.{part-long}
 
 pub part-tab : (p : List ℕ) (a n : ℕ) → a + n ≤ length p → part p a n ≡ tab n (λ (j : ℕ). getD p (a + j) 0)
-part-tab p a n h = ext-getD 0 _ _ (length-part p a n h ∙ sym (length-tab n _)) (λ i b. byte i (omega (arith, length-part p a n h)))
+part-tab p a n h = ext-getD 0 _ _ (part-long p a n h ∙ sym (length-tab n _)) (λ i b. byte i (omega (arith, part-long p a n h)))
   where
     byte : (i : ℕ) → i < n → getD (part p a n) i 0 ≡ getD (tab n (λ (j : ℕ). getD p (a + j) 0)) i 0
     byte i b = getD-take n (drop a p) i 0 b ∙ getD-drop a p i 0 ∙ sym (getD-tab n _ i 0 b)
@@ -50,10 +48,10 @@ pub drop-part : (p : List ℕ) (a n s : ℕ) → s ≤ n → a + n ≤ length p 
 drop-part p a n s h b = ext-getD 0 _ _ (length-drop s (part p a n) ∙ omega (arith, len, len′)) (λ i c. byte i (omega (arith, length-drop s (part p a n), len)))
   where
     len : length (part p a n) ≡ n
-    len = length-part p a n b
+    len = part-long p a n b
 
     len′ : length (part p (a + s) (n - s)) ≡ n - s
-    len′ = length-part p (a + s) (n - s) (omega arith)
+    len′ = part-long p (a + s) (n - s) (omega arith)
 
     byte : (i : ℕ) → i < n - s → getD (drop s (part p a n)) i 0 ≡ getD (part p (a + s) (n - s)) i 0
     byte i c = getD-drop s (part p a n) i 0 ∙ getD-take n (drop a p) (s + i) 0 (omega arith) ∙ getD-drop a p (s + i) 0
@@ -61,9 +59,9 @@ drop-part p a n s h b = ext-getD 0 _ _ (length-drop s (part p a n) ∙ omega (ar
         ∙ sym (getD-take (n - s) (drop (a + s) p) i 0 c ∙ getD-drop (a + s) p i 0)
 
 pub take-part : (p : List ℕ) (a n s : ℕ) → s ≤ n → a + n ≤ length p → take s (part p a n) ≡ part p a s
-take-part p a n s h b = ext-getD 0 _ _ (length-take-le s (part p a n) (omega (arith, length-part p a n b))
-    ∙ sym (length-part p a s (omega arith))) (λ i c. byte i
-    (omega (arith, length-take-le s (part p a n) (omega (arith, length-part p a n b)))))
+take-part p a n s h b = ext-getD 0 _ _ (length-take-le s (part p a n) (omega (arith, part-long p a n b))
+    ∙ sym (part-long p a s (omega arith))) (λ i c. byte i
+    (omega (arith, length-take-le s (part p a n) (omega (arith, part-long p a n b)))))
   where
     byte : (i : ℕ) → i < s → getD (take s (part p a n)) i 0 ≡ getD (part p a s) i 0
     byte i c = getD-take s (part p a n) i 0 c ∙ getD-take n (drop a p) i 0 (omega arith) ∙ sym (getD-take s (drop a p) i 0 c)

@@ -15,12 +15,11 @@ use Rattle.defs.specs.Lists.{sameList, sum, tab, concat}
 use Rattle.defs.specs.SeqGraph.{Graph, nodeCount}
 use Rattle.defs.specs.Simplify.{graphTopologySignature}
 use Rattle.laws.proofs.Walks.{byTest}
-use Rattle.laws.proofs.ListLaws.{clash, byOrder, and-split}
-use Rattle.laws.proofs.Merge.{sameList-eq}
+use Rattle.laws.proofs.ListLaws.{clash, byOrder, and-split, sameList-eq, sameList-refl}
 use Rattle.tabs.proofs.Tabs.{length-tab, getD-tab, tab-snoc, tab-zero}
 use Rattle.tabs.proofs.SumTabs.{sum-none, sum-more, sum-below, concat-snoc, map-tab}
 use Rattle.store.specs.Store.{part, numsIn, seqIn, seqsIn, Within}
-use Rattle.pool.proofs.PoolLaws.{part-long}
+use Rattle.store.proofs.VertexLaws.{part-long}
 use Rattle.memory.specs.declared.Held.{Held}
 use Rattle.signature.specs.Signature.{sameAt, sameFrom, Over, Put, Sequence, Entering, Entered, Writable, Signature}
 use Rattle.signature.specs.declared.Signed.{Signed}
@@ -97,12 +96,6 @@ put-over {l} {old} {s} {x} {here} h e r a b = record {
     first : (i : ℕ) → i < length (x ∷ []) → x ≡ getD (x ∷ []) i 0
     first zero c = refl
     first (suc i) c = absurd (omega arith)
-
-pub and-yes : {a b : Bool} → a ≡ true → b ≡ a && b
-and-yes t = rw t
-
-pub and-no : {a : Bool} (b : Bool) → a ≡ false → false ≡ a && b
-and-no b t = rw t
 
 -- ---- bytes
 
@@ -191,11 +184,6 @@ entered {l} {l₁} {l₂} {old} {s} {t} {r} {vs} {p} {v} {start} {len} F qs ql P
 
 -- ---- the whole
 
-same-refl : (l : List ℕ) → sameList l l ≡ true
-unfolding sameList
-same-refl [] = refl
-same-refl (x ∷ l) = rw (eq-eqb x x refl, sameList) (same-refl l)
-
 from-true : (l : List ℕ) (old at : ℕ) (xs : List ℕ) → sameFrom l old at xs ≡ true → (i : ℕ) → i < length xs → getD l (at + i) 0 ≡ getD xs i 0
 from-true l old at [] e i h = absurd (omega arith)
 from-true l old at (x ∷ xs) e zero h = ap (λ (k : ℕ). getD l k 0) (add-zero at)
@@ -223,7 +211,7 @@ nums-is l xs n q h = ext-getD 0 _ _ (length-tab n (λ (i : ℕ). getD l i 0) ∙
 -- the two are the same where each number is and there are as many
 same-whole : (l : List ℕ) (old : ℕ) (xs : List ℕ) → length xs ≡ old → sameFrom l old 0 xs ≡ sameList (numsIn old l) xs
 same-whole l old xs q = byTest (sameFrom l old 0 xs)
-    (λ t. t ∙ sym (ap (λ (x : List ℕ). sameList x xs) (nums-is l xs old (sym q) (from-true l old 0 xs t)) ∙ same-refl xs))
+    (λ t. t ∙ sym (ap (λ (x : List ℕ). sameList x xs) (nums-is l xs old (sym q) (from-true l old 0 xs t)) ∙ sameList-refl xs))
     (λ t. t ∙ sym (byTest (sameList (numsIn old l) xs)
     (λ s. clash (from-of l old 0 xs (omega arith) (λ i b. ap (λ (k : ℕ). getD l k 0) (zero-add i)
     ∙ sym (getD-tab old (λ (k : ℕ). getD l k 0) i 0 (omega arith)) ∙ ap (λ (x : List ℕ). getD x i 0) (sameList-eq (numsIn old l) xs s)))

@@ -16,11 +16,10 @@ use Rattle.defs.specs.Simplify.{sequenceBytes}
 use Rattle.defs.specs.Record.{kindOf, verticesOf, edgesOf, bytesOf, lengthAt, sequenceAt, edgeAt, decode}
 use Rattle.defs.specs.Refusals.{Cause, refusalOf, Takes, doubledEdge, equalKmers, doubled, hasCycle, recordCauses, recordRefusal}
 use Rattle.laws.proofs.Walks.{byTest}
-use Rattle.laws.proofs.ListLaws.{clash, and-split, and-true}
+use Rattle.laws.proofs.ListLaws.{clash, and-split, and-true, or-cases, sameList-eq, sameList-refl, or-false, or-right}
 use Rattle.laws.proofs.Edges.{joins-ends}
 use Rattle.laws.proofs.Counts.{Single, ends-join}
 use Rattle.laws.proofs.Nets.{Bounded}
-use Rattle.laws.proofs.Diamonds.{or-cases}
 use Rattle.laws.proofs.Cycles.{Closed, anyOf-mem, rounds}
 use Rattle.laws.proofs.Fuel.{Good}
 use Rattle.laws.proofs.Room.{Limits}
@@ -135,20 +134,6 @@ kmers-none : equalKmers [] ≡ false
 unfolding equalKmers
 kmers-none = refl
 
-same-list : (xs ys : List ℕ) → sameList xs ys ≡ true → xs ≡ ys
-unfolding sameList
-same-list [] [] t = refl
-same-list [] (y ∷ ys) t = clash t refl
-same-list (x ∷ xs) [] t = clash t refl
-same-list (x ∷ xs) (y ∷ ys) t = byTest (eqb x y)
-    (λ u. let q : xs ≡ ys = same-list xs ys (rw (u, sameList) at t) in let p : x ≡ y = eqb-true x y u in cc)
-    (λ u. clash (rw (u, sameList) at t) refl)
-
-list-same : (xs : List ℕ) → sameList xs xs ≡ true
-unfolding sameList
-list-same [] = refl
-list-same (x ∷ xs) = rw (eq-eqb x x refl, sameList) (list-same xs)
-
 module _ (g : Graph) where
   pub doubled-same : doubledEdge (g .edges) ≡ true → SameEnds g
   doubled-same t = pair-of (λ (e : Edge). hasEnds (e .from) (e .to)) noEdge doubledEdge doubled-none doubled-cons (g .edges) t (λ i j o b u.
@@ -163,21 +148,17 @@ module _ (g : Graph) where
   pub equal-same : equalKmers (g .verts) ≡ true → SameKmers g
   unfolding nodeCount vertexSequence
   equal-same t = pair-of sameList [] equalKmers kmers-none kmers-cons (g .verts) t (λ i j o b u.
-      record { first = i; second = j; order = o; below = b; same = same-list _ _ u })
+      record { first = i; second = j; order = o; below = b; same = sameList-eq _ _ u })
 
   pub same-equal : SameKmers g → equalKmers (g .verts) ≡ true
   unfolding nodeCount vertexSequence
   same-equal s = of-pair sameList [] equalKmers kmers-none kmers-cons (g .verts) (s .first) (s .second) (s .order) (s .below)
-      (ap (sameList (getD (g .verts) (s .first) [])) (sym (s .same)) ∙ list-same (getD (g .verts) (s .first) []))
-
-or-parts : (a b : Bool) → (a || b) ≡ false → (a ≡ false) × (b ≡ false)
-or-parts true b f = clash refl f
-or-parts false b f = (refl, f)
+      (ap (sameList (getD (g .verts) (s .first) [])) (sym (s .same)) ∙ sameList-refl (getD (g .verts) (s .first) []))
 
 single-edges : (es : List Edge) → doubledEdge es ≡ false → Single es
 single-edges [] f = tt
 single-edges (e ∷ es) f =
-    let s = or-parts (anyOf (hasEnds (e .from) (e .to)) es) (doubledEdge es) (sym (doubled-cons e es) ∙ f) in
+    let s = or-false (anyOf (hasEnds (e .from) (e .to)) es) (doubledEdge es) (sym (doubled-cons e es) ∙ f) in
     (λ l. clash (anyOf-mem (hasEnds (e .from) (e .to)) es (l .1) (ends-join _ _ (l .0) (sym (l .2)) (sym (l .3)))) (s .0), single-edges es (s .1))
 
 module _ (bs : List ℕ) where
@@ -193,12 +174,8 @@ module _ (bs : List ℕ) where
   unfolding doubled
   means-doubled s = ⊎-elim
       (λ a. rw (same-doubled (decode bs) a))
-      (λ a. or-right (doubledEdge ((decode bs) .edges)) (and-true (eqb (kindOf bs) 0) _ (eq-eqb (kindOf bs) 0 (a .0)) (same-equal (decode bs) (a .1))))
+      (λ a. or-right (doubledEdge ((decode bs) .edges)) _ (and-true (eqb (kindOf bs) 0) _ (eq-eqb (kindOf bs) 0 (a .0)) (same-equal (decode bs) (a .1))))
       s
-    where
-      or-right : (a : Bool) {b : Bool} → b ≡ true → (a || b) ≡ true
-      or-right true u = refl
-      or-right false u = u
 
   -- ---- the graph of an accepted record
 
@@ -242,7 +219,7 @@ module _ (bs : List ℕ) where
     unfolding doubled
     read-good d c = (
       record { bounded = read-bounded; rank = rounds (decode bs) read-bounded; ranks = no-cycle-ranked (decode bs) read-bounded c },
-      single-edges ((decode bs) .edges) (or-parts (doubledEdge ((decode bs) .edges)) _ d .0),
+      single-edges ((decode bs) .edges) (or-false (doubledEdge ((decode bs) .edges)) _ d .0),
     )
 
 -- ---- whole records

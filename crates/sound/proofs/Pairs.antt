@@ -8,37 +8,21 @@ use native.Mathlib.Omega.{arith}
 use lib.ListN.{length, getD}
 use Rattle.defs.specs.Lists.{anyOf}
 use Rattle.laws.proofs.Walks.{byTest}
-use Rattle.laws.proofs.ListLaws.{clash}
-use Rattle.laws.proofs.Diamonds.{or-cases}
+use Rattle.laws.proofs.ListLaws.{clash, or-cases, any-yes, any-no, or-left, or-right}
 
 module _ {A : Type 0} (p : A → Bool) (d : A) where
-  any-here : (x : A) (xs : List A) → p x ≡ true → anyOf p (x ∷ xs) ≡ true
-  unfolding anyOf
-  any-here x xs t = rw (t, anyOf)
-
-  any-later : (x : A) (xs : List A) → p x ≡ false → anyOf p (x ∷ xs) ≡ anyOf p xs
-  unfolding anyOf
-  any-later x xs t = rw (t, anyOf)
-
   -- a member that passes, with its place
   any-at : {X : Type 0} (l : List A) → anyOf p l ≡ true → ((i : ℕ) → i < length l → p (getD l i d) ≡ true → X) → X
   unfolding anyOf
   any-at [] t k = clash t refl
   any-at (x ∷ xs) t k = byTest (p x)
       (λ u. k 0 (omega arith) u)
-      (λ u. any-at xs (sym (any-later x xs u) ∙ t) (λ i b v. k (suc i) (omega arith) v))
+      (λ u. any-at xs (sym (any-no p x xs u) ∙ t) (λ i b v. k (suc i) (omega arith) v))
 
   at-any : (l : List A) (i : ℕ) → i < length l → p (getD l i d) ≡ true → anyOf p l ≡ true
   at-any [] i b t = absurd (omega arith)
-  at-any (x ∷ xs) zero b t = any-here x xs t
-  at-any (x ∷ xs) (suc i) b t = byTest (p x) (λ u. any-here x xs u) (λ u. any-later x xs u ∙ at-any xs i (omega arith) t)
-
-or-left : (a b : Bool) → a ≡ true → (a || b) ≡ true
-or-left a b t = rw t
-
-or-right : (a b : Bool) → b ≡ true → (a || b) ≡ true
-or-right true b t = refl
-or-right false b t = t
+  at-any (x ∷ xs) zero b t = any-yes p x xs t
+  at-any (x ∷ xs) (suc i) b t = byTest (p x) (λ u. any-yes p x xs u) (λ u. any-no p x xs u ∙ at-any xs i (omega arith) t)
 
 -- F tests whether some member is alike to a later one
 module _ {A : Type 0} (R : A → A → Bool) (d : A) (F : List A → Bool) (none : F [] ≡ false) (some : (x : A) (xs : List A) → F (x ∷ xs)

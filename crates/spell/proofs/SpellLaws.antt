@@ -13,7 +13,7 @@ use Rattle.laws.proofs.ListLaws.{byOrder}
 use Rattle.tabs.proofs.Tabs.{tab-snoc, tab-zero}
 use Rattle.tabs.proofs.SumTabs.{sum-none, sum-more, sum-below, concat-snoc}
 use Rattle.store.specs.Store.{part, seqIn, numsIn}
-use Rattle.pool.proofs.PoolLaws.{part-long}
+use Rattle.store.proofs.VertexLaws.{part-long}
 use Rattle.spell.specs.Spell.{Fits, Puttable, Put, bytesAt, spelledIn, Listed, Written, Answered, countOf, countIn, withFront, Told}
 use Rattle.spell.specs.declared.OptionBytes.{OptionBytes}
 use Rattle.spell.specs.declared.OptionBytes.the-variants.{Some, None}

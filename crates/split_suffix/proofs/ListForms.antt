@@ -16,10 +16,10 @@ use Rattle.laws.proofs.Whole.{byList}
 use Rattle.tabs.proofs.Tabs.{tab-snoc, tab-zero}
 use Rattle.tabs.proofs.SumTabs.{concat-snoc}
 use Rattle.store.specs.Store.{part, edgeIn, seqIn, graphIn, numsIn, Within}
+use Rattle.store.proofs.VertexLaws.{part-long}
 use Rattle.compact.specs.Compact.{Below}
 use Rattle.index.specs.Index.{Indexed}
-use Rattle.index.proofs.IndexLaws.{from-is, at-first}
-use Rattle.pool.proofs.PoolLaws.{part-long}
+use Rattle.index.proofs.IndexLaws.{from-is, at-first, pair-first}
 use Rattle.merge_suffices.proofs.TestLaws.{seq-at}
 use Rattle.redirect.proofs.SameLaws.{into-all}
 use Rattle.split_suffix.specs.Split.{hasPrefix, entry, blockEdges, numberOf, edgesOf, newEdges, newSeqs, newVerts}
@@ -93,7 +93,7 @@ module _ (k n m s from : ℕ) (es vs p heads nexts nodes : List ℕ) (c bottom :
   unfolding processEdge edgeData
   out-is v b h = ap (processEdge g v) (from-is k n m es vs p v
       ∙ ap (map (edgeIn es)) (at-first (I .index 0 (omega arith)) b (getD heads (2 * v) 0)
-      (ap (λ (x : ℕ). getD heads x 0) (sym (add-zero (2 * v)))) h))
+      (pair-first heads v) h))
 
   block-are : (v : ℕ) → v < n → s ≤ size v → getD heads (2 * v) 0 < m → (y : ℕ) → blockEdges y bottom (hasPrefix vs s v) heads m es v
       ≡ block g bottom suffix y v

@@ -26,7 +26,7 @@ use Rattle.compact.specs.Compact.{Compactable, Below, Removed}
 use Rattle.compact.specs.declared.Counts.{Counts}
 use Rattle.compact.proofs.CompactLaws.{order-in, mem-ends}
 use Rattle.index.specs.Index.{endOf, edgesAt, Indexed, Collected}
-use Rattle.index.proofs.IndexLaws.{at-none}
+use Rattle.index.proofs.IndexLaws.{at-none, pair-first}
 use Rattle.memory.specs.Memory.{graphOf, vertexRoom, edgeRoom, Room, Fit, Holds}
 use Rattle.memory.specs.declared.Held.{Held}
 use Rattle.memory.proofs.RoomLaws.{fit-vertices, fit-edges, fit-tame, held-vertices}
@@ -167,7 +167,7 @@ module _ {h : Held} {es vs p heads nexts nodes mp : List ℕ} (R : Room es vs p 
             arith,
             eqb-true (length (edgesAt (endOf 0 es) (h .m) (getD prevs i 0))) 1 (S .by s found .single i b),
             ap length (at-none (I .index 0 (omega arith)) (below .at i b) (getD heads (2 * getD prevs i 0) 0)
-                (ap (λ (x : ℕ). getD heads x 0) (sym (add-zero (2 * getD prevs i 0)))) a),
+                (pair-first heads (getD prevs i 0)) a),
           )))
           (λ a. a)
 

@@ -13,6 +13,7 @@ use Rattle.defs.specs.Lists.{tab, concat}
 use Rattle.tabs.proofs.Tabs.{tab-snoc, tab-zero, tab-ext}
 use Rattle.tabs.proofs.SumTabs.{concat-snoc}
 use Rattle.store.specs.Store.{part, seqIn, seqsIn, Within, putVertex}
+use Rattle.store.proofs.VertexLaws.{length-put-vertex}
 use Rattle.split_suffix.specs.Split.{hasPrefix, entry, numberOf, newSeqs, newVerts, Cuttable, CutDone, VertsReady, VertsDone}
 use Rattle.split_suffix.proofs.EdgeLoops.{number-low, number-most, number-more}
 
@@ -43,10 +44,6 @@ module _ (vs : List ℕ) (k a b : ℕ) (r : 2 * k + 2 ≤ length vs) where
       | no ne ↦ omega (arith, put-below (2 * v) (omega arith), put-below (2 * v + 1) (omega arith), W .at v (omega arith))
     ];
   }
-
-pub length-vertex : (vs : List ℕ) (k a b : ℕ) → length (putVertex vs k a b) ≡ length vs
-unfolding putVertex
-length-vertex vs k a b = simp length-set
 
 -- ---- one predecessor
 
@@ -81,7 +78,7 @@ module _ {k : ℕ} {vs : List ℕ} {s v : ℕ} (C : Cuttable k vs s v) where
     room-two = omega (arith, C .room, ap (λ (x : Bool). entry x k) long)
 
     pub cut-room-two : (from : ℕ) → 2 * (k + 1) + 2 ≤ length (putVertex vs k from s)
-    cut-room-two from = rw (length-vertex vs k from s) (omega (arith, room-two))
+    cut-room-two from = rw (length-put-vertex vs k from s) (omega (arith, room-two))
 
     pub cut-two : (from : ℕ) → CutDone k vs from s v (k + 2) (putVertex (putVertex vs k from s) (k + 1) start (size - s))
     cut-two from = record {

@@ -13,18 +13,18 @@ use Rattle.defs.specs.Lists.{tabFrom, allOf, elemOf, commonSuffix, given}
 use Rattle.defs.specs.SeqGraph.{Graph, vertexSequence, outDegree, outgoingNodes, isRefSource}
 use Rattle.defs.specs.Rewrites.{isSplit, nonEmpty, wouldEliminateRefSource}
 use Rattle.laws.proofs.Walks.{byTest}
-use Rattle.laws.proofs.ListLaws.{clash, and-split, and-true}
+use Rattle.laws.proofs.ListLaws.{clash, and-split, and-true, allOf-same}
 use Rattle.tabs.proofs.Tabs.{length-tab, tab-ext, and-no-left, and-no-right}
 use Rattle.tabs.proofs.ListTabs.{of-mem-tab}
 use Rattle.tabs.proofs.SumTabs.{map-tab}
 use Rattle.store.specs.Store.{part, seqIn, graphIn, numsIn}
+use Rattle.store.proofs.VertexLaws.{part-long}
 use Rattle.compact.specs.Compact.{Below}
 use Rattle.index.proofs.IndexLaws.{out-degree-is}
 use Rattle.refs.specs.Refs.{RefSource}
 use Rattle.shared.specs.Shared.{Parts, startAt, lenAt, seqsAt, Suffix}
-use Rattle.pool.proofs.PoolLaws.{part-long}
 use Rattle.diamond.proofs.TestLaws.{allOf-no}
-use Rattle.merge_suffices.proofs.TestLaws.{allOf-same, seq-at}
+use Rattle.merge_suffices.proofs.TestLaws.{seq-at}
 use Rattle.split_tests.specs.SplitTests.{oneOut, isLong, Testable, Eliminates, suffixOf, Before, SplitBy, Splits}
 use Rattle.split_tests.specs.declared.OptionSuffix.the-variants.{Some, None}
 

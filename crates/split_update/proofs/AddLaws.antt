@@ -8,19 +8,16 @@ use lib.ListN.{length, getD, length-append, length-map}
 use Rattle.defs.specs.Lists.{bit}
 use Rattle.defs.specs.SeqGraph.{Edge, saturatingAdd}
 use Rattle.defs.specs.Rewrites.{EdgeData, MidPlan, newEdge, onlyIf, edgesToMiddles, edgesFromMiddles, prefixToSuffixFrom}
+use Rattle.laws.proofs.SplitCounts.{length-toMiddles, length-only}
 use Rattle.store.specs.Store.{isSet, edge}
+use Rattle.store.proofs.EdgeLaws.{set-max}
 use Rattle.split_update.specs.Pushed.{EdgesPushed, edgeIf, leaves, leftNodes}
 use Rattle.split_update.specs.Ends.{plansOf, planOf, goneNodes, Mids, anyRef, midEdges, nothing, DirectIs, upper, lower, directOnce}
 use Rattle.split_update.specs.Ends.{newEdges, newEdgesOf, EdgeIfPushed, MidsPushed, Edgeable, EdgesAdded}
 use Rattle.split_update.specs.declared.Direct.{Direct}
 use Rattle.split_update.specs.declared.Places.{Places}
 use Rattle.split_update.proofs.PushLaws.{pushed-then}
-use Rattle.split_update.proofs.NodeLaws.{set-max, length-mid, length-to, length-from, plans-same, mids-kept}
-
-length-only : (t : Bool) (e : Edge) → length (onlyIf t (e ∷ [])) ≡ bit t
-unfolding onlyIf bit
-length-only true e = refl
-length-only false e = refl
+use Rattle.split_update.proofs.NodeLaws.{length-mid, length-from, plans-same, mids-kept}
 
 pub new-length : (w : Places) (l : List MidPlan) (d : EdgeData) → length (newEdges w l d) ≡ bit (w .prefixed)
     + (bit (w .linked) + (length l + (bit (w .consumed) + length l)))
@@ -34,7 +31,7 @@ new-length w l d = omega (
   length-only (w .prefixed) first,
   length-only (w .linked) last,
   length-only (w .consumed) between,
-  length-to (upper w) (w .middles) l,
+  length-toMiddles (upper w) (w .middles) l,
   length-from (lower w) (w .middles) l,
 )
   where

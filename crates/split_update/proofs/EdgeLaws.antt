@@ -12,7 +12,7 @@ use Rattle.defs.specs.SeqGraph.{Edge, hasEnds, addOrUpdateEdge, addOrUpdateEdge
 use Rattle.defs.specs.Rewrites.{EdgeData, MidPlan, newEdge, newEdgeIf, joinedData, onlyIf, orElse, isNone, isRefIf, edgesToMiddles}
 use Rattle.defs.specs.Rewrites.{edgesFromMiddles, prefixToSuffix, prefixToSuffixFrom, splitAndUpdateWith}
 use Rattle.laws.proofs.Walks.{byTest}
-use Rattle.laws.proofs.ListLaws.{and-split}
+use Rattle.laws.proofs.ListLaws.{and-split, bit-yes}
 use Rattle.laws.proofs.Edges.{Linked, linked-tail, raise-yes, raise-no, joins-ends}
 use Rattle.laws.proofs.Counts.{Single, ends-join}
 use Rattle.laws.proofs.SplitCounts.{raiseAll-append}
@@ -144,10 +144,6 @@ lower-less P false n b h = omega arith
 
 lower-is : (P S : Bool) (n b : ℕ) → S ≡ true → cond S (bit P + n) b ≡ bit P + n
 lower-is P S n b h = rw h
-
-bit-yes : (S : Bool) → S ≡ true → bit S ≡ 1
-unfolding bit
-bit-yes S h = rw h
 
 or-else : (P S : Bool) → (P || S) ≡ true → P ≡ false → S ≡ true
 or-else P S h t = rw t at h

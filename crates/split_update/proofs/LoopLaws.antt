@@ -11,13 +11,15 @@ use Rattle.defs.specs.SeqGraph.{Edge, saturatingAdd}
 use Rattle.defs.specs.Rewrites.{EdgeData, MidPlan, onlyIf, joinedData, newEdge, prefixToSuffixFrom}
 use Rattle.laws.proofs.Walks.{byTest}
 use Rattle.laws.proofs.ListLaws.{byOrder}
+use Rattle.laws.proofs.Diamonds.{nonEmpty-yes}
 use Rattle.store.specs.Store.{isSet, part, putEdge}
+use Rattle.store.proofs.VertexLaws.{part-long}
+use Rattle.store.proofs.EdgeLaws.{set-max}
 use Rattle.index.specs.Index.{pairAt}
-use Rattle.shared.proofs.PartLaws.{length-part}
 use Rattle.split_update.specs.Pushed.{EdgesPushed, VertsPushed, filled, PartPushed, startOf, lenOf, leftNodes, restOf, Restables, RestsPushed}
 use Rattle.split_update.specs.Ends.{endSupport, endFlag, endData, planOf, plansOf, goneNodes, midData, anyRef, midEdges, nothing}
-use Rattle.split_update.proofs.PushLaws.{pushed-none, pushed-one, pushed-then, verts-none, verts-then, nonEmpty-yes, nonEmpty-no, part-own}
-use Rattle.split_update.proofs.NodeLaws.{left-more, left-same, left-none, left-room, gone-more, gone-same, gone-none, set-max}
+use Rattle.split_update.proofs.PushLaws.{pushed-none, pushed-one, pushed-then, verts-none, verts-then, nonEmpty-no, part-own}
+use Rattle.split_update.proofs.NodeLaws.{left-more, left-same, left-none, left-room, gone-more, gone-same, gone-none}
 use Rattle.split_update.proofs.NodeLaws.{any-snoc, join-snoc, mid-none, mid-snoc, midEdge, mid-data, length-mid, support-same}
 use Rattle.split_update.proofs.NodeLaws.{flag-same}
 
@@ -29,7 +31,7 @@ rests-more : (vs p nodes : List ℕ) (x y i : ℕ) → startOf vs (getD nodes i 
 unfolding onlyIf
 rests-more vs p nodes x y i b l =
     let v = getD nodes i 0 in
-    let n : length (restOf vs p x y v) ≡ lenOf vs v - y - x = length-part p (startOf vs v + x) (lenOf vs v - y - x) (omega arith) in
+    let n : length (restOf vs p x y v) ≡ lenOf vs v - y - x = part-long p (startOf vs v + x) (lenOf vs v - y - x) (omega arith) in
     byOrder (lenOf vs v) (x + y)
     (λ (h : lenOf vs v ≤ x + y). ap (map (restOf vs p x y)) (left-same vs nodes (x + y) i h) ∙ sym (append-nil _)
     ∙ rw (nonEmpty-no (restOf vs p x y v) (omega arith)))
@@ -76,7 +78,7 @@ module _ {k : ℕ} {vs₀ p nodes : List ℕ} {c x y : ℕ} (F : Restables k vs�
         is = subst (λ (new : List (List ℕ)). VertsPushed k vs₀ p new j′ vs′) (sym (rests-more vs₀ p nodes x y i (F .inside i h) (F .long i h)))
             (verts-then (R .is) (subst (λ (z : List ℕ). VertsPushed j vs p (filled z) j′ vs′) (λ t. part p (a t + x) (b t - y - x)) q));
         within = λ used w. Q .within used
-            (omega (arith, w .at (getD nodes i 0) (F .below i h), F .long i h, length-part p (s + x) (l - y - x) fits)) (R .within used w);
+            (omega (arith, w .at (getD nodes i 0) (F .below i h), F .long i h, part-long p (s + x) (l - y - x) fits)) (R .within used w);
       }
 
 -- ---- the flag of the middles that remain

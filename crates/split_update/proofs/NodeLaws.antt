@@ -12,8 +12,9 @@ use Rattle.defs.specs.Lists.{tab, tabFrom, keepIf, anyOf}
 use Rattle.defs.specs.SeqGraph.{Edge}
 use Rattle.defs.specs.Rewrites.{EdgeData, MidPlan, joinedData, newEdge, edgesToMiddles, edgesFromMiddles, prefixToSuffixFrom}
 use Rattle.laws.proofs.Walks.{byTest}
-use Rattle.laws.proofs.ListLaws.{of-keepIf}
+use Rattle.laws.proofs.ListLaws.{of-keepIf, keepIf-same}
 use Rattle.laws.proofs.Counts.{length-both}
+use Rattle.laws.proofs.SplitCounts.{length-toMiddles}
 use Rattle.tabs.proofs.Tabs.{length-tab}
 use Rattle.tabs.proofs.ListTabs.{tab-append, keepIf-append, keepIf-tab-yes, keepIf-tab-no, of-mem-tab}
 use Rattle.store.specs.Store.{isSet, numsIn}
@@ -70,11 +71,6 @@ left-room vs nodes cut i c h b =
       length-append (leftNodes vs cut nodes i) (nodeAt nodes i ∷ []),
     )
 
-pub set-max : (w r : ℕ) → isSet (max w r) ≡ (isSet w || isSet r)
-set-max w r = byTest (eqb w 0)
-    (λ t. let e : max w r ≡ r = omega (arith, eqb-true w 0 t) in rw (t, e))
-    (λ t. let e : eqb (max w r) 0 ≡ false = ne-eqb _ _ (λ (q : max w r ≡ 0). eqb-false w 0 t (omega arith)) in rw (t, e))
-
 -- ---- lists of middles, one more at the end
 
 pub any-snoc : {A : Type 0} (p : A → Bool) (l : List A) (x : A) → anyOf p (l ++ (x ∷ [])) ≡ (anyOf p l || p x)
@@ -101,18 +97,13 @@ from-snoc u j [] q = ap (λ (x : ℕ). newEdge x u (q .fromMid) ∷ []) (sym (ad
 from-snoc u j (m ∷ l) q = ap (λ (r : List Edge). newEdge j u (m .fromMid) ∷ r) (from-snoc u (suc j) l q
     ∙ ap (λ (x : ℕ). edgesFromMiddles (suc j) u l ++ (newEdge x u (q .fromMid) ∷ [])) (omega arith))
 
-pub length-to : (u j : ℕ) (l : List MidPlan) → length (edgesToMiddles u j l) ≡ length l
-unfolding edgesToMiddles
-length-to u j [] = refl
-length-to u j (m ∷ l) = ap suc (length-to u (suc j) l)
-
 pub length-from : (u j : ℕ) (l : List MidPlan) → length (edgesFromMiddles j u l) ≡ length l
 unfolding edgesFromMiddles
 length-from u j [] = refl
 length-from u j (m ∷ l) = ap suc (length-from u (suc j) l)
 
 pub length-mid : (off u j : ℕ) (l : List MidPlan) → length (midEdges off u j l) ≡ length l
-length-mid off u j l = byTest (eqb off 1) (λ t. rw t (length-to u j l)) (λ t. rw t (length-from u j l))
+length-mid off u j l = byTest (eqb off 1) (λ t. rw t (length-toMiddles u j l)) (λ t. rw t (length-from u j l))
 
 -- the edge between u and the middle j
 abbrev pub midEdge : ℕ → ℕ → ℕ → EdgeData → Edge
@@ -171,12 +162,6 @@ pub node-counts : (vs nodes : List ℕ) (cut c : ℕ) → length (leftNodes vs c
 node-counts vs nodes cut c = length-both (leaves vs cut) (numsIn c nodes) ∙ length-tab c (nodeAt nodes)
 
 -- ---- the same nodes, where their lengths are
-
-pub keepIf-same : {A : Type 0} (p q : A → Bool) (l : List A) → ((x : A) → List·Memᴰ x l → p x ≡ q x) → keepIf p l ≡ keepIf q l
-unfolding keepIf
-keepIf-same p q [] h = refl
-keepIf-same {A} p q (x ∷ l) h = λ i. cond (h x (List·Memᴰ·head refl) i) (x ∷ keepIf-same p q l (λ y k. h y (List·Memᴰ·tail k)) i)
-    (keepIf-same p q l (λ y k. h y (List·Memᴰ·tail k)) i)
 
 module _ (vs vs′ nodes : List ℕ) (cut c : ℕ) (same : (i : ℕ) → i < c → lenOf vs′ (getD nodes i 0) ≡ lenOf vs (getD nodes i 0)) where
   leaves-same : (v : ℕ) → List·Memᴰ v (numsIn c nodes) → leaves vs′ cut v ≡ leaves vs cut v

@@ -12,12 +12,13 @@ use Rattle.defs.specs.SeqGraph.{Edge, Graph, vertexSequence, edgesFrom, edgesIn
 use Rattle.defs.specs.Rewrites.{EdgeData, MidPlan, midPlan, processEdge, hasRemaining, edgesToMiddles, edgesFromMiddles, prefixToSuffixFrom}
 use Rattle.defs.specs.Rewrites.{newEdge, joinedData}
 use Rattle.laws.proofs.Walks.{byTest}
-use Rattle.laws.proofs.ListLaws.{keepIf-yes, keepIf-no}
+use Rattle.laws.proofs.ListLaws.{keepIf-yes, keepIf-no, any-yes, any-no}
 use Rattle.tabs.proofs.Tabs.{getD-tab}
 use Rattle.store.specs.Store.{edgeIn, seqIn, seqsIn, graphIn}
+use Rattle.store.proofs.VertexLaws.{part-long}
 use Rattle.index.specs.Index.{pairAt}
 use Rattle.index.proofs.IndexLaws.{from-is, into-is}
-use Rattle.shared.proofs.PartLaws.{length-part, take-part, drop-part}
+use Rattle.shared.proofs.PartLaws.{take-part, drop-part}
 use Rattle.split_update.specs.Pushed.{startOf, lenOf, leaves, restOf}
 use Rattle.split_update.specs.Ends.{endData, planOf, newEdges, isCons}
 use Rattle.split_update.specs.Split.{Middle}
@@ -25,14 +26,6 @@ use Rattle.split_update.specs.declared.Places.{Places}
 use Rattle.split_update.proofs.VertLaws.{filled-is}
 
 -- ---- a vertex without edges out is a reference node where an edge into it is a reference edge
-
-any-yes : {A : Type 0} (p : A → Bool) (x : A) (l : List A) → p x ≡ true → anyOf p (x ∷ l) ≡ true
-unfolding anyOf
-any-yes p x l t = rw (t, anyOf)
-
-any-no : {A : Type 0} (p : A → Bool) (x : A) (l : List A) → p x ≡ false → anyOf p (x ∷ l) ≡ anyOf p l
-unfolding anyOf
-any-no p x l t = rw (t, anyOf)
 
 ref-into : (v : ℕ) (es : List Edge) → keepIf (λ (e : Edge). eqb (e .from) v) es ≡ []
     → anyOf (λ (e : Edge). e .isRef && (eqb (e .from) v || eqb (e .to) v)) es
@@ -85,7 +78,7 @@ module _ (k n m : ℕ) (es vs p heads : List ℕ) (v : ℕ) (M : Middle m es hea
     unfolding vertexSequence
     rest-is =
         let q : getD (seqsIn n vs p) v [] ≡ seqIn vs p v = getD-tab n (seqIn vs p) v [] b in
-        let l : length (seqIn vs p v) ≡ lenOf vs v = length-part p (startOf vs v) (lenOf vs v) inside in
+        let l : length (seqIn vs p v) ≡ lenOf vs v = part-long p (startOf vs v) (lenOf vs v) inside in
         ap (λ (s : List ℕ). drop x (take (length s - y) s)) q
         ∙ ap (λ (z : ℕ). drop x (take (z - y) (seqIn vs p v))) l
         ∙ ap (drop x) (take-part p (startOf vs v) (lenOf vs v) (lenOf vs v - y) (omega arith) inside)

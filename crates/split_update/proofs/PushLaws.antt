@@ -11,10 +11,12 @@ use borrow.Author.Tests.{not-true, not-false}
 use Rattle.defs.specs.Lists.{bit}
 use Rattle.defs.specs.SeqGraph.{Edge}
 use Rattle.defs.specs.Rewrites.{nonEmpty, onlyIf}
+use Rattle.laws.proofs.Diamonds.{nonEmpty-yes}
 use Rattle.tabs.proofs.Tabs.{tab-snoc, tab-ext}
 use Rattle.store.specs.Store.{edge, edgesIn, putEdge, putVertex, part, seqIn, seqsIn}
 use Rattle.store.proofs.EdgeLaws.{length-put, put-at, put-push}
-use Rattle.shared.proofs.PartLaws.{length-part, drop-part, take-part}
+use Rattle.store.proofs.VertexLaws.{part-long, length-put-vertex}
+use Rattle.shared.proofs.PartLaws.{drop-part, take-part}
 use Rattle.split_update.specs.Pushed.{EdgesPushed, edgeIf, VertsPushed, PartPushed}
 
 -- ---- edges
@@ -69,10 +71,6 @@ put-before : (vs : List ℕ) (k s n i : ℕ) → i < 2 * k → getD (putVertex v
 unfolding putVertex
 put-before vs k s n i h = getD-set-other (set vs (2 * k) s) (2 * k + 1) i n 0 (λ z. omega arith) ∙ getD-set-other vs (2 * k) i s 0 (λ z. omega arith)
 
-length-put-vertex : (vs : List ℕ) (k s n : ℕ) → length (putVertex vs k s n) ≡ length vs
-unfolding putVertex
-length-put-vertex vs k s n = simp length-set
-
 pub verts-none : (k : ℕ) (vs p : List ℕ) → VertsPushed k vs p [] k vs
 verts-none k vs p = record { count = omega arith; len = refl; same = λ i h. refl; is = sym (append-nil (seqsIn k vs p)) }
 
@@ -96,11 +94,6 @@ verts-then {k} {vs = vs} {p = p} {x = x} {y = y} A B = record {
   same = λ i h. B .same i (omega (arith, A .count)) ∙ A .same i h;
   is = B .is ∙ ap (λ (l : List (List ℕ)). l ++ y) (A .is) ∙ append-assoc (seqsIn k vs p) x y;
 }
-
-pub nonEmpty-yes : (l : List ℕ) → 0 < length l → nonEmpty l ≡ true
-unfolding nonEmpty
-nonEmpty-yes [] h = absurd (omega arith)
-nonEmpty-yes (x ∷ l) h = refl
 
 pub nonEmpty-no : (l : List ℕ) → length l ≡ 0 → nonEmpty l ≡ false
 unfolding nonEmpty
@@ -128,7 +121,7 @@ part-put {k} {vs} {vs′} {start} {q} z h e = record {
 
 -- a part of the pool stands where it was taken
 pub part-own : (p : List ℕ) (at n : ℕ) → at + n ≤ length p → part p at (length (part p at n)) ≡ part p at n
-part-own p at n b = ap (part p at) (length-part p at n b)
+part-own p at n b = ap (part p at) (part-long p at n b)
 
 -- the part of a sequence that is handed on
 module _ (p : List ℕ) (start len x y : ℕ) (h : x + y ≤ len) (b : start + len ≤ length p) where
@@ -140,4 +133,4 @@ module _ (p : List ℕ) (start len x y : ℕ) (h : x + y ≤ len) (b : start + l
       ∙ take-part p (start + x) (len - x) (len - y - x) (omega arith) (omega arith)
 
   pub rest-length : length (take (len - y - x) (drop x (take (start + len - start) (drop start p)))) ≡ len - y - x
-  rest-length = ap length rest-is ∙ length-part p (start + x) (len - y - x) (omega arith)
+  rest-length = ap length rest-is ∙ part-long p (start + x) (len - y - x) (omega arith)

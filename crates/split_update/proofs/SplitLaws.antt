@@ -17,13 +17,13 @@ use Rattle.laws.proofs.Edges.{Linked, of-raiseAll, order-grown}
 use Rattle.tabs.proofs.Tabs.{length-tab}
 use Rattle.tabs.proofs.ListTabs.{of-mem-tab}
 use Rattle.store.specs.Store.{edgeIn, edgesIn, seqsIn, graphIn, numsIn, EndsBelow}
+use Rattle.store.proofs.VertexLaws.{part-long}
 use Rattle.compact.specs.Compact.{Compactable, Below, Removed}
 use Rattle.compact.specs.declared.Counts.{Counts}
 use Rattle.compact.proofs.CompactLaws.{order-in, ends-mem, mem-ends}
 use Rattle.memory.specs.Memory.{graphOf}
 use Rattle.memory.specs.declared.Held.{Held}
 use Rattle.shared.specs.Shared.{startAt, lenAt}
-use Rattle.shared.proofs.PartLaws.{length-part}
 use Rattle.shared.proofs.SharedLoops.{in-pool, in-verts}
 use Rattle.split_update.specs.Pushed.{filled, lenOf, leaves, leftNodes, restOf}
 use Rattle.split_update.specs.Ends.{planOf, plansOf, goneNodes, nothing, newEdges, newEdgesOf, isCons, Edgeable, EdgesAdded}
@@ -128,7 +128,7 @@ module _ {h : Held} {es vs p heads nodes : List ℕ} {c : ℕ} {mp : List ℕ} {
   plan-at : (v : ℕ) → List·Memᴰ v mids → midPlan g (length pre) (length suf) v ≡ full v
   plan-at v k =
       let r = of-mem-tab c (λ (i : ℕ). getD nodes i 0) k in
-      (λ i. midPlan g (length-part p (startAt vs nodes 0) x in₁ i) (length-part p (startAt vs nodes 0 + lenAt vs nodes 0 - y) y in₂ i) v)
+      (λ i. midPlan g (part-long p (startAt vs nodes 0) x in₁ i) (part-long p (startAt vs nodes 0 + lenAt vs nodes 0 - y) y in₂ i) v)
       ∙ rw (r .2) (plan-is (h .k .0) n m es vs p heads (getD nodes (r .0) 0) (F .middles (r .0) (r .1)) x y (F .parts .below (r .0) (r .1))
       (inside (r .0) (r .1)) (F .long (r .0) (r .1)))
 

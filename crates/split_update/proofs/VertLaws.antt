@@ -10,14 +10,15 @@ use borrow.Author.Tests.{lt-ltb, le-ltb}
 use Rattle.defs.specs.Lists.{bit}
 use Rattle.defs.specs.Rewrites.{nonEmpty, onlyIf}
 use Rattle.laws.proofs.ListLaws.{byOrder, of-keepIf}
+use Rattle.laws.proofs.Diamonds.{nonEmpty-yes}
 use Rattle.tabs.proofs.ListTabs.{of-mem-tab}
 use Rattle.store.specs.Store.{part, numsIn}
+use Rattle.store.proofs.VertexLaws.{part-long}
 use Rattle.shared.specs.Shared.{startAt, lenAt}
-use Rattle.shared.proofs.PartLaws.{length-part}
 use Rattle.shared.proofs.SharedLoops.{in-pool}
 use Rattle.split_update.specs.Pushed.{VertsPushed, filled, PartPushed, startOf, lenOf, leaves, leftNodes, restOf, Restables, RestsPushed}
 use Rattle.split_update.specs.Split.{prefixAt, suffixAt, newVerts, Vertable, VertsAdded}
-use Rattle.split_update.proofs.PushLaws.{verts-then, nonEmpty-yes, nonEmpty-no, part-own}
+use Rattle.split_update.proofs.PushLaws.{verts-then, nonEmpty-no, part-own}
 use Rattle.split_update.proofs.NodeLaws.{left-kept, map-same}
 
 cut-length : (p : List ℕ) (a b : ℕ) → a ≤ b → b ≤ length p → length (take (b - a) (drop a p)) ≡ b - a
@@ -25,8 +26,8 @@ cut-length p a b h k = length-take-le (b - a) (drop a p) (omega (arith, length-d
 
 pub filled-is : (p : List ℕ) (a n : ℕ) → a + n ≤ length p → nonEmpty (part p a n) ≡ ltb 0 n
 filled-is p a n h = byOrder n 0
-    (λ (z : n ≤ 0). nonEmpty-no (part p a n) (length-part p a n h ∙ omega arith) ∙ sym (le-ltb 0 n z))
-    (λ (z : 0 < n). nonEmpty-yes (part p a n) (omega (arith, length-part p a n h)) ∙ sym (lt-ltb 0 n z))
+    (λ (z : n ≤ 0). nonEmpty-no (part p a n) (part-long p a n h ∙ omega arith) ∙ sym (le-ltb 0 n z))
+    (λ (z : 0 < n). nonEmpty-yes (part p a n) (omega (arith, part-long p a n h)) ∙ sym (lt-ltb 0 n z))
 
 length-filled : (p : List ℕ) (a n : ℕ) → a + n ≤ length p → length (filled (part p a n)) ≡ bit (ltb 0 n)
 unfolding onlyIf bit
@@ -159,6 +160,6 @@ module _ {n : ℕ} {vs p nodes : List ℕ} {c x y : ℕ} (F : Vertable n vs p no
         is = verts-then V₁ (verts-then V₂ (subst (λ (z : List (List ℕ)). VertsPushed k₂ vs₂ p z k₃ vs₃) rests-same (A₃ .is)));
         within = λ used w.
             let b = w .at (getD nodes 0 0) (F .parts .below 0 some) in
-            A₃ .within used (A₂ .within used (omega (arith, b, long₀, length-part p (s₀ + l₀ - y) y at₂))
-            (A₁ .within used (omega (arith, b, long₀, length-part p s₀ x at₁)) w));
+            A₃ .within used (A₂ .within used (omega (arith, b, long₀, part-long p (s₀ + l₀ - y) y at₂))
+            (A₁ .within used (omega (arith, b, long₀, part-long p s₀ x at₁)) w));
       }

@@ -21,9 +21,11 @@ use Rattle.laws.proofs.Nets.{order-restrict}
 use Rattle.laws.proofs.Measures.{weight, order-weight, enough-is, Tame}
 use Rattle.laws.proofs.Bound.{firstSplit-tame}
 use Rattle.laws.proofs.Whole.{again, firstSplit-zero, firstSplit-tried, firstSplit-none, firstSplit-some, splitAll-none, splitAll-some}
+use Rattle.tabs.proofs.Tabs.{one-less}
 use Rattle.compact.proofs.CompactLaws.{order-in}
 use Rattle.compact.proofs.LoopLaws.{rank-same}
 use Rattle.store.specs.Store.{isSet, keptBy, Numbered}
+use Rattle.store.proofs.EdgeLaws.{set-is, set-not}
 use Rattle.index.specs.Index.{Indexed, Indexable}
 use Rattle.memory.specs.Memory.{graphOf, workOf, vertexRoom, Room, Holds, Ready, Counted, Left}
 use Rattle.memory.specs.declared.Held.{Held}
@@ -33,13 +35,6 @@ use Rattle.memory.proofs.RoomLaws.{held-vertices, held-edges, held-ends, room-k
 use Rattle.split_suffix.specs.Split.{SplitTried}
 use Rattle.splits.specs.Splits.{Marks, MarksMoved, Cleared, Remarked, Found, SplitFirst, SplitAll}
 use Rattle.splits.proofs.MarkLaws.{marks-after}
-
--- a mark that was read
-set-is : (x : ℕ) → (x ≡ 0 → ⊥) → isSet x ≡ true
-set-is x o = ap not (ne-eqb x 0 o)
-
-unset-is : (x : ℕ) → x ≡ 0 → isSet x ≡ false
-unset-is x o = ap not (eq-eqb x 0 o)
 
 -- ---- one split
 
@@ -112,9 +107,6 @@ pub record Splitting (h : Held) (es₀ vs₀ p nodes₀ mp₀ tried₀ es vs nod
   pub tried-len : length tried ≡ length tried₀
   pub reached : (list : List ℕ) → Marks (h .n) tried₀ list → Reached (graphOf h es₀ vs₀ p) (h .n) list tried v
 
-one-less : (n v : ℕ) → v < n → n - v ≡ suc (n - (v + 1))
-one-less n v h = omega arith
-
 module _ {h : Held} {es₀ vs₀ p nodes₀ mp₀ tried₀ : List ℕ} where
   pub splitting-start : Splitting h es₀ vs₀ p nodes₀ mp₀ tried₀ es₀ vs₀ nodes₀ mp₀ tried₀ 0
   splitting-start = record {
@@ -149,7 +141,7 @@ module _ {h : Held} {es₀ vs₀ p nodes₀ mp₀ tried₀ : List ℕ} where
         now = z .now;
         marks = z .marks;
         is = (λ j. firstSplit (graphOf h es₀ vs₀ p) (z .now) (add-one v j) (h .n - (v + 1)))
-            ∙ sym (firstSplit-tried (graphOf h es₀ vs₀ p) (z .now) v (h .n - (v + 1)) (sym (z .marks .at v b) ∙ set-is (getD tried v 0) o))
+            ∙ sym (firstSplit-tried (graphOf h es₀ vs₀ p) (z .now) v (h .n - (v + 1)) (sym (z .marks .at v b) ∙ set-is o))
             ∙ ap (firstSplit (graphOf h es₀ vs₀ p) (z .now) v) (sym (one-less (h .n) v b)) ∙ z .is;
       };
     }
@@ -161,7 +153,7 @@ module _ {h : Held} {es₀ vs₀ p nodes₀ mp₀ tried₀ : List ℕ} where
           trySplitCommonSuffix (graphOf h (S .same-es j) (S .same-vs j) p) v) (R .left)
 
       not-in : (list : List ℕ) → Marks (h .n) tried list → elemOf v list ≡ false
-      not-in list K = sym (K .at v b) ∙ unset-is (getD tried v 0) o
+      not-in list K = sym (K .at v b) ∙ set-not o
 
       marked : (list : List ℕ) → Marks (h .n) tried list → Marks (h .n) (set tried v 1) (v ∷ list)
       marked list K = more-marks v b (omega (arith, S .tried-len)) K

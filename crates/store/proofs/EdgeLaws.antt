@@ -105,7 +105,14 @@ put-set m es i a b s r c h =
     tab-set m (edgeIn es) (edgeIn (putEdge es i a b s r)) i no-edge c (λ k d ne. put-other es i a b s r k ne)
     ∙ ap (set (edgesIn m es) i) (put-same es i a b s r (omega arith))
 
-set-max : (w r : ℕ) → isSet (max w r) ≡ isSet w || isSet r
+-- a mark, by the number that it is read from
+pub set-is : {x : ℕ} → (x ≡ 0 → ⊥) → isSet x ≡ true
+set-is {x} ne = ap not (ne-eqb x 0 ne)
+
+pub set-not : {x : ℕ} → x ≡ 0 → isSet x ≡ false
+set-not {x} e = ap not (eq-eqb x 0 e)
+
+pub set-max : (w r : ℕ) → isSet (max w r) ≡ isSet w || isSet r
 set-max w r = byTest (eqb w 0)
     (λ t. let e : max w r ≡ r = omega (arith, eqb-true w 0 t) in rw (t, e))
     (λ t. let e : eqb (max w r) 0 ≡ false = ne-eqb _ _ (λ (q : max w r ≡ 0). eqb-false w 0 t (omega arith)) in rw (t, e))

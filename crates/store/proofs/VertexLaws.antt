@@ -1,11 +1,15 @@
--- A stored vertex, number by number. Assumes nothing.
+-- Vertices in slices: the parts of the pool, and a vertex that is written, number by number. Assumes nothing.
 use mathlib.Core.Path.{_≡_, _∙_}
 use mathlib.Core.List.{List}
 use Prim.Native.Nat.{ℕ, _+_, _*_, _≤_}
 use native.Mathlib.Omega.{arith}
-use lib.ListN.{length, getD, set, length-set}
+use lib.ListN.{length, getD, set, drop, length-set, length-take, length-drop}
 use lib.Seq.{getD-set-same, getD-set-other}
-use Rattle.store.specs.Store.{putVertex}
+use Rattle.store.specs.Store.{part, putVertex}
+
+-- a part within the pool is as long as it says
+pub part-long : (p : List ℕ) (a n : ℕ) → a + n ≤ length p → length (part p a n) ≡ n
+part-long p a n h = length-take n (drop a p) ∙ rw (length-drop a p) (omega arith)
 
 module _ (vs : List ℕ) (v s l : ℕ) (h : 2 * v + 2 ≤ length vs) where
   pub put-start : getD (putVertex vs v s l) (2 * v) 0 ≡ s

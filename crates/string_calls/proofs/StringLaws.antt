@@ -14,7 +14,7 @@ use Rattle.defs.specs.Record.{decode}
 use Rattle.defs.specs.Refusals.{Cause, refusalOf, sequenceOnly, recordCauses, recordRefusal}
 use Rattle.defs.specs.Calls.{Response, refused, accepted, fits, isNothing, bytesOrNone, respond, referencePathBytesResponse, pathBasesBytesResponse}
 use Rattle.laws.proofs.Walks.{byTest}
-use Rattle.laws.proofs.ListLaws.{given-some, byOrder}
+use Rattle.laws.proofs.ListLaws.{given-some, byOrder, given-yes}
 use Rattle.laws.proofs.Whole.{no-some}
 use Rattle.memory.specs.Memory.{graphOf, vertexRoom, Room, Holds}
 use Rattle.memory.specs.declared.Held.{Held}
@@ -29,7 +29,7 @@ use Rattle.spell.specs.declared.OptionBytes.{OptionBytes}
 use Rattle.spell.specs.declared.OptionBytes.the-variants.{Some, None}
 use Rattle.spell.proofs.SpellLaws.{none-told, some-told}
 use Rattle.paths.specs.Paths.{Spellable}
-use Rattle.paths.proofs.BytesLaws.{held-spellable, given-yes}
+use Rattle.paths.proofs.BytesLaws.{held-spellable}
 use Rattle.calls.specs.Answers.{Refuses, Accepts, Responds}
 use Rattle.calls.specs.declared.Tally.{Tally}
 use Rattle.calls.specs.declared.Answer.{Answer}

@@ -12,7 +12,7 @@ use lib.ListN.{length, getD}
 use lib.Dec.{eqb}
 use Rattle.defs.specs.Lists.{tab, tabFrom}
 use Rattle.tabs.proofs.Tabs.{tab-snoc, tab-zero, length-tab}
-use Rattle.defs.specs.Lists.{keepIf, keepAt, rank, elemOf, allOf, anyOf}
+use Rattle.defs.specs.Lists.{keepIf, keepAt, headOr, elemOf}
 use Rattle.defs.specs.SeqGraph.{Edge, addOrUpdateEdges}
 use Rattle.laws.proofs.Walks.{byTest}
 use Rattle.laws.proofs.ListLaws.{keepIf-yes, keepIf-no, keepAt-yes, keepAt-no}
@@ -91,3 +91,8 @@ pub elemOf-snoc : (v : ℕ) (xs : List ℕ) (y : ℕ) → elemOf v (xs ++ (y ∷
 unfolding elemOf
 elemOf-snoc v [] y = byTest (eqb v y) (λ t. rw (t, elemOf)) (λ t. rw (t, elemOf))
 elemOf-snoc v (x ∷ xs) y = byTest (eqb v x) (λ t. rw (t, elemOf)) (λ t. rw (t, elemOf) (elemOf-snoc v xs y))
+
+pub head-tab : (n : ℕ) (f : ℕ → ℕ) → 0 < n → headOr 0 (tab n f) ≡ f 0
+unfolding headOr tabFrom
+head-tab zero f h = absurd (omega arith)
+head-tab (suc n) f h = refl

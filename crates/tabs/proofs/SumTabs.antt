@@ -6,6 +6,7 @@ use native.Mathlib.Numerals.{add-one}
 use native.Mathlib.Omega.{arith}
 use native.Mathlib.Decide.{ℕ-discrete}
 use Rattle.defs.specs.Lists.{tab, tabFrom, sum, concat}
+use Rattle.laws.proofs.Counts.{total}
 use Rattle.tabs.proofs.Tabs.{tab-snoc}
 
 sum-snoc : (xs : List ℕ) (y : ℕ) → sum (xs ++ (y ∷ [])) ≡ sum xs + y
@@ -30,6 +31,12 @@ sum-below (suc n) i f h = elim (ℕ-discrete i n) [
   | yes q ↦ rw q (omega (arith, sum-suc n f))
   | no ne ↦ omega (arith, sum-suc n f, sum-below n i f (omega arith))
 ]
+
+-- a total along a list, as a sum
+pub total-sum : {A : Type 0} (f : A → ℕ) (l : List A) → total f l ≡ sum (map f l)
+unfolding total sum
+total-sum f [] = refl
+total-sum f (x ∷ l) = ap (λ (y : ℕ). f x + y) (total-sum f l)
 
 module _ {A : Type 0} where
   pub concat-append : (xs ys : List (List A)) → concat (xs ++ ys) ≡ concat xs ++ concat ys

@@ -113,9 +113,6 @@ module _ {A : Type 0} where
 
 -- ---- tests
 
-pub and-yes : {p q : Bool} → p ≡ true → q ≡ true → p && q ≡ true
-and-yes h k = rw (h, k)
-
 pub and-no-left : {p : Bool} (q : Bool) → p ≡ false → p && q ≡ false
 and-no-left q h = rw h
 
@@ -132,6 +129,10 @@ set-more P to i x h o p k b = elim (ℕ-discrete k i) [
   | no ne ↦ rw (getD-set-other to i k x 0 ne) (o k (omega arith))
 ]
 
+-- the turns that are left before turn i, of n
+pub one-less : (n i : ℕ) → i < n → n - i ≡ suc (n - (i + 1))
+one-less n i h = omega arith
+
 -- ---- `if p { q } else { false }` is `p && q`
 
 pub and-then : {p : Bool} (q : Bool) → p ≡ true → q ≡ p && q
@@ -139,6 +140,3 @@ and-then q h = rw h
 
 pub and-else : {p : Bool} (q : Bool) → p ≡ false → false ≡ p && q
 and-else q h = rw h
-
-pub and-no : {p q : Bool} → p ≡ true → q ≡ false → p && q ≡ false
-and-no h k = rw (h, k)

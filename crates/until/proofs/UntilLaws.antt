@@ -19,6 +19,7 @@ use Rattle.laws.proofs.ListLaws.{clash}
 use Rattle.laws.proofs.Fuel.{Good}
 use Rattle.laws.proofs.Measures.{weight, order-weight, enough-is, Tame, diamond-tame, tails-tame, merge-tame}
 use Rattle.laws.proofs.Whole.{byOption, again, firstAt-some, until-none, until-some}
+use Rattle.tabs.proofs.Tabs.{one-less}
 use Rattle.compact.proofs.CompactLaws.{order-in}
 use Rattle.index.specs.Index.{Indexed, Indexable}
 use Rattle.memory.specs.Memory.{graphOf, workOf, vertexRoom, Room, Fit, Holds, Ready, Counted, Left}
@@ -120,9 +121,6 @@ first-here f v n g t = rw (t, firstAt)
 first-out : (f : ℕ → Option Graph) (v : ℕ) → firstAt f v 0 ≡ none
 unfolding firstAt
 first-out f v = refl
-
-one-less : (n v : ℕ) → v < n → n - v ≡ suc (n - (v + 1))
-one-less n v h = omega arith
 
 -- the slices are as they were, and no vertex before v allows it
 pub record Scanning (f : ℕ → Option Graph) (n : ℕ) (es₀ vs₀ p₀ nodes₀ mp₀ es vs p nodes mp : List ℕ) (v : ℕ) : Type 0 where

@@ -15,6 +15,7 @@ use Rattle.defs.specs.Record.{mark, le16, le32, edgesAt, bytesAt, wholeLength, 
 use Rattle.tabs.proofs.Tabs.{tab-snoc, tab-ext, length-tab}
 use Rattle.tabs.proofs.SumTabs.{sum-none, sum-more, concat-snoc, map-tab}
 use Rattle.store.specs.Store.{isSet, edge, edgeIn, part, seqIn, graphIn, Within}
+use Rattle.store.proofs.VertexLaws.{part-long}
 use Rattle.pool.specs.Pool.{bytesIn}
 use Rattle.memory.specs.Memory.{graphOf}
 use Rattle.memory.specs.declared.Held.{Held}
@@ -139,9 +140,6 @@ edges-length es n = fields-length (λ (i : ℕ). encodeEdge (edgeIn es i)) (λ (
 
 -- ---- sequences
 
-pub part-length : (p : List ℕ) (start i : ℕ) → start + i ≤ length p → length (part p start i) ≡ i
-part-length p start i h = length-take-le i (drop start p) (omega (arith, length-drop start p))
-
 pub part-more : (p : List ℕ) (start i : ℕ) → start + i < length p → part p start (i + 1) ≡ part p start i ++ (getD p (start + i) 0 ∷ [])
 part-more p start i h =
     ap (λ (x : ℕ). take x (drop start p)) (add-one i)
@@ -150,7 +148,7 @@ part-more p start i h =
 
 pub seqs-length : (vs p : List ℕ) (n : ℕ) → Within (length p) n vs → length (concat (tab n (seqIn vs p))) ≡ bytesIn n vs
 seqs-length vs p n W = fields-length (seqIn vs p) (λ (v : ℕ). getD vs (2 * v + 1) 0) n (λ i b.
-    part-length p (getD vs (2 * i) 0) (getD vs (2 * i + 1) 0) (W .at i b))
+    part-long p (getD vs (2 * i) 0) (getD vs (2 * i + 1) 0) (W .at i b))
 
 -- those before v, of n
 pub seqs-before : (vs p : List ℕ) {n : ℕ} (v : ℕ) → Within (length p) n vs → v ≤ n → length (concat (tab v (seqIn vs p))) ≡ bytesIn v vs
@@ -165,7 +163,7 @@ bytes-from s (suc n) f = ap (λ (x : ℕ). length (f s) + x) (bytes-from (suc s)
 
 module _ (status k n m : ℕ) (es vs p : List ℕ) (W : Within (length p) n vs) where
   size : (v : ℕ) → v < n → length (seqIn vs p v) ≡ getD vs (2 * v + 1) 0
-  size v b = part-length p (getD vs (2 * v) 0) (getD vs (2 * v + 1) 0) (W .at v b)
+  size v b = part-long p (getD vs (2 * v) 0) (getD vs (2 * v + 1) 0) (W .at v b)
 
   pub bytes-are : sequenceBytes (tab n (seqIn vs p)) ≡ bytesIn n vs
   bytes-are = bytes-from 0 n (seqIn vs p) ∙ ap sum (tab-ext n (λ (v : ℕ). length (seqIn vs p v)) (λ (v : ℕ). getD vs (2 * v + 1) 0) size)

@@ -24,14 +24,15 @@ use Rattle.laws.proofs.Measures.{bytes-is, zip-tame}
 use Rattle.laws.proofs.ZipLaws.{Chained, src-moved, src-kept}
 use Rattle.laws.proofs.ZipCounts.{distinct-chain, below}
 use Rattle.tabs.proofs.Tabs.{length-tab, getD-tab, tab-ext, tab-set, tab-snoc}
-use Rattle.tabs.proofs.SumTabs.{map-tab, sum-none, sum-more}
+use Rattle.tabs.proofs.SumTabs.{map-tab, sum-none, sum-more, total-sum}
 use Rattle.tabs.proofs.ListTabs.{of-mem-tab, mem-tab}
 use Rattle.store.specs.Store.{part, edgeIn, edgesIn, seqIn, seqsIn, graphIn, numsIn, EndsBelow, Within, putVertex}
+use Rattle.store.proofs.VertexLaws.{part-long}
 use Rattle.compact.specs.Compact.{Compactable, Below, Removed}
 use Rattle.compact.specs.declared.Counts.{Counts}
 use Rattle.compact.proofs.CompactLaws.{order-in, mem-ends, ends-mem}
 use Rattle.pool.specs.Pool.{bytesIn, Packable, Packed}
-use Rattle.pool.proofs.PoolLaws.{part-long, part-same, packed-seqs, packed-within}
+use Rattle.pool.proofs.PoolLaws.{part-same, packed-seqs, packed-within}
 use Rattle.memory.specs.Memory.{graphOf, vertexRoom, edgeRoom, Room, Fit, Holds}
 use Rattle.memory.specs.declared.Held.{Held}
 use Rattle.memory.proofs.RoomLaws.{fit-bytes, fit-tame, held-vertices, held-edges, held-ends}
@@ -39,13 +40,8 @@ use Rattle.zip.specs.Zip.{bytesAt, Writable, Written, movedEdge, EdgesMo
 
 -- ---- lengths
 
-total-map : {A : Type 0} (f : A → ℕ) (l : List A) → total f l ≡ sum (map f l)
-unfolding total sum
-total-map f [] = refl
-total-map f (x ∷ l) = ap (λ (y : ℕ). f x + y) (total-map f l)
-
 total-tab : {A : Type 0} (n : ℕ) (f : A → ℕ) (g : ℕ → A) → total f (tab n g) ≡ sum (tab n (λ (i : ℕ). f (g i)))
-total-tab n f g = total-map f (tab n g) ∙ ap sum (map-tab f n g)
+total-tab n f g = total-sum f (tab n g) ∙ ap sum (map-tab f n g)
 
 -- the bytes of the held sequences
 pub held-bytes : (n : ℕ) (vs p : List ℕ) → Within (length p) n vs → sequenceBytes (seqsIn n vs p) ≡ bytesIn n vs

@@ -16,14 +16,12 @@ use Rattle.tabs.proofs.Tabs.{tab-ext}
 use Rattle.tabs.proofs.SumTabs.{map-tab}
 use Rattle.store.specs.Store.{isSet, edge, edgeIn, edgesIn}
 use Rattle.index.specs.Index.{endOf, Next, Index, pairAt, Indexed}
+use Rattle.index.proofs.IndexLaws.{end-first, pair-first}
 use Rattle.zip.specs.Zip.{movedEdge, EdgesMoved}
-
-from-zero : (es : List ℕ) (e : ℕ) → endOf 0 es e ≡ getD es (4 * e) 0
-from-zero es e = ap (λ (x : ℕ). getD es x 0) (add-zero (4 * e))
 
 -- the next edge comes later
 pub later : {m n : ℕ} {es heads nexts : List ℕ} → Indexed m n es heads nexts → (e : ℕ) → e < m → e < getD nexts (2 * e) 0
-later {nexts = nexts} I e h = omega (arith, I .index 0 (omega arith) .nexts e h .low, ap (λ (y : ℕ). getD nexts y 0) (add-zero (2 * e)))
+later {nexts = nexts} I e h = omega (arith, I .index 0 (omega arith) .nexts e h .low, pair-first nexts e)
 
 -- those before e have moved
 pub record Moving (m : ℕ) (es₀ es : List ℕ) (last start e : ℕ) : Type 0 where
@@ -40,12 +38,12 @@ module _ {m n : ℕ} {es₀ heads nexts : List ℕ} (I : Indexed m n es₀ heads
   pub moving-start : (e : ℕ) → last < n → e ≡ getD heads (2 * last) 0 → Moving m es₀ es₀ last start e
   moving-start e h q =
       let N = I .index 0 (omega arith) .heads last h in
-      let z : e ≡ pairAt 0 heads last = q ∙ ap (λ (x : ℕ). getD heads x 0) (sym (add-zero (2 * last))) in
+      let z : e ≡ pairAt 0 heads last = q ∙ pair-first heads last in
       record {
         high = omega (arith, N .high);
-        hit = λ b. sym (from-zero es₀ e) ∙ ap (endOf 0 es₀) z ∙ N .hit (omega arith);
+        hit = λ b. sym (end-first es₀ e) ∙ ap (endOf 0 es₀) z ∙ N .hit (omega arith);
         len = refl;
-        done = λ j b t. absurd (N .skip j (omega arith) (omega arith) (from-zero es₀ j ∙ t));
+        done = λ j b t. absurd (N .skip j (omega arith) (omega arith) (end-first es₀ j ∙ t));
         kept = λ j b. refl;
         to-kept = λ j. refl;
         support-kept = λ j. refl;
@@ -56,17 +54,17 @@ module _ {m n : ℕ} {es₀ heads nexts : List ℕ} (I : Indexed m n es₀ heads
       → x ≡ getD nexts (2 * e) 0 → Moving m es₀ es′ last start x
   moving-more {es} {es′} {e} M h put x q =
       let N = I .index 0 (omega arith) .nexts e h in
-      let z : x ≡ pairAt 0 nexts e = q ∙ ap (λ (y : ℕ). getD nexts y 0) (sym (add-zero (2 * e))) in
-      let at-last : endOf 0 es₀ e ≡ last = from-zero es₀ e ∙ M .hit h in
+      let z : x ≡ pairAt 0 nexts e = q ∙ pair-first nexts e in
+      let at-last : endOf 0 es₀ e ≡ last = end-first es₀ e ∙ M .hit h in
       let room : 4 * e < length es = omega (arith, M .len, I .room) in
       rw put (record {
         high = omega (arith, N .high);
-        hit = λ b. sym (from-zero es₀ x) ∙ ap (endOf 0 es₀) z ∙ N .hit (omega arith) ∙ at-last;
+        hit = λ b. sym (end-first es₀ x) ∙ ap (endOf 0 es₀) z ∙ N .hit (omega arith) ∙ at-last;
         len = length-set es _ _ ∙ M .len;
         done = λ j b t. elim (ℕ-discrete j e) [
           | yes y ↦ rw y (getD-set-same es (4 * e) start 0 room)
           | no ne ↦ getD-set-other es (4 * e) (4 * j) start 0 (λ w. ne (omega arith))
-              ∙ M .done j (before j ne b t (λ a c d. N .skip j a (omega arith) (from-zero es₀ j ∙ t ∙ sym at-last))) t
+              ∙ M .done j (before j ne b t (λ a c d. N .skip j a (omega arith) (end-first es₀ j ∙ t ∙ sym at-last))) t
         ];
         kept = λ j b. elim (ℕ-discrete j e) [
           | yes y ↦ absurd (omega (arith, b (ap (λ (w : ℕ). getD es₀ (4 * w) 0) y ∙ M .hit h), N .low))

@@ -3,8 +3,9 @@ use native.Mathlib.Omega.{arith}
 use mathlib.Core.Path.{_∙_}
 use Rattle.reach.proofs.ReachLaws.{walkable-kept}
 use Rattle.orphans.proofs.OrphanLaws.{reduced-as}
-use Rattle.connected.proofs.ConnectedLaws.{paths-stay, compactable-kept}
+use Rattle.connected.proofs.ConnectedLaws.{paths-stay}
 use borrow.Author.Needs.{needs}
+use Rattle.compact.proofs.CompactLaws.{compactable-kept}
 use Rattle.connected.proofs.remove_paths_not_connected_to_ref.Statement.{statement}
 use Rattle.connected.proofs.remove_paths_not_connected_to_ref.Tie as tie
 

@@ -3,8 +3,9 @@ use native.Mathlib.Omega.{arith}
 use mathlib.Core.Path.{_∙_}
 use Rattle.refs.proofs.RefLaws.{source-below}
 use Rattle.orphans.proofs.OrphanLaws.{reduced-as}
-use Rattle.connected.proofs.ConnectedLaws.{reduced-same, no-source-stays, connected-stay, compactable-kept}
+use Rattle.connected.proofs.ConnectedLaws.{reduced-same, no-source-stays, connected-stay}
 use borrow.Author.Needs.{needs}
+use Rattle.compact.proofs.CompactLaws.{compactable-kept}
 use Rattle.connected.proofs.remove_vertices_not_connected_to_ref.Statement.{statement}
 use Rattle.connected.proofs.remove_vertices_not_connected_to_ref.Tie as tie
 

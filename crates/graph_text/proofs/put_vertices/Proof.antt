@@ -2,7 +2,7 @@
 use native.Mathlib.Omega.{arith}
 use Prim.Native.Nat.{ℕ, _-_}
 use Rattle.store.specs.Store.{seqIn}
-use Rattle.pool.proofs.PoolLaws.{bytes-more}
+use Rattle.pool.proofs.PoolLaws.{bytesIn-more}
 use Rattle.text.specs.Printed.{vertexLine}
 use Rattle.text.proofs.TextLaws.{Lines, lines-start, lines-more, lines-end, lines-long}
 use Rattle.graph_text.specs.GraphText.{verticesMost}
@@ -22,7 +22,7 @@ loop-again c =
     (at-loop .loop .inv)
     (at-loop-test .loop-test .taken)
     (at-put-vertex .put-vertex .ensures)
-    (omega (arith, bytes-more (at-loop .loop .v) (start .args .vs .now)))
+    (omega (arith, bytesIn-more (at-loop .loop .v) (start .args .vs .now)))
   where
     at-put-vertex : tie.After-put-vertex Inv-loop μ-loop
     at-put-vertex = search

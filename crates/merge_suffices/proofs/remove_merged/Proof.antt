@@ -2,8 +2,8 @@
 use native.Mathlib.Omega.{arith}
 use mathlib.Core.Path.{_∙_}
 use lib.ListN.{length-set}
-use Rattle.compact.proofs.CompactLaws.{removed}
-use Rattle.merge_suffices.proofs.WriteLaws.{marked-more, compactable-kept}
+use Rattle.compact.proofs.CompactLaws.{removed, compactable-kept}
+use Rattle.merge_suffices.proofs.WriteLaws.{marked-more}
 use borrow.Author.Needs.{needs}
 use Rattle.merge_suffices.proofs.remove_merged.Statement.{statement}
 use Rattle.merge_suffices.proofs.remove_merged.Tie as tie

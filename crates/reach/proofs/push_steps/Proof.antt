@@ -4,11 +4,10 @@ use mathlib.Core.Path.{refl, sym, _∙_}
 use Prim.Native.Nat.{_+_, _*_, _-_}
 use lib.ListN.{getD}
 use borrow.Author.Tests.{not-true, not-false}
+use Rattle.store.proofs.EdgeLaws.{set-is, set-not}
 use Rattle.reach.proofs.ReachLaws.{
   Pushing,
   found-most,
-  set-is,
-  set-not,
   pushing-start,
   pushing-later,
   pushing-below,

@@ -3,7 +3,7 @@ use Prim.Native.Nat.{_+_, _-_, _*_, _≤_}
 use mathlib.Core.Path.{_≡_}
 use Rattle.defs.specs.Lists.{tab, tabFrom, sum}
 use Rattle.defs.specs.Record.{lengthAt}
-use Rattle.record.proofs.TurnLaws.{sum-start, sum-turn, sum-none}
+use Rattle.record.proofs.TurnLaws.{sum-start, sum-turn, sum-spent}
 use native.Mathlib.Omega.{arith}
 use Rattle.record.proofs.total_length.Statement.{statement}
 use Rattle.record.proofs.total_length.Tie as tie
@@ -41,7 +41,7 @@ loop-holds c = (omega arith, sum-start (lengthAt (start .args .rec .now)) (start
 
 returns : tie.Need-returns Inv-loop μ-loop
 returns c =
-    omega (arith, sum-none (lengthAt (start .args .rec .now)) (at-loop .loop .i) (start .args .v) (c .loop-test .left))
+    omega (arith, sum-spent (lengthAt (start .args .rec .now)) (at-loop .loop .i) (start .args .v) (c .loop-test .left))
   where
     at-loop : tie.At-loop Inv-loop μ-loop
     at-loop = search

@@ -3,13 +3,13 @@ use native.Mathlib.Omega.{arith}
 use Prim.Native.Nat.{_-_}
 use mathlib.Core.Path.{refl}
 use Rattle.store.specs.Store.{part}
+use Rattle.store.proofs.VertexLaws.{part-long}
 use Rattle.write_record.proofs.WriteLaws.{
   Growing,
   growing-start,
   growing-len,
   growing-more,
   growing-end,
-  part-length,
   part-more,
 }
 use Rattle.write_record.proofs.put_sequence.Statement.{statement}
@@ -27,7 +27,7 @@ loop-again c =
     (at-loop .loop .inv)
     (at-loop-test .loop-test .taken)
     (part-more (start .args .p .now) (start .args .start) (at-loop .loop .i) (omega arith))
-    (omega (arith, part-length (start .args .p .now) (start .args .start) (at-loop .loop .i) (omega arith))) refl
+    (omega (arith, part-long (start .args .p .now) (start .args .start) (at-loop .loop .i) (omega arith))) refl
   where
     at-loop-test : tie.In-loop Inv-loop μ-loop
     at-loop-test = search

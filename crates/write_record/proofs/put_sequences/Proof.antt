@@ -5,7 +5,7 @@ use mathlib.Core.Path.{_≡_, sym, _∙_}
 use mathlib.Core.List.{_++_}
 use Rattle.store.specs.Store.{part, seqIn}
 use Rattle.pool.specs.Pool.{bytesIn}
-use Rattle.pool.proofs.PoolLaws.{bytes-none, bytes-more, bytes-below}
+use Rattle.pool.proofs.PoolLaws.{bytesIn-none, bytesIn-more, bytes-below}
 use Rattle.write_record.proofs.WriteLaws.{
   Growing,
   growing-start,
@@ -28,7 +28,7 @@ abbrev μ-loop : tie.MeasureT-loop
 
 loop-holds : tie.Need-loop-holds Inv-loop μ-loop
 loop-holds c = (
-  omega (arith, bytes-none (start .args .vs .now)),
+  omega (arith, bytesIn-none (start .args .vs .now)),
   growing-start (fields-none (seqIn (start .args .vs .now) (start .args .p .now))),
 )
   where
@@ -76,7 +76,7 @@ add-to c =
 
 loop-again : tie.Need-loop-again Inv-loop μ-loop
 loop-again c = (
-  omega (arith, at-loop .loop .inv .0, bytes-more (at-loop .loop .v) (start .args .vs .now)),
+  omega (arith, at-loop .loop .inv .0, bytesIn-more (at-loop .loop .v) (start .args .vs .now)),
   growing-more _ _ (at-loop .loop .inv .1) (at-loop-test .loop-test .taken)
       (fields-more (seqIn (start .args .vs .now) (start .args .p .now)) (at-loop .loop .v)
       ∙ (λ i. fields (seqIn (start .args .vs .now) (start .args .p .now)) (at-loop .loop .v)

@@ -3,7 +3,7 @@ use native.Mathlib.Omega.{arith}
 use Prim.Native.Nat.{ℕ, _-_, _≤_}
 use mathlib.Core.Path.{_≡_, sym, ap, _∙_}
 use Rattle.pool.specs.Pool.{bytesIn}
-use Rattle.pool.proofs.PoolLaws.{bytes-none, bytes-more, bytes-below}
+use Rattle.pool.proofs.PoolLaws.{bytesIn-none, bytesIn-more, bytes-below}
 use Rattle.write_record.proofs.sequence_bytes.Statement.{statement}
 use Rattle.write_record.proofs.sequence_bytes.Tie as tie
 
@@ -14,7 +14,7 @@ abbrev μ-loop : tie.MeasureT-loop
 μ-loop vs n total₀ v₀ total v = n - v
 
 loop-holds : tie.Need-loop-holds Inv-loop μ-loop
-loop-holds c = (omega arith, sym (bytes-none (start .args .vs .now)))
+loop-holds c = (omega arith, sym (bytesIn-none (start .args .vs .now)))
   where
     start : tie.Start Inv-loop μ-loop
     start = search
@@ -34,7 +34,7 @@ add-total c =
     start = let c = at-loop in search
 
 loop-again : tie.Need-loop-again Inv-loop μ-loop
-loop-again c = (omega arith, omega (arith, bytes-more (at-loop .loop .v) (start .args .vs .now)))
+loop-again c = (omega arith, omega (arith, bytesIn-more (at-loop .loop .v) (start .args .vs .now)))
   where
     at-loop : tie.At-loop Inv-loop μ-loop
     at-loop = search
