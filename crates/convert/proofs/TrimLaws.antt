@@ -14,7 +14,7 @@ use Rattle.defs.specs.SeqGraph.{Graph, vertexSequence, inDegree}
 use Rattle.defs.specs.Assembly.{additionalSequence}
 use Rattle.tabs.proofs.Tabs.{tab-ext, getD-tab}
 use Rattle.store.specs.Store.{part, seqIn, seqsIn, graphIn, putVertex, Within}
-use Rattle.store.proofs.VertexLaws.{part-long, length-put-vertex}
+use Rattle.store.proofs.VertexLaws.{part-long, length-put-vertex, put-start, put-len, put-rest}
 use Rattle.index.specs.Index.{endOf, edgesAt, atFrom, pairAt, Indexed}
 use Rattle.index.proofs.IndexLaws.{in-degree-is, at-none, at-first}
 use Rattle.convert.specs.Convert.{Trimmable, Trimmed}
@@ -30,21 +30,6 @@ last-part p a l h b = sym (ap (λ (x : ℕ). drop (x - 1) (part p a l)) (part-lo
 
     split : take l (drop a p) ≡ take (l - 1) (drop a p) ++ take 1 (drop (l - 1) (drop a p))
     split = let z : l ≡ (l - 1) + 1 = omega arith in ap (λ (x : ℕ). take x (drop a p)) z ∙ take-add (l - 1) 1 (drop a p)
-
--- ---- a store of a vertex
-
-module _ (vs : List ℕ) (v s l : ℕ) (h : 2 * v + 2 ≤ length vs) where
-  put-start : getD (putVertex vs v s l) (2 * v) 0 ≡ s
-  unfolding putVertex
-  put-start = getD-set-other (set vs (2 * v) s) (2 * v + 1) (2 * v) l 0 (λ q. omega arith) ∙ getD-set-same vs (2 * v) s 0 (omega arith)
-
-  put-len : getD (putVertex vs v s l) (2 * v + 1) 0 ≡ l
-  unfolding putVertex
-  put-len = getD-set-same (set vs (2 * v) s) (2 * v + 1) l 0 (omega (arith, length-set vs (2 * v) s))
-
-  put-rest : (x : ℕ) → (x ≡ 2 * v → ⊥) → (x ≡ 2 * v + 1 → ⊥) → getD (putVertex vs v s l) x 0 ≡ getD vs x 0
-  unfolding putVertex
-  put-rest x a b = getD-set-other (set vs (2 * v) s) (2 * v + 1) x l 0 b ∙ getD-set-other vs (2 * v) x s 0 a
 
 -- ---- the loop: the vertices before v are done
 
@@ -114,7 +99,7 @@ module _ {m n : ℕ} {es heads nexts vs₀ : List ℕ} (T : Trimmable n vs₀) (
       room = omega (arith, T .vs-room, W .size)
 
       other : (x : ℕ) → (x ≡ 2 * v → ⊥) → (x ≡ 2 * v + 1 → ⊥) → getD vs′ x 0 ≡ getD vs x 0
-      other x a c = ap (λ (l : List ℕ). getD l x 0) e ∙ put-rest vs v _ 1 room x a c
+      other x a c = ap (λ (l : List ℕ). getD l x 0) e ∙ put-rest vs v _ 1 x a c
 
 -- ---- the sequences then
 
