@@ -13,17 +13,12 @@ use Rattle.defs.specs.Simplify.{sequenceBytes}
 use Rattle.defs.specs.Record.{mark, kindOf, statusOf, le16, le32, u16At, u32At, kOf, verticesOf, edgesOf, bytesOf, bytesAt, wholeLength}
 use Rattle.defs.specs.Record.{encodeEdge, encodeHeader, lengthAt, sequenceAt, edgeStart, flagAt, edgeAt}
 use Rattle.tabs.proofs.Tabs.{tab-ext, take-tab}
-use Rattle.tabs.proofs.SumTabs.{map-tab}
+use Rattle.tabs.proofs.SumTabs.{map-tab, bytes-sum}
 use Rattle.le.proofs.LeLaws.{le16-u16At, le32-u32At}
 use Rattle.record.specs.Layout.{WellFormed}
 use Rattle.record.proofs.Fields.{lengthAt-is, edgeStart-is, flagAt-is, sequenceStart-is, sequenceAt-is, bytesAt-is, wholeLength-is}
 use Rattle.record.proofs.Sequences.{length-sequence}
 use Rattle.codec.proofs.Concat.{concat-parts, concat-widths}
-
-total-bytes : (vs : List (List ℕ)) → sequenceBytes vs ≡ sum (map length vs)
-unfolding sequenceBytes sum
-total-bytes [] = refl
-total-bytes (v ∷ vs) = ap (λ (n : ℕ). length v + n) (total-bytes vs)
 
 bit-flag : (n : ℕ) → n ≤ 1 → bit (eqb n 1) ≡ n
 unfolding bit
@@ -125,7 +120,7 @@ module _ (bs : List ℕ) (small : (i : ℕ) → getD bs i 0 < 256) where
 
     pub bytes-count : sequenceBytes (tab (verticesOf bs) (sequenceAt bs)) ≡ bytesOf bs
     bytes-count =
-        total-bytes (tab (verticesOf bs) (sequenceAt bs))
+        bytes-sum (tab (verticesOf bs) (sequenceAt bs))
         ∙ ap sum (map-tab length (verticesOf bs) (sequenceAt bs) ∙ tab-ext (verticesOf bs) _ _ (λ i below. length-sequence bs i below ok))
         ∙ ok .lengths
 

@@ -44,7 +44,7 @@ module _ (bs : List ℕ) (s : ℕ) (m : List ℕ) (shown : Shows bs s m) where
 
 -- the header
 module _ (kind status k v e b : ℕ) where
-  header-length : length (encodeHeader kind status k v e b) ≡ 32
+  pub header-length : length (encodeHeader kind status k v e b) ≡ 32
   unfolding encodeHeader le16 le32
   header-length = refl
 

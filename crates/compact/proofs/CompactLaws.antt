@@ -14,9 +14,9 @@ use Rattle.defs.specs.SeqGraph.{Edge, Graph, removeVerticesById, compactVertice
 use Rattle.laws.proofs.Nets.{Bounded, bounded-restrict}
 use Rattle.store.specs.Store.{edgeIn, edgesIn, seqIn, graphIn, EndsBelow, keptBy}
 use Rattle.tabs.proofs.ListTabs.{mem-tab, of-mem-tab}
+use Rattle.tabs.proofs.Ranks.{rank-same}
 use Rattle.compact.specs.declared.Counts.{Counts}
 use Rattle.compact.specs.Compact.{Marked, Renumbered, VertsClosed, EdgesClosed, unmarked, Compactable, Compacted, Removed}
-use Rattle.compact.proofs.LoopLaws.{rank-same}
 
 -- ---- two tests that agree below the order close up alike
 

@@ -23,6 +23,7 @@ use Rattle.store.specs.Store.{isSet, edge, edgeIn, edgesIn, putEdge, putVertex,
 use Rattle.store.proofs.EdgeLaws.{put-push, put-other, length-put}
 use Rattle.store.proofs.VertexLaws.{put-start, put-len, put-rest, length-put-vertex}
 use Rattle.tabs.proofs.ListTabs.{tab-append, keepIf-tab-yes, keepIf-tab-no, keepAt-tab-yes, keepAt-tab-no, mem-tab, of-mem-tab, elemOf-snoc}
+use Rattle.tabs.proofs.Ranks.{rank-same}
 use Rattle.compact.specs.Compact.{BothSet, Marked, Renumbered, VertsClosed, EdgesClosed, unmarked}
 
 -- ---- marks
@@ -64,11 +65,6 @@ module _ {n g : ℕ} {gone mp₀ : List ℕ} where
   marking-end {mp} {i} M h = let e : i ≡ g = omega arith in rw e at (M .is)
 
 -- ---- numbers
-
-pub rank-same : (p q : ℕ → Bool) (n : ℕ) → ((v : ℕ) → v < n → p v ≡ q v) → rank p n ≡ rank q n
-unfolding rank
-rank-same p q zero h = refl
-rank-same p q (suc n) h = rw (h n (omega arith)) (ap (λ (x : ℕ). bit (q n) + x) (rank-same p q n (λ v b. h v (omega arith))))
 
 -- the first v vertices have their numbers, j of them stay
 pub record Numbering (n : ℕ) (mp₀ mp : List ℕ) (v j : ℕ) : Type 0 where

@@ -166,7 +166,7 @@ twinless {m} {n} {es} E o = sym (single-from (edgeIn es) 0 m (λ i j a b c.
   where
     none : (i j : ℕ) → i < j → j < m → hasEnds (getD es (4 * i) 0) (getD es (4 * i + 1) 0) (edgeIn es j) ≡ true → ⊥
     none i j b c t =
-        let q = joins-ends (getD es (4 * i) 0) (getD es (4 * i + 1) 0) 0 true (edgeIn es j) t in
+        let q = joins-ends (getD es (4 * i) 0) (getD es (4 * i + 1) 0) (edgeIn es j) t in
         o (endOf 0 es i) (omega (arith, end-first es i, E .at i (omega arith) .0))
         record { first = i; second = j; order = b; below = c; from-first = refl; from-second = end-first es j ∙ q .0 ∙ sym (end-first es i); to-same = sym (q .1) }
 

@@ -14,7 +14,7 @@ use Rattle.defs.specs.Cleanup.{forward, backward, reached, removePathsNotConnec
 use Rattle.defs.specs.Strings.{SpellsBetween, HasEdge, IsPath, Spells, spelled}
 use Rattle.laws.proofs.Walks.{Net, start, at, stop, Steps, stay, step, cast, Reads, IsSource, IsSink, byTest}
 use Rattle.laws.proofs.ListLaws.{clash, and-split, and-true, rank-no}
-use Rattle.laws.proofs.Nets.{Ranks, Bounded, partOf, order-restrict, bounded-restrict, ranks-restrict, closed, reads-restrict}
+use Rattle.laws.proofs.Nets.{Ranks, Bounded, partOf, order-restrict, bounded-restrict, ranks-restrict, closed, reads-restrict, edge-inside}
 use Rattle.laws.proofs.Nets.{of-reads-restrict, spells-reads, reads-spells}
 use Rattle.laws.proofs.Sound.{Sound}
 use Rattle.laws.proofs.Reach.{Hop, Way, way-more, way-last, is-reached, of-reached, hop-edge, edge-hop}
@@ -29,15 +29,12 @@ module _ (g : Graph) where
   back-hop u v (e, m, p, q) = (e, m, and-true _ _ (eq-eqb _ _ q) (eq-eqb _ _ p))
 
   module _ (bounded : Bounded g) (r : ℕ → ℕ) (ranks : Ranks g r) where
-    inside : (u v : ℕ) → HasEdge g u v → (u < nodeCount g) × (v < nodeCount g)
-    inside u v (e, m, p, q) = rw (← p, ← q) (bounded e m)
-
     is-forward : (m u v : ℕ) → u < nodeCount g → Way forward g m u v → elemOf v (reached forward g u) ≡ true
-    is-forward = is-reached forward g (λ u v h. (inside u v (hop-edge g u v h)) .1) (λ u v. r u < r v) (λ a b c h k. omega arith) (λ a h.
+    is-forward = is-reached forward g (λ u v h. (edge-inside g bounded u v (hop-edge g u v h)) .1) (λ u v. r u < r v) (λ a b c h k. omega arith) (λ a h.
         omega arith) (λ u v h. ranks u v (hop-edge g u v h))
 
     is-backward : (m u v : ℕ) → u < nodeCount g → Way backward g m u v → elemOf v (reached backward g u) ≡ true
-    is-backward = is-reached backward g (λ u v h. (inside v u (back u v h)) .0) (λ u v. r v < r u) (λ a b c h k. omega arith) (λ a h.
+    is-backward = is-reached backward g (λ u v h. (edge-inside g bounded v u (back u v h)) .0) (λ u v. r v < r u) (λ a b c h k. omega arith) (λ a h.
         omega arith) (λ u v h. ranks v u (back u v h))
 
     up : (m u v : ℕ) → Way forward g m u v → r u ≤ r v
@@ -103,7 +100,7 @@ module _ (g : Graph) where
       onward v (step {q = start} h w) = absurd h
       onward v (step {q = at u} {s = x} (e, _, _) w) =
           let z = onward u w in
-          (u ∷ z .0, ((inside v u e) .0, e, z .1), z .2, ap (λ y. vertexSequence g u ++ y) (z .3))
+          (u ∷ z .0, ((edge-inside g bounded v u e) .0, e, z .1), z .2, ap (λ y. vertexSequence g u ++ y) (z .3))
       onward v (step {q = stop} h stay) = ([], h .0 .0, only-sink v h, refl)
       onward v (step {q = stop} h (step k w)) = absurd k
 

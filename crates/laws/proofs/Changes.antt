@@ -16,7 +16,7 @@ use Rattle.defs.specs.Strings.{HasEdge, Spells}
 use Rattle.laws.proofs.Walks.{Net, Pt, start, at, stop, Go, IsSource, IsSink, Steps, single, cast, Tour, hit, pass, Replaces, kept, reads, byTest}
 use Rattle.laws.proofs.ListLaws.{clash, and-split, and-true, byOrder}
 use Rattle.laws.proofs.Nets.{Ranks, ranks-restrict, closed, netOf, partOf, Bounded, reads-restrict, of-reads-restrict, spells-reads}
-use Rattle.laws.proofs.Nets.{reads-spells, bounded-restrict}
+use Rattle.laws.proofs.Nets.{reads-spells, bounded-restrict, edge-inside}
 use Rattle.laws.proofs.Edges.{Linked, raiseAll-keeps, raiseAll-adds, of-raiseAll, keeps-not, not-keeps, keeps-other, order-grown, seq-grown-old}
 use Rattle.laws.proofs.Counts.{total, total-append, total-one, total-same, Distinct, total-kept, Single, single-raiseAll}
 use Rattle.laws.proofs.Counts.{single-renumber, count-raiseAll, length-both, gone-raiseAll}
@@ -64,9 +64,6 @@ pub record Local (g : Graph) (c : Change) : Type 0 where
   pub out₂ : (u y : ℕ) → Linked (c .edges) u y → u < nodeCount g → (x : ℕ) × HasEdge g u x
 
 module _ (g : Graph) (bounded : Bounded g) (c : Change) where
-  pub linked-old : (u v : ℕ) → HasEdge g u v → (u < nodeCount g) × (v < nodeCount g)
-  linked-old u v (e, m, p, q) = rw (← p, ← q) (bounded e m)
-
   abbrev pub keep : ℕ → Bool
   keep = keeps (c .gone)
 
@@ -103,7 +100,7 @@ module _ (g : Graph) (bounded : Bounded g) (c : Change) where
   module _ (l : Local g c) where
     pub bounded-grown : Bounded (withAdditions c g)
     bounded-grown e m = of-grown (e .from) (e .to) (e, m, refl, refl)
-        (λ h. let b = linked-old (e .from) (e .to) h in (old-less (e .from) (b .0), old-less (e .to) (b .1)))
+        (λ h. let b = edge-inside g bounded (e .from) (e .to) h in (old-less (e .from) (b .0), old-less (e .to) (b .1)))
         (l .below (e .from) (e .to))
 
     pub link-U : (u v : ℕ) → Linked (c .edges) u v → U .Ed u v
@@ -111,13 +108,13 @@ module _ (g : Graph) (bounded : Bounded g) (c : Change) where
 
     -- an edge from or to a new vertex is a link
     pub of-U-new : (u v : ℕ) → U .Ed u v → (nodeCount g ≤ u) ⊎ (nodeCount g ≤ v) → Linked (c .edges) u v
-    of-U-new u v h n = of-grown u v (h .0) (λ k. let b = linked-old u v k in
+    of-U-new u v h n = of-grown u v (h .0) (λ k. let b = edge-inside g bounded u v k in
         absurd (⊎-elim (λ (i : nodeCount g ≤ u). omega arith) (λ (i : nodeCount g ≤ v). omega arith) n)) (λ k. k)
 
     pub forth : Agree N U common
     forth = record {
       vx = λ v t h. (old-less v h, (common-is v t) .0);
-      ends = linked-old;
+      ends = edge-inside g bounded;
       ed = λ u v s t h. (grown-old u v h, (common-is u s) .0, (common-is v t) .0);
       lab = λ v t h. seq-grown-old g c v h;
       source = λ v t h x k. of-grown x v (k .0) (h .1 x) (λ j. let z = l .in₂ x v j (h .0) in h .1 (z .0) (z .1));
@@ -152,7 +149,7 @@ module _ (g : Graph) (bounded : Bounded g) (c : Change) where
       where
         old-of : (p : Pt) → Go N p (at x) → x < nodeCount g
         old-of start h = h .0
-        old-of (at u) h = (linked-old u x h) .1
+        old-of (at u) h = (edge-inside g bounded u x h) .1
         old-of stop h = absurd h
 
     via-back : Back → Via U N common

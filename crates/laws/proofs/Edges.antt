@@ -30,6 +30,11 @@ pub linked-cases : {X : Type 0} (e : Edge) (es : List Edge) (a b : ℕ) → Link
 linked-cases e es a b (f, m, p, q) k h =
     ⊎-elim (λ (i : f ≡ e). k (ap (λ (x : Edge). x .from) (sym i) ∙ p) (ap (λ (x : Edge). x .to) (sym i) ∙ q)) (λ n. h (f, n, p, q)) (List·Memᴰ·cases-cons m)
 
+-- an edge has the ends that it is asked for
+pub joins-ends : (u v : ℕ) (e : Edge) → hasEnds u v e ≡ true → (e .from ≡ u) × (e .to ≡ v)
+unfolding hasEnds
+joins-ends u v e t = let h = and-split _ _ t in (eqb-true _ _ (h .0), eqb-true _ _ (h .1))
+
 module _ (u v s : ℕ) (r : Bool) where
   pub raise-yes : (e : Edge) (es : List Edge) → hasEnds u v e ≡ true
       → addOrUpdateEdge u v s r (e ∷ es) ≡ record {
@@ -46,10 +51,6 @@ module _ (u v s : ℕ) (r : Bool) where
   unfolding addOrUpdateEdge
   raise-no e es t = rw (t, addOrUpdateEdge)
 
-  pub joins-ends : (e : Edge) → hasEnds u v e ≡ true → (e .from ≡ u) × (e .to ≡ v)
-  unfolding hasEnds
-  joins-ends e t = let h = and-split _ _ t in (eqb-true _ _ (h .0), eqb-true _ _ (h .1))
-
   pub raise-keeps : (es : List Edge) (a b : ℕ) → Linked es a b → Linked (addOrUpdateEdge u v s r es) a b
   raise-keeps [] a b l = absurd (List·Memᴰ·not-nil (l .1))
   raise-keeps (e ∷ es) a b l =
@@ -62,7 +63,7 @@ module _ (u v s : ℕ) (r : Bool) where
   raise-adds [] = (_, List·Memᴰ·head refl, refl, refl)
   raise-adds (e ∷ es) =
       byTest (hasEnds u v e)
-      (λ t. rw (raise-yes e es t) (_, List·Memᴰ·head refl, (joins-ends e t) .0, (joins-ends e t) .1))
+      (λ t. rw (raise-yes e es t) (_, List·Memᴰ·head refl, (joins-ends u v e t) .0, (joins-ends u v e t) .1))
       (λ t. rw (raise-no e es t) (linked-tail u v (raise-adds es)))
 
   pub of-raise : {X : Type 0} (es : List Edge) (a b : ℕ) → Linked (addOrUpdateEdge u v s r es) a b → (Linked es a b → X) → (u ≡ a → v ≡ b → X) → X

@@ -29,6 +29,9 @@ partOf p g = record {
 abbrev pub Bounded : Graph → Type 0
 Bounded g = (e : Edge) → List·Memᴰ e (g .edges) → (e .from < nodeCount g) × (e .to < nodeCount g)
 
+pub edge-inside : (g : Graph) → Bounded g → (u v : ℕ) → HasEdge g u v → (u < nodeCount g) × (v < nodeCount g)
+edge-inside g bounded u v (e, m, p, q) = rw (← p, ← q) (bounded e m)
+
 -- there is a rank that rises along each edge
 abbrev pub Ranks : Graph → (ℕ → ℕ) → Type 0
 Ranks g r = (u v : ℕ) → HasEdge g u v → r u < r v

@@ -110,7 +110,7 @@ starts-idle zero (s ∷ ss) w l e = absurd (omega arith)
 starts-idle (suc fuel) [] w l e = (zip-empty fuel w, λ s m. absurd (List·Memᴰ·not-nil m))
 starts-idle (suc fuel) (s ∷ ss) w l e = starts-turn fuel s ss w e (λ k. starts-idle fuel ss w (omega arith) k)
 
-chain-none : (g : Graph) (s : ℕ) → isLinearChainStart g s ≡ false → linearChain g s ≡ []
+pub chain-none : (g : Graph) (s : ℕ) → isLinearChainStart g s ≡ false → linearChain g s ≡ []
 unfolding linearChain
 chain-none g s t = byTest (ltb s (nodeCount g)) (λ u. rw (and-false (ltb s (nodeCount g)) (isLinearChainStart g s) t, linearChain)) (λ u.
     rw (and-false (ltb s (nodeCount g)) (isLinearChainStart g s) t, linearChain))

@@ -87,10 +87,10 @@ unfolding edgesToMiddles
 length-toMiddles t n [] = refl
 length-toMiddles t n (p ∷ ps) = ap suc (length-toMiddles t (suc n) ps)
 
-length-linksFrom : (n b : ℕ) (ps : List MidPlan) → length (edgesFromMiddles n b ps) ≡ length ps
+pub length-fromMiddles : (n b : ℕ) (ps : List MidPlan) → length (edgesFromMiddles n b ps) ≡ length ps
 unfolding edgesFromMiddles
-length-linksFrom n b [] = refl
-length-linksFrom n b (p ∷ ps) = ap suc (length-linksFrom (suc n) b ps)
+length-fromMiddles n b [] = refl
+length-fromMiddles n b (p ∷ ps) = ap suc (length-fromMiddles (suc n) b ps)
 
 length-linkMaybe : (u v : ℕ) (o : Option EdgeData) → length (newEdgeIf u v o) ≡ loads o
 unfolding newEdgeIf loads
@@ -156,7 +156,7 @@ module _ (P S′ : Bool) (g : Graph) (top : ℕ) (bottom : Option ℕ) (lefts : 
         length-only (S′ && not (isNone bottom)) (S.last P S′ n top bottom lefts gone prefix suffix mids),
         length-toMiddles t (S.mv P S′ n top bottom lefts gone prefix suffix mids) lefts,
         length-linkMaybe t b gone,
-        length-linksFrom (S.mv P S′ n top bottom lefts gone prefix suffix mids) b lefts,
+        length-fromMiddles (S.mv P S′ n top bottom lefts gone prefix suffix mids) b lefts,
       )
 
   known : (l : EdgeData) → gone ≡ some l → Linked (addOrUpdateEdges but-last (g .edges)) t b

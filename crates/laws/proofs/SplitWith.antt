@@ -20,9 +20,9 @@ use Rattle.laws.proofs.Counts.{total, Distinct}
 use Rattle.laws.proofs.Sound.{Keeps}
 use Rattle.laws.proofs.Walks.{Net, Pt, start, at, stop, Go, text, IsSink, Steps, stay, step, single, then, cast, Tour, hit, pass, kept, byTest}
 use Rattle.laws.proofs.ListLaws.{clash, byOrder, and-split, and-true, bit-yes}
-use Rattle.laws.proofs.Nets.{Ranks, netOf, partOf, Bounded}
+use Rattle.laws.proofs.Nets.{Ranks, netOf, partOf, Bounded, edge-inside}
 use Rattle.laws.proofs.Edges.{Linked, linked-cases, linked-tail, keeps-other, order-grown, seq-grown-new, seq-grown-old}
-use Rattle.laws.proofs.Changes.{Local, Forth, Back, common, common-is, is-common, linked-old, link-U, of-U-new, spells-change}
+use Rattle.laws.proofs.Changes.{Local, Forth, Back, common, common-is, is-common, link-U, of-U-new, spells-change}
 use Rattle.laws.proofs.Changes.{old-less, of-grown, ranks-change, bounded-change, weight-change, order-change, sink-old, edges-local}
 use Rattle.laws.proofs.Changes.{verts-local}
 use Rattle.laws.proofs.Branching.{ends, sinks, sinks-by}
@@ -256,7 +256,7 @@ module _ (g : Graph) (bounded : Bounded g) (r : ℕ → ℕ) (ranks : Ranks g r)
   b″ = cond S (bit P + nodeCount g) (orElse 0 bottom)
 
   old-edge : (u v : ℕ) → HasEdge g u v → (u < nodeCount g) × (v < nodeCount g)
-  old-edge = linked-old g bounded C
+  old-edge = edge-inside g bounded
 
   top-old : top < nodeCount g
   top-old = (old-edge top (someMid .0) (midIn (someMid .0) (someMid .1))) .0

@@ -22,13 +22,13 @@ use Rattle.defs.specs.Rewrites.{trySplitCommonSuffix, wouldEliminateRefSource}
 use Rattle.defs.specs.Strings.{HasEdge, Spells}
 use Rattle.laws.proofs.Walks.{Net, Pt, start, at, stop, Go, text, Steps, stay, step, single, then, cast, Tour, hit, pass, kept}
 use Rattle.laws.proofs.ListLaws.{clash, byOrder, given-some, and-split}
-use Rattle.laws.proofs.Nets.{Ranks, netOf, partOf, Bounded}
+use Rattle.laws.proofs.Nets.{Ranks, netOf, partOf, Bounded, edge-inside}
 use Rattle.laws.proofs.Edges.{Linked, linked-cases, linked-tail, keeps-not, keeps-other, order-grown, seq-grown-new, seq-grown-old}
 use Rattle.laws.proofs.Edges.{allOf-mem, nonempty, of-edgesInto, in-edgesInto, only-out, of-mem-ins, mem-ins}
 use Rattle.laws.proofs.SharedLaws.{sharedSuffix-each}
 use Rattle.laws.proofs.SplitWith.{linked-append, linked-left, linked-right}
 use Rattle.laws.proofs.Sound.{Sound, Keeps}
-use Rattle.laws.proofs.Changes.{Local, Forth, Back, common, common-is, is-common, linked-old, link-U, of-U-new, of-grown}
+use Rattle.laws.proofs.Changes.{Local, Forth, Back, common, common-is, is-common, link-U, of-U-new, of-grown}
 use Rattle.laws.proofs.Changes.{spells-change, old-less, ranks-change, bounded-change}
 
 module _ (g : Graph) (bottom : ℕ) (suffix : List ℕ) where
@@ -238,7 +238,7 @@ module _ (g : Graph) (bounded : Bounded g) (r : ℕ → ℕ) (ranks : Ranks g r)
   en k m = entry g bottom suffix k m
 
   pub old-edge : (u v : ℕ) → HasEdge g u v → (u < nodeCount g) × (v < nodeCount g)
-  old-edge = linked-old g bounded c
+  old-edge = edge-inside g bounded
 
   pub prev-edge : (m : ℕ) → List·Memᴰ m prevs → HasEdge g m bottom
   prev-edge m k = of-mem-ins g m bottom k

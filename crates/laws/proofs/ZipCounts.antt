@@ -13,7 +13,7 @@ use Rattle.defs.specs.Lists.{keepIf, keepAt, bit, concat}
 use Rattle.defs.specs.SeqGraph.{Edge, Graph, nodeCount, vertexSequence, keeps, edgesInto, removeVerticesById, compactVertices, remapEdge}
 use Rattle.defs.specs.Zip.{lastOf, moveFrom, mergeLinearChain}
 use Rattle.laws.proofs.Walks.{byTest}
-use Rattle.laws.proofs.Nets.{Ranks, Bounded}
+use Rattle.laws.proofs.Nets.{Ranks, Bounded, edge-inside}
 use Rattle.laws.proofs.Edges.{keeps-not, in-edgesInto}
 use Rattle.laws.proofs.Counts.{total, total-le, total-same, total-add, total-one, length-keepIf, Distinct, total-kept, Single}
 use Rattle.laws.proofs.Counts.{single-renumber, length-flat, times-none, times-le, bit-le}
@@ -72,7 +72,7 @@ module _ (g : Graph) (bounded : Bounded g) (r : ℕ → ℕ) (ranks : Ranks g r)
     once-rest = (distinct-chain s rest chained) .1
 
     pub below : (v : ℕ) → List·Memᴰ v rest → v < nodeCount g
-    below v m = let a = Z.pred-in g bounded r ranks s rest chained v m in (Z.old g bounded r ranks s y ys chained (a .0) v (a .1)) .1
+    below v m = let a = Z.pred-in g bounded r ranks s rest chained v m in (edge-inside g bounded (a .0) v (a .1)) .1
 
     belowG : (v : ℕ) → List·Memᴰ v rest → v < length (G .verts)
     belowG v m = unfold nodeCount in omega (arith, below v m, Z.order-G g bounded r ranks s y ys chained)

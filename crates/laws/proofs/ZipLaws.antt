@@ -20,7 +20,7 @@ use Rattle.laws.proofs.Walks.{Net, Pt, start, at, stop, Go, text, IsSou
 use Rattle.laws.proofs.Walks.{Tour, hit, pass, Replaces, kept, reads, byTest}
 use Rattle.laws.proofs.ListLaws.{clash, and-split, byOrder}
 use Rattle.laws.proofs.Nets.{Ranks, ranks-restrict, closed, netOf, partOf, Bounded, reads-restrict, of-reads-restrict, spells-reads}
-use Rattle.laws.proofs.Nets.{reads-spells, bounded-restrict}
+use Rattle.laws.proofs.Nets.{reads-spells, bounded-restrict, edge-inside}
 use Rattle.laws.proofs.Edges.{Linked, keeps-not, not-keeps, keeps-other, elemOf-true, elemOf-mem, only-out}
 use Rattle.laws.proofs.Sound.{Keeps}
 use Rattle.laws.proofs.MergeCounts.{mem-head}
@@ -97,9 +97,6 @@ module _ (g : Graph) (bounded : Bounded g) (r : ℕ → ℕ) (ranks : Ranks g r)
     unfoldable pub U : Net
     U = partOf (keeps (y ∷ ys)) G
 
-    pub old : (u v : ℕ) → HasEdge g u v → (u < nodeCount g) × (v < nodeCount g)
-    old u v (e, m, p, q) = rw (← p, ← q) (bounded e m)
-
     pub out-last : (w : ℕ) → HasEdge g last w → List·Memᴰ w (s ∷ y ∷ ys) → ⊥
     out-last w h m = let a = rank-in s rest chained w m in omega (arith, ranks last w h)
 
@@ -150,7 +147,7 @@ module _ (g : Graph) (bounded : Bounded g) (r : ℕ → ℕ) (ranks : Ranks g r)
 
     pub seq-s : vertexSequence G s ≡ vertexSequence g s ++ concat (map (vertexSequence g) rest)
     unfolding vertexSequence nodeCount concat
-    seq-s = getD-set-same (g .verts) s _ [] (unfold nodeCount in (old s y (chained .0)) .0)
+    seq-s = getD-set-same (g .verts) s _ [] (unfold nodeCount in (edge-inside g bounded s y (chained .0)) .0)
 
     pub common-not : (v : ℕ) → common v ≡ true → List·Memᴰ v (s ∷ rest) → ⊥
     unfolding common
@@ -178,7 +175,7 @@ module _ (g : Graph) (bounded : Bounded g) (r : ℕ → ℕ) (ranks : Ranks g r)
     unfolding U
     forth = record {
       vx = λ v t h. (rw order-G h, common-keep v t);
-      ends = old;
+      ends = edge-inside g bounded;
       ed = λ u v a b h. (unmoved u v h (last-not u a), common-keep u a, common-keep v b);
       lab = λ v t h. seq-other v (λ e. common-not v t (List·Memᴰ·head e));
       source = λ v t h x k. of-G x v (k .0) (λ l _. h .1 x l) (λ _ l. h .1 last l);
@@ -189,8 +186,8 @@ module _ (g : Graph) (bounded : Bounded g) (r : ℕ → ℕ) (ranks : Ranks g r)
     unfolding U
     back = record {
       vx = λ v t h. rw order-G at (h .0);
-      ends = λ u v h. of-G u v (h .0) (λ l _. let b = old u v l in ((rw order-G (b .0), h .1), (rw order-G (b .1), h .2))) (λ e l.
-          ((rw (order-G, e) ((old s y (chained .0)) .0), h .1), (rw order-G ((old last v l) .1), h .2)));
+      ends = λ u v h. of-G u v (h .0) (λ l _. let b = edge-inside g bounded u v l in ((rw order-G (b .0), h .1), (rw order-G (b .1), h .2))) (λ e l.
+          ((rw (order-G, e) ((edge-inside g bounded s y (chained .0)) .0), h .1), (rw order-G ((edge-inside g bounded last v l) .1), h .2)));
       ed = λ u v a b h. of-G u v (h .0) (λ l _. l) (λ e _. absurd (common-not u a (List·Memᴰ·head e)));
       lab = λ v t h. sym (seq-other v (λ e. common-not v t (List·Memᴰ·head e)));
       source = λ v t h x k. byTest (common x)
@@ -237,10 +234,10 @@ module _ (g : Graph) (bounded : Bounded g) (r : ℕ → ℕ) (ranks : Ranks g r)
     enter stop x t h m f = absurd h
 
     pub s-old : s < nodeCount g
-    s-old = (old s y (chained .0)) .0
+    s-old = (edge-inside g bounded s y (chained .0)) .0
 
     pub last-old : last < nodeCount g
-    last-old = ⊎-elim (λ (e : last ≡ s). rw e s-old) (λ n. let a = pred-in s rest chained last n in (old (a .0) last (a .1)) .1)
+    last-old = ⊎-elim (λ (e : last ≡ s). rw e s-old) (λ n. let a = pred-in s rest chained last n in (edge-inside g bounded (a .0) last (a .1)) .1)
         (List·Memᴰ·cases-cons (last-in s rest))
 
     pub to-s : (p : Pt) → kept common p ≡ true → Go N p (at s) → Go U p (at s)
@@ -311,8 +308,8 @@ module _ (g : Graph) (bounded : Bounded g) (r : ℕ → ℕ) (ranks : Ranks g r)
 
     pub boundedG : Bounded G
     boundedG e m = of-G (e .from) (e .to) (e, m, refl, refl)
-        (λ l _. let b = old (e .from) (e .to) l in (rw order-G (b .0), rw order-G (b .1)))
-        (λ i l. (rw (order-G, i) s-old, rw order-G ((old last (e .to) l) .1)))
+        (λ l _. let b = edge-inside g bounded (e .from) (e .to) l in (rw order-G (b .0), rw order-G (b .1)))
+        (λ i l. (rw (order-G, i) s-old, rw order-G ((edge-inside g bounded last (e .to) l) .1)))
 
     pub bounded-zip : Bounded (mergeLinearChain g s rest)
     unfolding mergeLinearChain removeVerticesById

@@ -8,7 +8,7 @@ use Rattle.defs.specs.SeqGraph.{Edge, Graph, nodeCount}
 use Rattle.defs.specs.Simplify.{sequenceBytes, emptyVertices}
 use Rattle.laws.proofs.Measures.{weight, load, order-weight, Tame}
 use Rattle.tabs.proofs.Tabs.{length-tab}
-use Rattle.store.specs.Store.{edgeIn, edgesIn, seqIn, graphIn, EndsBelow}
+use Rattle.store.specs.Store.{edgeIn, edgesIn, seqIn, graphIn, EndsBelow, Within}
 use Rattle.compact.proofs.CompactLaws.{order-in, mem-ends}
 use Rattle.memory.specs.Memory.{graphOf, vertexRoom, edgeRoom, Room, Fit, Holds}
 use Rattle.memory.specs.declared.Held.{Held}
@@ -38,6 +38,10 @@ module _ {h : Held} {es vs p heads nexts : List ℕ} (H : Holds h es vs p heads 
 
   pub held-ends : EndsBelow (h .n) (h .m) es
   held-ends = mem-ends (h .n) (h .m) es (λ e b. rw (order-in (h .k .0) (h .n) (h .m) es vs p) at (H .fit .good .0 .bounded e b))
+
+  -- the sequences lie in the pool
+  pub held-pool : {nodes mp : List ℕ} → Room es vs p heads nexts nodes mp → Within (length p) (h .n) vs
+  held-pool R = record { at = λ v b. omega (arith, H .within .at v b, H .used-room, R .p-room) }
 
 -- room goes by lengths
 pub room-kept : {es vs p heads nexts nodes mp es′ vs′ p′ heads′ nexts′ nodes′ mp′ : List ℕ} → Room es vs p heads nexts nodes mp

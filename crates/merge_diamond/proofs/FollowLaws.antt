@@ -11,6 +11,7 @@ use Rattle.defs.specs.Rewrites.{sharedPrefix, sharedSuffix}
 use Rattle.laws.proofs.ListLaws.{byOrder, of-keepIf}
 use Rattle.tabs.proofs.Tabs.{getD-tab, tab-ext}
 use Rattle.tabs.proofs.ListTabs.{mem-tab, of-mem-tab}
+use Rattle.tabs.proofs.SumTabs.{map-tab}
 use Rattle.store.specs.Store.{seqIn, seqsIn, numsIn, EndsBelow}
 use Rattle.store.proofs.VertexLaws.{part-long}
 use Rattle.compact.specs.Compact.{Below}
@@ -21,7 +22,6 @@ use Rattle.memory.specs.Memory.{graphOf, Room, Holds}
 use Rattle.memory.specs.declared.Held.{Held}
 use Rattle.memory.proofs.RoomLaws.{held-vertices, held-edges, held-ends}
 use Rattle.shared.specs.Shared.{Parts, startAt, lenAt, seqsAt, Prefix, Suffix}
-use Rattle.shared.proofs.PartLaws.{map-tab}
 use Rattle.shared.proofs.SharedLoops.{in-pool}
 use Rattle.split_update.specs.Split.{Middle, prefixAt, suffixAt, splitChange, Splittable}
 use Rattle.merge_diamond.proofs.GrownLaws.{Grown}

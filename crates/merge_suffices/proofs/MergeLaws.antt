@@ -27,7 +27,7 @@ use Rattle.laws.proofs.Measures.{load, Tame, bytes-is, merge-tame}
 use Rattle.tabs.proofs.Tabs.{length-tab, getD-tab, tab-snoc, tab-ext}
 use Rattle.tabs.proofs.ListTabs.{mem-tab, head-tab}
 use Rattle.store.specs.Store.{edgeIn, edgesIn, seqIn, seqsIn, graphIn, numsIn, Within, putVertex}
-use Rattle.store.proofs.VertexLaws.{part-long}
+use Rattle.store.proofs.VertexLaws.{part-long, seq-at}
 use Rattle.compact.specs.Compact.{Compactable, Removed}
 use Rattle.compact.specs.declared.Counts.{Counts}
 use Rattle.compact.proofs.CompactLaws.{order-in, mem-ends}
@@ -37,10 +37,9 @@ use Rattle.pool.proofs.PoolLaws.{part-same, packed-seqs, packed-within}
 use Rattle.zip.proofs.JoinLaws.{held-bytes}
 use Rattle.memory.specs.Memory.{graphOf, vertexRoom, edgeRoom, Room, Fit, Holds}
 use Rattle.memory.specs.declared.Held.{Held}
-use Rattle.memory.proofs.RoomLaws.{fit-vertices, fit-bytes, fit-tame, held-vertices, held-edges}
+use Rattle.memory.proofs.RoomLaws.{fit-vertices, fit-bytes, fit-tame, held-vertices, held-edges, held-pool}
 use Rattle.redirect.proofs.SameLaws.{into-all, from-all}
 use Rattle.merge_suffices.specs.Merge.{Writable, Written, newInto, newEdges, EdgesReady, EdgesDone, Mergeable, Merged}
-use Rattle.merge_suffices.proofs.TestLaws.{seq-at}
 
 map-concat : {A B : Type 0} (f : A → B) (h : ℕ → List A) (l : List ℕ) → concat (map (λ (v : ℕ). map f (h v)) l) ≡ map f (concat (map h l))
 unfolding concat
@@ -92,9 +91,6 @@ module _ {h : Held} {es vs p heads nexts nodes mp : List ℕ} {c bottom : ℕ}
       (subst (λ (l : List ℕ). List·Memᴰ bottom l) (M .are) (subst (λ (x : ℕ). List·Memᴰ x (numsIn c nodes)) q
       (mem-tab c (λ (i : ℕ). getD nodes i 0) 0 some-prev)))
 
-  in-pool : Within (length p) (h .n) vs
-  in-pool = record { at = λ v b. omega (arith, H .within .at v b, H .used-room, R .p-room) }
-
   -- ---- the bytes
 
   pair-bytes : getD vs (2 * first + 1) 0 + getD vs (2 * bottom + 1) 0 ≤ vertexRoom heads
@@ -107,7 +103,7 @@ module _ {h : Held} {es vs p heads nexts nodes mp : List ℕ} {c bottom : ℕ}
           List·Memᴰ·eq-of-singleton k in rw e (M .below)) (List·Memᴰ·cases-cons m))
 
       size : (v : ℕ) → v < h .n → length (getD (g .verts) v []) ≡ getD vs (2 * v + 1) 0
-      size v b = ap length (getD-tab (h .n) (seqIn vs p) v [] b) ∙ part-long p _ _ (in-pool .at v b)
+      size v b = ap length (getD-tab (h .n) (seqIn vs p) v [] b) ∙ part-long p _ _ (held-pool H R .at v b)
 
       sums : total (λ (v : ℕ). length (getD (g .verts) v [])) (first ∷ bottom ∷ []) ≡ getD vs (2 * first + 1) 0 + getD vs (2 * bottom + 1) 0
       sums = unfold total in omega (arith, size first first-below, size bottom (M .below))
@@ -235,8 +231,8 @@ module _ {h : Held} {es vs p heads nexts nodes mp : List ℕ} {c bottom : ℕ}
 
     seq-old : (v : ℕ) → v < h .n → seqIn vs₁ p₁ v ≡ seqIn vs p v
     seq-old v b = let z = put-other v (λ e. omega arith) in rw (z .0, z .1)
-        (part-same p p₁ (getD vs (2 * v) 0) (getD vs (2 * v) 0) (getD vs (2 * v + 1) 0) (in-pool .at v b)
-        (omega (arith, in-pool .at v b, q)) (λ x d. W .old (getD vs (2 * v) 0 + x) (omega (arith, H .within .at v b))))
+        (part-same p p₁ (getD vs (2 * v) 0) (getD vs (2 * v) 0) (getD vs (2 * v + 1) 0) (held-pool H R .at v b)
+        (omega (arith, held-pool H R .at v b, q)) (λ x d. W .old (getD vs (2 * v) 0 + x) (omega (arith, H .within .at v b))))
 
     verts-with : seqsIn (h .n + 1) vs₁ p₁ ≡ g .verts ++ change .verts
     unfolding mergeChange

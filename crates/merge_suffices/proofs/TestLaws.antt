@@ -16,7 +16,7 @@ use Rattle.laws.proofs.ListLaws.{sameList-eq, sameList-refl, allOf-same}
 use Rattle.tabs.proofs.Tabs.{length-tab, getD-tab, and-then, and-else}
 use Rattle.tabs.proofs.ListTabs.{of-mem-tab, head-tab}
 use Rattle.store.specs.Store.{part, seqIn, graphIn, numsIn}
-use Rattle.store.proofs.VertexLaws.{part-long}
+use Rattle.store.proofs.VertexLaws.{part-long, seq-at}
 use Rattle.compact.specs.Compact.{Below}
 use Rattle.index.proofs.IndexLaws.{out-degree-is, in-degree-is}
 use Rattle.pool.proofs.PoolLaws.{part-same}
@@ -72,10 +72,6 @@ pub third : {a b c r s x : Bool} → r ≡ a → r ≡ true → s ≡ b → s �
 third q t w u z = z ∙ and-then _ (sym w ∙ u) ∙ and-then _ (sym q ∙ t)
 
 -- ---- the definition
-
-pub seq-at : (k n m : ℕ) (es vs p : List ℕ) (v : ℕ) → v < n → vertexSequence (graphIn k n m es vs p) v ≡ seqIn vs p v
-unfolding vertexSequence
-seq-at k n m es vs p v b = getD-tab n (seqIn vs p) v [] b
 
 module _ (k n m : ℕ) (es vs p : List ℕ) where
   abbrev g : Graph

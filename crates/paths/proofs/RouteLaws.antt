@@ -18,6 +18,7 @@ use Rattle.laws.proofs.Sound.{Sound}
 use Rattle.laws.proofs.Counts.{total, total-kept, Distinct}
 use Rattle.laws.proofs.Measures.{bytes-is}
 use Rattle.laws.proofs.Cycles.{anyOf-true, distinct-length}
+use Rattle.laws.proofs.Edges.{joins-ends}
 use Rattle.tabs.proofs.Tabs.{length-tab, getD-tab, tab-ext}
 use Rattle.tabs.proofs.SumTabs.{map-tab, total-sum}
 use Rattle.tabs.proofs.ListTabs.{mem-tab}
@@ -28,7 +29,6 @@ use Rattle.memory.specs.Memory.{graphOf}
 use Rattle.memory.specs.declared.Held.{Held}
 use Rattle.spell.specs.Spell.{bytesAt, spelledIn, Listed}
 use Rattle.paths.specs.Paths.{Spellable}
-use Rattle.paths.proofs.StepLaws.{ends-are}
 
 -- ---- a path rises
 
@@ -56,7 +56,7 @@ path-short g s u ws h = distinct-length (nodeCount g) (u ∷ ws) (path-distinct 
 ends-edge : (g : Graph) (a b v : ℕ) → eqb a v ≡ true → anyOf (hasEnds a b) (g .edges) ≡ true → HasEdge g v b
 ends-edge g a b v q t =
     let x = anyOf-true (hasEnds a b) (g .edges) t in
-    let y = ends-are a b (x .0) (x .2) in
+    let y = joins-ends a b (x .0) (x .2) in
     (x .0, x .1, y .0 ∙ eqb-true a v q, y .1)
 
 edges-path : (g : Graph) → Bounded g → (l : List ℕ) (v : ℕ) → v < nodeCount g → isEdgePath g v l ≡ true → IsPath g v (edgeEnds l)

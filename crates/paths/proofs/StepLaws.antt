@@ -16,6 +16,7 @@ use Rattle.defs.specs.Paths.{isEdgePath, isPathOf}
 use Rattle.laws.proofs.Walks.{byTest}
 use Rattle.laws.proofs.ListLaws.{keepIf-yes, keepIf-no, and-split, any-yes, any-no, any-map}
 use Rattle.laws.proofs.Cycles.{anyOf-true}
+use Rattle.laws.proofs.Edges.{joins-ends}
 use Rattle.store.specs.Store.{edgeIn, edgesIn, graphIn, EndsBelow}
 use Rattle.compact.proofs.CompactLaws.{order-in, ends-mem}
 use Rattle.index.specs.Index.{endOf, edgesAt, Index, Indexed}
@@ -85,10 +86,6 @@ module _ (g : Graph) (v : ℕ) where
       fails true y z h = rw h
       fails false y z h = refl
 
-pub ends-are : (a b : ℕ) (e : Edge) → hasEnds a b e ≡ true → (e .from ≡ a) × (e .to ≡ b)
-unfolding hasEnds
-ends-are a b e t = let s = and-split (eqb (e .from) a) (eqb (e .to) b) t in (eqb-true (e .from) a (s .0), eqb-true (e .to) b (s .1))
-
 -- what is left of the list from i on is to be a path from `at`
 pub record Following (m n : ℕ) (es : List ℕ) (start : ℕ) (list : List ℕ) (at i : ℕ) : Type 0 where
   pub high : i ≤ length list
@@ -149,4 +146,4 @@ module _ {m n : ℕ} {es : List ℕ} {start : ℕ} {list : List ℕ} where
           target =
               let s = and-split (eqb a at) (anyOf (hasEnds a b) (edgesIn m es)) t in
               let x = anyOf-true (hasEnds a b) (edgesIn m es) (s .1) in
-              omega (arith, (ends-mem E (x .0) (x .1)) .1, (ends-are a b (x .0) (x .2)) .1)
+              omega (arith, (ends-mem E (x .0) (x .1)) .1, (joins-ends a b (x .0) (x .2)) .1)

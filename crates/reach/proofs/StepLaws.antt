@@ -65,6 +65,7 @@ of-step zero x u w e = of-along zero x u w refl e
 of-step (suc zero) x u w e = of-against (suc zero) x u w refl e
 of-step (suc (suc n)) x u w e = ⊎-elim (of-along (suc (suc n)) x u w refl) (of-against (suc (suc n)) x u w refl) (or-cases (forward x u w) (backward x u w) e)
 
+-- in slices
 walk-yes : (plain : Bool) (kind : ℕ) (es : List ℕ) (e u w : ℕ) → passable plain es e ≡ true → stepOf kind (edgeIn es e) u w ≡ true
     → walkStep plain kind (edgeIn es e) u w ≡ true
 unfolding walkStep passable

@@ -11,6 +11,7 @@ use Rattle.laws.proofs.Walks.{byTest}
 use Rattle.laws.proofs.ListLaws.{clash}
 use Rattle.tabs.proofs.Tabs.{one-less}
 
+-- the numbers that are left after turn i, of n turns
 spent : (i n : ℕ) → n ≤ i → n - i ≡ 0
 spent i n h = omega arith
 

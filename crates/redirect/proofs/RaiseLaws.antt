@@ -10,26 +10,19 @@ use Rattle.laws.proofs.Walks.{byTest}
 use Rattle.laws.proofs.Edges.{raise-yes, raise-no, joins-ends, of-raiseAll}
 use Rattle.laws.proofs.Counts.{ends-join}
 use Rattle.tabs.specs.First.{firstIx}
+use Rattle.tabs.proofs.Tabs.{firstIx-yes, firstIx-no}
 use Rattle.store.specs.Store.{findEdge}
-
-first-yes : {A : Type 0} (p : A → Bool) (x : A) (xs : List A) → p x ≡ true → firstIx p (x ∷ xs) ≡ 0
-unfolding firstIx
-first-yes p x xs t = rw t
-
-first-no : {A : Type 0} (p : A → Bool) (x : A) (xs : List A) → p x ≡ false → firstIx p (x ∷ xs) ≡ suc (firstIx p xs)
-unfolding firstIx
-first-no p x xs t = rw t
 
 pub first-most : {A : Type 0} (p : A → Bool) (xs : List A) → firstIx p xs ≤ length xs
 unfolding firstIx
 first-most p [] = omega arith
-first-most p (x ∷ xs) = byTest (p x) (λ t. omega (arith, first-yes p x xs t)) (λ t. omega (arith, first-no p x xs t, first-most p xs))
+first-most p (x ∷ xs) = byTest (p x) (λ t. omega (arith, firstIx-yes p x xs t)) (λ t. omega (arith, firstIx-no p x xs t, first-most p xs))
 
 -- none of them passes
 pub first-missing : {A : Type 0} (p : A → Bool) (d : A) (xs : List A) → ((j : ℕ) → j < length xs → p (getD xs j d) ≡ false) → firstIx p xs ≡ length xs
 unfolding firstIx
 first-missing p d [] h = refl
-first-missing p d (x ∷ xs) h = first-no p x xs (h 0 (omega arith)) ∙ ap suc (first-missing p d xs (λ j b. h (suc j) (omega arith)))
+first-missing p d (x ∷ xs) h = firstIx-no p x xs (h 0 (omega arith)) ∙ ap suc (first-missing p d xs (λ j b. h (suc j) (omega arith)))
 
 -- the ends alone decide
 ends-same : (a b : ℕ) (e : Edge) (f : Edge) → f .from ≡ e .from → f .to ≡ e .to → hasEnds a b f ≡ hasEnds a b e
@@ -44,17 +37,17 @@ module _ (a b s : ℕ) (r : Bool) where
   -- the edge from a to b stands where it stood, or at the end
   pub find-raised : (es : List Edge) → findEdge a b (addOrUpdateEdge a b s r es) ≡ findEdge a b es
   unfolding addOrUpdateEdge
-  find-raised [] = first-yes (hasEnds a b) _ [] (ends-join a b _ refl refl) ∙ unfold firstIx in refl
+  find-raised [] = firstIx-yes (hasEnds a b) _ [] (ends-join a b _ refl refl) ∙ unfold firstIx in refl
   find-raised (e ∷ es) = byTest (hasEnds a b e)
-      (λ t. rw (raise-yes a b s r e es t) (first-yes (hasEnds a b) _ es (ends-same a b e _ refl refl ∙ t) ∙ sym (first-yes (hasEnds a b) e es t)))
-      (λ t. rw (raise-no a b s r e es t) (first-no (hasEnds a b) e _ t ∙ ap suc (find-raised es) ∙ sym (first-no (hasEnds a b) e es t)))
+      (λ t. rw (raise-yes a b s r e es t) (firstIx-yes (hasEnds a b) _ es (ends-same a b e _ refl refl ∙ t) ∙ sym (firstIx-yes (hasEnds a b) e es t)))
+      (λ t. rw (raise-no a b s r e es t) (firstIx-no (hasEnds a b) e _ t ∙ ap suc (find-raised es) ∙ sym (firstIx-no (hasEnds a b) e es t)))
 
   pub find-added : (es : List Edge) → findEdge a b (addOrUpdateEdge a b s r es) < length (addOrUpdateEdge a b s r es)
   unfolding addOrUpdateEdge
-  find-added [] = omega (arith, first-yes (hasEnds a b) record { from = a; to = b; support = s; isRef = r } [] (ends-join a b _ refl refl))
+  find-added [] = omega (arith, firstIx-yes (hasEnds a b) record { from = a; to = b; support = s; isRef = r } [] (ends-join a b _ refl refl))
   find-added (e ∷ es) = byTest (hasEnds a b e)
-      (λ t. rw (raise-yes a b s r e es t) (omega (arith, first-yes (hasEnds a b) _ es (ends-same a b e (raised e) refl refl ∙ t))))
-      (λ t. rw (raise-no a b s r e es t) (omega (arith, first-no (hasEnds a b) e (addOrUpdateEdge a b s r es) t, find-added es)))
+      (λ t. rw (raise-yes a b s r e es t) (omega (arith, firstIx-yes (hasEnds a b) _ es (ends-same a b e (raised e) refl refl ∙ t))))
+      (λ t. rw (raise-no a b s r e es t) (omega (arith, firstIx-no (hasEnds a b) e (addOrUpdateEdge a b s r es) t, find-added es)))
 
   -- another edge that is there stands where it stood
   pub find-other : (c d : ℕ) (es : List Edge) → findEdge c d es < length es → findEdge c d (addOrUpdateEdge a b s r es) ≡ findEdge c d es
@@ -65,29 +58,29 @@ module _ (a b s : ℕ) (r : Bool) where
     where
       head : hasEnds a b e ≡ true → firstIx (hasEnds c d) (raised e ∷ es) ≡ findEdge c d (e ∷ es)
       head t = byTest (hasEnds c d e)
-          (λ u. first-yes (hasEnds c d) _ es (ends-same c d e _ refl refl ∙ u) ∙ sym (first-yes (hasEnds c d) e es u))
-          (λ u. first-no (hasEnds c d) _ es (ends-same c d e _ refl refl ∙ u) ∙ sym (first-no (hasEnds c d) e es u))
+          (λ u. firstIx-yes (hasEnds c d) _ es (ends-same c d e _ refl refl ∙ u) ∙ sym (firstIx-yes (hasEnds c d) e es u))
+          (λ u. firstIx-no (hasEnds c d) _ es (ends-same c d e _ refl refl ∙ u) ∙ sym (firstIx-no (hasEnds c d) e es u))
 
       tail : (findEdge c d es < length es → findEdge c d (addOrUpdateEdge a b s r es) ≡ findEdge c d es)
           → firstIx (hasEnds c d) (e ∷ addOrUpdateEdge a b s r es) ≡ findEdge c d (e ∷ es)
       tail ih = byTest (hasEnds c d e)
-          (λ u. first-yes (hasEnds c d) e _ u ∙ sym (first-yes (hasEnds c d) e es u))
-          (λ u. first-no (hasEnds c d) e _ u ∙ ap suc (ih (omega (arith, h, first-no (hasEnds c d) e es u))) ∙ sym (first-no (hasEnds c d) e es u))
+          (λ u. firstIx-yes (hasEnds c d) e _ u ∙ sym (firstIx-yes (hasEnds c d) e es u))
+          (λ u. firstIx-no (hasEnds c d) e _ u ∙ ap suc (ih (omega (arith, h, firstIx-no (hasEnds c d) e es u))) ∙ sym (firstIx-no (hasEnds c d) e es u))
 
   -- another edge that was not there is not there
   pub find-missing : (c d : ℕ) → ((c ≡ a) → (d ≡ b) → ⊥) → (es : List Edge) → length es ≤ findEdge c d es
       → findEdge c d (addOrUpdateEdge a b s r es) ≡ length (addOrUpdateEdge a b s r es)
   unfolding addOrUpdateEdge
-  find-missing c d ne [] h = first-no (hasEnds c d) _ [] (byTest (hasEnds c d record { from = a; to = b; support = s; isRef = r })
-      (λ t. absurd (let z = joins-ends c d s r _ t in ne (sym (z .0)) (sym (z .1)))) (λ t. t)) ∙ unfold firstIx in refl
+  find-missing c d ne [] h = firstIx-no (hasEnds c d) _ [] (byTest (hasEnds c d record { from = a; to = b; support = s; isRef = r })
+      (λ t. absurd (let z = joins-ends c d _ t in ne (sym (z .0)) (sym (z .1)))) (λ t. t)) ∙ unfold firstIx in refl
   find-missing c d ne (e ∷ es) h = byTest (hasEnds c d e)
-      (λ u. absurd (omega (arith, h, first-yes (hasEnds c d) e es u)))
+      (λ u. absurd (omega (arith, h, firstIx-yes (hasEnds c d) e es u)))
       (λ u. byTest (hasEnds a b e)
-      (λ t. rw (raise-yes a b s r e es t) (first-no (hasEnds c d) _ es (ends-same c d e _ refl refl ∙ u) ∙ ap suc (all u)))
-      (λ t. rw (raise-no a b s r e es t) (first-no (hasEnds c d) e _ u ∙ ap suc (find-missing c d ne es (omega (arith, h, first-no (hasEnds c d) e es u))))))
+      (λ t. rw (raise-yes a b s r e es t) (firstIx-no (hasEnds c d) _ es (ends-same c d e _ refl refl ∙ u) ∙ ap suc (all u)))
+      (λ t. rw (raise-no a b s r e es t) (firstIx-no (hasEnds c d) e _ u ∙ ap suc (find-missing c d ne es (omega (arith, h, firstIx-no (hasEnds c d) e es u))))))
     where
       all : hasEnds c d e ≡ false → findEdge c d es ≡ length es
-      all u = omega (arith, h, first-no (hasEnds c d) e es u, first-most (hasEnds c d) es)
+      all u = omega (arith, h, firstIx-no (hasEnds c d) e es u, first-most (hasEnds c d) es)
 
   -- an edge with other ends stays
   pub raise-old : (x : Edge) (es : List Edge) (j : ℕ) → j < length es → hasEnds a b (getD es j x) ≡ false → getD (addOrUpdateEdge a b s r es) j x ≡ getD es j x

@@ -24,20 +24,12 @@ use Rattle.redirect.specs.Redirect.{newFrom, newTo, redirected, redirect
 use Rattle.redirect.proofs.RaiseLaws.{first-missing, find-raised, find-added, find-other, find-missing, raise-old, raise-longer}
 use Rattle.redirect.proofs.RaiseLaws.{raiseAll-longer, raiseAll-cons}
 
--- ---- `if t { x } else { y }`
-
-pub then-is : {t : Bool} (x y : ℕ) → t ≡ true → x ≡ cond t x y
-then-is x y h = rw h
-
-pub else-is : {t : Bool} (x y : ℕ) → t ≡ false → y ≡ cond t x y
-else-is x y h = rw h
-
 -- ---- ends
 
 new-end : (off y x : ℕ) (e : Edge) → hasEnds (newFrom off y x) (newTo off y x) e ≡ true → endAt off e ≡ y
 unfolding endAt
-new-end zero y x e t = joins-ends _ _ 0 true e t .0
-new-end (suc n) y x e t = rw (ne-eqb (suc n) 0 (λ (q : suc n ≡ 0). omega arith)) at (joins-ends _ _ 0 true e t .1)
+new-end zero y x e t = joins-ends _ _ e t .0
+new-end (suc n) y x e t = rw (ne-eqb (suc n) 0 (λ (q : suc n ≡ 0). omega arith)) at (joins-ends _ _ e t .1)
 
 ends-other : (off y x z : ℕ) → newFrom off y z ≡ newFrom off y x → newTo off y z ≡ newTo off y x → z ≡ x
 ends-other off y x z p q = byTest (eqb off 0) (λ u. rw u at q) (λ u. rw u at p)

@@ -72,6 +72,7 @@ or-true : (a : Bool) → a || true ≡ true
 or-true true = refl
 or-true false = refl
 
+-- a reference edge at v leaves it or enters it
 node-split : (v : ℕ) (l : List Edge) → anyOf (λ (e : Edge). e .isRef && (eqb (e .from) v || eqb (e .to) v)) l
     ≡ anyOf (λ (e : Edge). e .isRef) (keepIf (λ (e : Edge). eqb (e .from) v) l) || anyOf (λ (e : Edge). e .isRef) (keepIf (λ (e : Edge). eqb (e .to) v) l)
 unfolding keepIf

@@ -105,7 +105,7 @@ single-undoubled (e ∷ es) s = neither (anyOf (hasEnds (e .from) (e .to)) es) (
     (single-undoubled es (s .1))
   where
     alone : (d : Edge) → List·Memᴰ d es → hasEnds (e .from) (e .to) d ≡ false
-    alone d m = byTest (hasEnds (e .from) (e .to) d) (λ t. let q = joins-ends (e .from) (e .to) 0 true d t in absurd (s .0 (d, m, q .0, q .1))) (λ t. t)
+    alone d m = byTest (hasEnds (e .from) (e .to) d) (λ t. let q = joins-ends (e .from) (e .to) d t in absurd (s .0 (d, m, q .0, q .1))) (λ t. t)
 
 pub doubled-right : (bs : List ℕ) (g : Graph) → decode bs ≡ g → Single (g .edges) → (kindOf bs ≡ 0 → SameKmers g → ⊥) → doubled bs ≡ false
 doubled-right bs g e s k = byTest (doubled bs) (λ d. absurd (⊎-elim ends kmers (S.doubled-means bs d))) (λ d. d)

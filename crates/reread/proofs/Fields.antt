@@ -11,12 +11,12 @@ use Rattle.defs.specs.Simplify.{sequenceBytes}
 use Rattle.defs.specs.Record.{RecordKind, recordKindNumber, mark, kindOf, statusOf, verticesOf, bytesOf, le16, le32, u32At, lengthsAt}
 use Rattle.defs.specs.Record.{edgesAt, bytesAt, wholeLength, encodeEdge, encodeHeader, encode, lengthAt, edgeStart, flagAt}
 use Rattle.tabs.proofs.Tabs.{tab-ext, tab-getD}
-use Rattle.tabs.proofs.SumTabs.{map-tab}
+use Rattle.tabs.proofs.SumTabs.{map-tab, bytes-sum}
 use Rattle.le.proofs.LeLaws.{length-le16, value-of-digits}
 use Rattle.record.proofs.Fields.{edgeStart-is, flagAt-is, edgesAt-is, bytesAt-is}
 use Rattle.codec.specs.Encodable.{Encodable}
 use Rattle.codec.proofs.Concat.{shows-field, length-fields}
-use Rattle.codec.proofs.Encoded.{vertices-read, length-read, edge-width}
+use Rattle.codec.proofs.Encoded.{vertices-read, length-read, edge-width, header-length}
 
 -- the header, whatever stands behind it
 module _ (kind status k v e b : ℕ) (rest : List ℕ) where
@@ -55,11 +55,6 @@ module _ (kind status k v e b : ℕ) (rest : List ℕ) where
   unfolding encodeHeader le16 le32 u32At
   header-whole h = value-of-digits (wholeLength v e b) h
 
-header-long : (kind status k v e b : ℕ) → length (encodeHeader kind status k v e b) ≡ 32
-unfolding encodeHeader le16 le32
-header-long kind status k v e b = refl
-
--- lengths
 edge-flag : (e : Edge) → getD (encodeEdge e) 8 0 ≤ 1
 unfolding encodeEdge le16 le32
 edge-flag e = either (e .isRef)
@@ -68,15 +63,11 @@ edge-flag e = either (e .isRef)
     either true = unfold bit in (omega arith)
     either false = unfold bit in (omega arith)
 
+-- lengths
 length-concat : (vs : List (List ℕ)) → length (concat vs) ≡ sequenceBytes vs
 unfolding concat sequenceBytes
 length-concat [] = refl
 length-concat (v ∷ vs) = length-append v (concat vs) ∙ omega (arith, length-concat vs)
-
-sum-lengths : (vs : List (List ℕ)) → sum (map length vs) ≡ sequenceBytes vs
-unfolding sum sequenceBytes
-sum-lengths [] = refl
-sum-lengths (v ∷ vs) = ap (λ (n : ℕ). length v + n) (sum-lengths vs)
 
 module _ (kind : RecordKind) (status : ℕ) (g : Graph) where
   abbrev bs : List ℕ
@@ -108,7 +99,7 @@ module _ (kind : RecordKind) (status : ℕ) (g : Graph) where
       length-append header lengths
       ∙ omega (
         arith,
-        header-long (recordKindNumber kind) status (g .k) (nodeCount g) (length (g .edges)) (sequenceBytes (g .verts)),
+        header-length (recordKindNumber kind) status (g .k) (nodeCount g) (length (g .edges)) (sequenceBytes (g .verts)),
         length-fields (λ v. le16 (length v)) 2 (λ v. length-le16 (length v)) (g .verts),
       )
 
@@ -183,4 +174,4 @@ module _ (kind : RecordKind) (status : ℕ) (g : Graph) where
         ∙ ap sum (tab-ext (length (g .verts)) (lengthAt bs) (λ (i : ℕ). length (getD (g .verts) i [])) (length-read kind status g ok))
         ∙ ap sum (sym (map-tab length (length (g .verts)) (λ (i : ℕ). getD (g .verts) i [])))
         ∙ ap (λ (l : List (List ℕ)). sum (map length l)) (tab-getD (g .verts) [])
-        ∙ sum-lengths (g .verts)
+        ∙ sym (bytes-sum (g .verts))

@@ -22,14 +22,6 @@ unfolding tabFrom
 tab-shift s zero h = refl
 tab-shift {A} s (suc n) h = ap (λ (l : List A). h (suc s) ∷ l) (tab-shift (suc s) n h)
 
-map-tab-from : {A B : Type 0} (g : A → B) (s n : ℕ) (f : ℕ → A) → map g (tabFrom s n f) ≡ tabFrom s n (λ (j : ℕ). g (f j))
-unfolding tabFrom
-map-tab-from g s zero f = refl
-map-tab-from {A} {B} g s (suc n) f = ap (λ (l : List B). g (f s) ∷ l) (map-tab-from g (suc s) n f)
-
-pub map-tab : {A B : Type 0} (g : A → B) (n : ℕ) (f : ℕ → A) → map g (tab n f) ≡ tab n (λ (j : ℕ). g (f j))
-map-tab g n f = map-tab-from g 0 n f
-
 reverse-tab : (n : ℕ) (f : ℕ → ℕ) → reverse (tab n f) ≡ tab n (λ (j : ℕ). f (n - 1 - j))
 unfolding tabFrom
 reverse-tab zero f = refl

@@ -10,10 +10,11 @@ use borrow.Author.Tests.{ltb-true, lt-ltb, eqb-true, eq-eqb}
 use Rattle.defs.specs.Lists.{tab, commonPrefix, commonSuffix}
 use Rattle.laws.proofs.ListLaws.{and-split, and-true, clash}
 use Rattle.tabs.proofs.Tabs.{tab-ext}
+use Rattle.tabs.proofs.SumTabs.{map-tab}
 use Rattle.store.specs.Store.{seqIn}
 use Rattle.shared.specs.Shared.{Parts, startAt, lenAt, byteAt, lastAt, Prefix, Suffix}
 use Rattle.shared.proofs.CommonLaws.{Agreeing, agreed}
-use Rattle.shared.proofs.PartLaws.{part-tab, map-tab, back, forth}
+use Rattle.shared.proofs.PartLaws.{part-tab, back, forth}
 
 -- the test of one sequence: l bytes, x at place i
 test-yes : (i l : ℕ) {x b : ℕ} {r : Bool} → r ≡ (ltb i l && eqb x b) → r ≡ true → (i < l) × (x ≡ b)

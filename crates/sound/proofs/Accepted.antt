@@ -25,7 +25,7 @@ use Rattle.laws.proofs.Fuel.{Good}
 use Rattle.laws.proofs.Room.{Limits}
 use Rattle.tabs.proofs.Tabs.{length-tab, tab-ext}
 use Rattle.tabs.proofs.ListTabs.{of-mem-tab}
-use Rattle.tabs.proofs.SumTabs.{map-tab}
+use Rattle.tabs.proofs.SumTabs.{map-tab, bytes-sum}
 use Rattle.record.specs.Layout.{WellFormed}
 use Rattle.record.proofs.Accepted.{well-formed}
 use Rattle.record.proofs.Sequences.{length-sequence}
@@ -137,7 +137,7 @@ kmers-none = refl
 module _ (g : Graph) where
   pub doubled-same : doubledEdge (g .edges) ≡ true → SameEnds g
   doubled-same t = pair-of (λ (e : Edge). hasEnds (e .from) (e .to)) noEdge doubledEdge doubled-none doubled-cons (g .edges) t (λ i j o b u.
-      let q = joins-ends _ _ 0 true (getD (g .edges) j noEdge) u in
+      let q = joins-ends _ _ (getD (g .edges) j noEdge) u in
       record { first = i; second = j; order = o; below = b; from = sym (q .0); to = sym (q .1) })
 
   pub same-doubled : SameEnds g → doubledEdge (g .edges) ≡ true
@@ -194,11 +194,6 @@ module _ (bs : List ℕ) where
         let i = of-mem-tab (edgesOf bs) (edgeAt bs) m in
         let b = ok .good (i .0) (i .1) in
         rw (i .2) (omega (arith, b .from, order-read), omega (arith, b .to, order-read))
-
-    bytes-sum : (vs : List (List ℕ)) → sequenceBytes vs ≡ sum (map length vs)
-    unfolding sequenceBytes sum
-    bytes-sum [] = refl
-    bytes-sum (v ∷ vs) = ap (λ (x : ℕ). length v + x) (bytes-sum vs)
 
     pub read-bytes : sequenceBytes ((decode bs) .verts) ≡ bytesOf bs
     unfolding decode

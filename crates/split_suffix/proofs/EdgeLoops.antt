@@ -38,7 +38,7 @@ push-new {y} {k} {es} a b s f E r new = packed-miss k es (putEdge es k a b s f) 
     none : (j : ℕ) → j < length (edgesIn k es) → hasEnds a b (getD (edgesIn k es) j no-edge) ≡ false
     none j h =
         let c : j < k = omega (arith, h, length-tab k (edgeIn es)) in
-        rw (getD-tab k (edgeIn es) j no-edge c) (byTest (hasEnds a b (edgeIn es j)) (λ t. let z = joins-ends a b 0 true (edgeIn es j) t in
+        rw (getD-tab k (edgeIn es) j no-edge c) (byTest (hasEnds a b (edgeIn es j)) (λ t. let z = joins-ends a b (edgeIn es j) t in
         absurd (new _ _ (E .at j c .0) (E .at j c .1) (z .0) (z .1))) (λ t. t))
 
 module _ {y bottom k : ℕ} {es : List ℕ} (L : Linkable y bottom k es) where
@@ -73,7 +73,7 @@ module _ {y bottom k : ℕ} {es : List ℕ} (L : Linkable y bottom k es) where
         none j h =
             let c : j < k + 1 = omega (arith, h, length-tab (k + 1) (edgeIn es₁)) in
             rw (getD-tab (k + 1) (edgeIn es₁) j no-edge c) (byTest (hasEnds y bottom (edgeIn es₁ j)) (λ t.
-            absurd (old-ends (edgeIn es₁ j) (mem-tab (k + 1) (edgeIn es₁) j c) ((joins-ends y bottom 0 true (edgeIn es₁ j) t) .0)))
+            absurd (old-ends (edgeIn es₁ j) (mem-tab (k + 1) (edgeIn es₁) j c) ((joins-ends y bottom (edgeIn es₁ j) t) .0)))
             (λ t. t))
 
     pub link-two : LinksDone true y bottom s f k es (k + 2) (putEdge es₁ (k + 1) y bottom s f)

@@ -16,11 +16,10 @@ use Rattle.laws.proofs.Whole.{byList}
 use Rattle.tabs.proofs.Tabs.{tab-snoc, tab-zero}
 use Rattle.tabs.proofs.SumTabs.{concat-snoc}
 use Rattle.store.specs.Store.{part, edgeIn, seqIn, graphIn, numsIn, Within}
-use Rattle.store.proofs.VertexLaws.{part-long}
+use Rattle.store.proofs.VertexLaws.{part-long, seq-at}
 use Rattle.compact.specs.Compact.{Below}
 use Rattle.index.specs.Index.{Indexed}
 use Rattle.index.proofs.IndexLaws.{from-is, at-first, pair-first}
-use Rattle.merge_suffices.proofs.TestLaws.{seq-at}
 use Rattle.redirect.proofs.SameLaws.{into-all}
 use Rattle.split_suffix.specs.Split.{hasPrefix, entry, blockEdges, numberOf, edgesOf, newEdges, newSeqs, newVerts}
 

@@ -29,7 +29,7 @@ use Rattle.index.specs.Index.{endOf, edgesAt, Indexed, Collected}
 use Rattle.index.proofs.IndexLaws.{at-none, pair-first}
 use Rattle.memory.specs.Memory.{graphOf, vertexRoom, edgeRoom, Room, Fit, Holds}
 use Rattle.memory.specs.declared.Held.{Held}
-use Rattle.memory.proofs.RoomLaws.{fit-vertices, fit-edges, fit-tame, held-vertices}
+use Rattle.memory.proofs.RoomLaws.{fit-vertices, fit-edges, fit-tame, held-vertices, held-pool}
 use Rattle.shared.specs.Shared.{startAt, lenAt, Suffix}
 use Rattle.merge_suffices.proofs.TryLaws.{prevs-are, prevs-below}
 use Rattle.split_tests.specs.SplitTests.{Testable, suffixOf, Before, suffixBy, Splits}
@@ -66,11 +66,8 @@ module _ {h : Held} {es vs p heads nexts nodes mp : List ℕ} (R : Room es vs p 
   order : nodeCount g ≡ h .n
   order = order-in (h .k .0) (h .n) (h .m) es vs p
 
-  in-pool : Within (length p) (h .n) vs
-  in-pool = record { at = λ v b. omega (arith, H .within .at v b, H .used-room, R .p-room) }
-
   pub split-testable : Testable (h .n) (h .m) es vs p heads nexts prevs c
-  split-testable = record { indexed = I; vs-room = omega (arith, held-vertices H, R .vs-room); pool = in-pool; below = below }
+  split-testable = record { indexed = I; vs-room = omega (arith, held-vertices H, R .vs-room); pool = held-pool H R; below = below }
 
   -- in a graph without cycles
   before : Before g bottom (numsIn c prevs)
@@ -172,16 +169,16 @@ module _ {h : Held} {es vs p heads nexts nodes mp : List ℕ} (R : Room es vs p 
           (λ a. a)
 
       verts-are : newVerts vs p prevs start s c ≡ change .verts
-      verts-are = F.verts-are (h .k .0) (h .n) (h .m) s start es vs p heads nexts prevs c bottom suffix I in-pool below suffix-is
+      verts-are = F.verts-are (h .k .0) (h .n) (h .m) s start es vs p heads nexts prevs c bottom suffix I (held-pool H R) below suffix-is
           suffix-long all outs c (omega arith) ∙ ap (splitVertices g suffix) are
 
       edges-are : newEdges heads (h .m) (h .n) s es vs prevs bottom c ≡ change .edges
-      edges-are = F.edges-are (h .k .0) (h .n) (h .m) s start es vs p heads nexts prevs c bottom suffix I in-pool below suffix-is
+      edges-are = F.edges-are (h .k .0) (h .n) (h .m) s start es vs p heads nexts prevs c bottom suffix I (held-pool H R) below suffix-is
           suffix-long all outs c (omega arith)
           ∙ (λ i. splitEdges g bottom suffix (sym order i) (are i))
 
       number-is : numberOf vs prevs s (h .n) c ≡ nodeCount (withAdditions change g)
-      number-is = F.number-are (h .k .0) (h .n) (h .m) s start es vs p heads nexts prevs c bottom suffix I in-pool below suffix-is
+      number-is = F.number-are (h .k .0) (h .n) (h .m) s start es vs p heads nexts prevs c bottom suffix I (held-pool H R) below suffix-is
           suffix-long all outs c (omega arith)
           ∙ omega (arith, order-grown g change, order, ap (λ (l : List ℕ). length (splitVertices g suffix l)) are)
 

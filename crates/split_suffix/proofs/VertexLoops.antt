@@ -13,35 +13,23 @@ use Rattle.defs.specs.Lists.{tab, concat}
 use Rattle.tabs.proofs.Tabs.{tab-snoc, tab-zero, tab-ext}
 use Rattle.tabs.proofs.SumTabs.{concat-snoc}
 use Rattle.store.specs.Store.{part, seqIn, seqsIn, Within, putVertex}
-use Rattle.store.proofs.VertexLaws.{length-put-vertex}
+use Rattle.store.proofs.VertexLaws.{length-put-vertex, put-start, put-len, put-before}
 use Rattle.split_suffix.specs.Split.{hasPrefix, entry, numberOf, newSeqs, newVerts, Cuttable, CutDone, VertsReady, VertsDone}
 use Rattle.split_suffix.proofs.EdgeLoops.{number-low, number-most, number-more}
 
 -- ---- a vertex behind the k that are there
 
 module _ (vs : List ℕ) (k a b : ℕ) (r : 2 * k + 2 ≤ length vs) where
-  put-start : getD (putVertex vs k a b) (2 * k) 0 ≡ a
-  unfolding putVertex
-  put-start = getD-set-other (set vs (2 * k) a) (2 * k + 1) (2 * k) b 0 (λ z. omega arith) ∙ getD-set-same vs (2 * k) a 0 (omega arith)
-
-  put-size : getD (putVertex vs k a b) (2 * k + 1) 0 ≡ b
-  unfolding putVertex
-  put-size = getD-set-same (set vs (2 * k) a) (2 * k + 1) b 0 (rw (length-set vs (2 * k) a) (omega arith))
-
-  put-below : (j : ℕ) → j < 2 * k → getD (putVertex vs k a b) j 0 ≡ getD vs j 0
-  unfolding putVertex
-  put-below j h = getD-set-other (set vs (2 * k) a) (2 * k + 1) j b 0 (λ z. omega arith) ∙ getD-set-other vs (2 * k) j a 0 (λ z. omega arith)
-
   push-vertex : (p : List ℕ) → seqsIn (k + 1) (putVertex vs k a b) p ≡ seqsIn k vs p ++ (part p a b ∷ [])
   push-vertex p = tab-snoc k (seqIn (putVertex vs k a b) p) ∙ (λ i.
-      tab-ext k (seqIn (putVertex vs k a b) p) (seqIn vs p) (λ v h j. part p (put-below (2 * v) (omega arith) j) (put-below (2 * v + 1) (omega arith) j)) i
-      ++ (part p (put-start i) (put-size i) ∷ []))
+      tab-ext k (seqIn (putVertex vs k a b) p) (seqIn vs p) (λ v h j. part p (put-before vs k a b (2 * v) (omega arith) j) (put-before vs k a b (2 * v + 1) (omega arith) j)) i
+      ++ (part p (put-start vs k a b r i) (put-len vs k a b r i) ∷ []))
 
   push-within : (used : ℕ) → Within used k vs → a + b ≤ used → Within used (k + 1) (putVertex vs k a b)
   push-within used W h = record {
     at = λ v c. elim (ℕ-discrete v k) [
-      | yes e ↦ rw e (omega (arith, put-start, put-size))
-      | no ne ↦ omega (arith, put-below (2 * v) (omega arith), put-below (2 * v + 1) (omega arith), W .at v (omega arith))
+      | yes e ↦ rw e (omega (arith, put-start vs k a b r, put-len vs k a b r))
+      | no ne ↦ omega (arith, put-before vs k a b (2 * v) (omega arith), put-before vs k a b (2 * v + 1) (omega arith), W .at v (omega arith))
     ];
   }
 
@@ -66,7 +54,7 @@ module _ {k : ℕ} {vs : List ℕ} {s v : ℕ} (C : Cuttable k vs s v) where
     count = ap (λ (x : Bool). entry x k + 1) (sym t);
     is = λ p. push-vertex vs k from s cut-room p ∙ ap (λ (x : Bool). seqsIn k vs p
         ++ cond x (part p from s ∷ part p start (size - s) ∷ []) (part p from s ∷ [])) (sym t);
-    same = put-below vs k from s cut-room;
+    same = put-before vs k from s;
     within = push-within vs k from s cut-room;
   }
 
@@ -87,7 +75,7 @@ module _ {k : ℕ} {vs : List ℕ} {s v : ℕ} (C : Cuttable k vs s v) where
           ∙ ap (λ (l : List (List ℕ)). l ++ (part p start (size - s) ∷ [])) (push-vertex vs k from s cut-room p)
           ∙ append-assoc (seqsIn k vs p) (part p from s ∷ []) (part p start (size - s) ∷ [])
           ∙ ap (λ (x : Bool). seqsIn k vs p ++ cond x (part p from s ∷ part p start (size - s) ∷ []) (part p from s ∷ [])) (sym long);
-      same = λ j b. put-below vs₁ (k + 1) start (size - s) (cut-room-two from) j (omega arith) ∙ put-below vs k from s cut-room j b;
+      same = λ j b. put-before vs₁ (k + 1) start (size - s) j (omega arith) ∙ put-before vs k from s j b;
       within = λ used W b. rw two (push-within vs₁ (k + 1) start (size - s) (cut-room-two from) used (push-within
           vs k from s cut-room used W b) (omega (arith, W .at v (C .below))));
     }

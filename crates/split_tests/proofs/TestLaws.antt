@@ -18,13 +18,12 @@ use Rattle.tabs.proofs.Tabs.{length-tab, tab-ext, and-no-left, and-no-right}
 use Rattle.tabs.proofs.ListTabs.{of-mem-tab}
 use Rattle.tabs.proofs.SumTabs.{map-tab}
 use Rattle.store.specs.Store.{part, seqIn, graphIn, numsIn}
-use Rattle.store.proofs.VertexLaws.{part-long}
+use Rattle.store.proofs.VertexLaws.{part-long, seq-at}
 use Rattle.compact.specs.Compact.{Below}
 use Rattle.index.proofs.IndexLaws.{out-degree-is}
 use Rattle.refs.specs.Refs.{RefSource}
 use Rattle.shared.specs.Shared.{Parts, startAt, lenAt, seqsAt, Suffix}
 use Rattle.diamond.proofs.TestLaws.{allOf-no}
-use Rattle.merge_suffices.proofs.TestLaws.{seq-at}
 use Rattle.split_tests.specs.SplitTests.{oneOut, isLong, Testable, Eliminates, suffixOf, Before, SplitBy, Splits}
 use Rattle.split_tests.specs.declared.OptionSuffix.the-variants.{Some, None}
 

@@ -8,7 +8,7 @@ use lib.ListN.{length, getD, length-append, length-map}
 use Rattle.defs.specs.Lists.{bit}
 use Rattle.defs.specs.SeqGraph.{Edge, saturatingAdd}
 use Rattle.defs.specs.Rewrites.{EdgeData, MidPlan, newEdge, onlyIf, edgesToMiddles, edgesFromMiddles, prefixToSuffixFrom}
-use Rattle.laws.proofs.SplitCounts.{length-toMiddles, length-only}
+use Rattle.laws.proofs.SplitCounts.{length-toMiddles, length-only, length-fromMiddles}
 use Rattle.store.specs.Store.{isSet, edge}
 use Rattle.store.proofs.EdgeLaws.{set-max}
 use Rattle.split_update.specs.Pushed.{EdgesPushed, edgeIf, leaves, leftNodes}
@@ -17,7 +17,7 @@ use Rattle.split_update.specs.Ends.{newEdges, newEdgesOf, EdgeIfPushed, 
 use Rattle.split_update.specs.declared.Direct.{Direct}
 use Rattle.split_update.specs.declared.Places.{Places}
 use Rattle.split_update.proofs.PushLaws.{pushed-then}
-use Rattle.split_update.proofs.NodeLaws.{length-mid, length-from, plans-same, mids-kept}
+use Rattle.split_update.proofs.NodeLaws.{length-mid, plans-same, mids-kept}
 
 pub new-length : (w : Places) (l : List MidPlan) (d : EdgeData) → length (newEdges w l d) ≡ bit (w .prefixed)
     + (bit (w .linked) + (length l + (bit (w .consumed) + length l)))
@@ -32,7 +32,7 @@ new-length w l d = omega (
   length-only (w .linked) last,
   length-only (w .consumed) between,
   length-toMiddles (upper w) (w .middles) l,
-  length-from (lower w) (w .middles) l,
+  length-fromMiddles (w .middles) (lower w) l,
 )
   where
     first : Edge

@@ -28,7 +28,7 @@ raise-new : (u v s : ℕ) (r : Bool) (es : List Edge) → (Linked es u v → ⊥
 unfolding addOrUpdateEdge
 raise-new u v s r [] h = refl
 raise-new u v s r (e ∷ es) h = byTest (hasEnds u v e)
-    (λ t. let q = joins-ends u v s r e t in absurd (h (e, List·Memᴰ·head refl, q .0, q .1)))
+    (λ t. let q = joins-ends u v e t in absurd (h (e, List·Memᴰ·head refl, q .0, q .1)))
     (λ t. raise-no u v s r e es t ∙ ap (λ (l : List Edge). e ∷ l) (raise-new u v s r es (λ l. h (linked-tail u v l))))
 
 -- the edge e has the ends already
@@ -36,7 +36,7 @@ raise-past : (u v s : ℕ) (r : Bool) (x : List Edge) (e : Edge) (y : List Edge)
     → addOrUpdateEdge u v s r (x ++ (e ∷ y)) ≡ x ++ (record { from = e .from; to = e .to; support = saturatingAdd (e .support) s; isRef = e .isRef || r } ∷ y)
 raise-past u v s r [] e y h q = raise-yes u v s r e y q
 raise-past u v s r (d ∷ x) e y h q = byTest (hasEnds u v d)
-    (λ t. let z = joins-ends u v s r d t in absurd (h (d, List·Memᴰ·head refl, z .0, z .1)))
+    (λ t. let z = joins-ends u v d t in absurd (h (d, List·Memᴰ·head refl, z .0, z .1)))
     (λ t. raise-no u v s r d (x ++ (e ∷ y)) t ∙ ap (λ (l : List Edge). d ∷ l) (raise-past u v s r x e y (λ l. h (linked-tail u v l)) q))
 
 raise-fresh : (ns es : List Edge) → Single ns → ((u v : ℕ) → Linked ns u v → Linked es u v → ⊥) → addOrUpdateEdges ns es ≡ es ++ ns

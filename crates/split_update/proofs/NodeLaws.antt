@@ -14,7 +14,7 @@ use Rattle.defs.specs.Rewrites.{EdgeData, MidPlan, joinedData, newEdge, edgesTo
 use Rattle.laws.proofs.Walks.{byTest}
 use Rattle.laws.proofs.ListLaws.{of-keepIf, keepIf-same}
 use Rattle.laws.proofs.Counts.{length-both}
-use Rattle.laws.proofs.SplitCounts.{length-toMiddles}
+use Rattle.laws.proofs.SplitCounts.{length-toMiddles, length-fromMiddles}
 use Rattle.tabs.proofs.Tabs.{length-tab}
 use Rattle.tabs.proofs.ListTabs.{tab-append, keepIf-append, keepIf-tab-yes, keepIf-tab-no, of-mem-tab}
 use Rattle.store.specs.Store.{isSet, numsIn}
@@ -24,12 +24,6 @@ use Rattle.split_update.specs.Ends.{Entered, endSupport, endFlag, endDat
 
 abbrev nodeAt : List ℕ → ℕ → ℕ
 nodeAt nodes i = getD nodes i 0
-
-pub cond-yes : {A : Type 0} {t : Bool} (a b : A) → t ≡ true → a ≡ cond t a b
-cond-yes a b h = rw h
-
-pub cond-no : {A : Type 0} {t : Bool} (a b : A) → t ≡ false → b ≡ cond t a b
-cond-no a b h = rw h
 
 -- ---- one node more
 
@@ -97,13 +91,8 @@ from-snoc u j [] q = ap (λ (x : ℕ). newEdge x u (q .fromMid) ∷ []) (sym (ad
 from-snoc u j (m ∷ l) q = ap (λ (r : List Edge). newEdge j u (m .fromMid) ∷ r) (from-snoc u (suc j) l q
     ∙ ap (λ (x : ℕ). edgesFromMiddles (suc j) u l ++ (newEdge x u (q .fromMid) ∷ [])) (omega arith))
 
-pub length-from : (u j : ℕ) (l : List MidPlan) → length (edgesFromMiddles j u l) ≡ length l
-unfolding edgesFromMiddles
-length-from u j [] = refl
-length-from u j (m ∷ l) = ap suc (length-from u (suc j) l)
-
 pub length-mid : (off u j : ℕ) (l : List MidPlan) → length (midEdges off u j l) ≡ length l
-length-mid off u j l = byTest (eqb off 1) (λ t. rw t (length-toMiddles u j l)) (λ t. rw t (length-from u j l))
+length-mid off u j l = byTest (eqb off 1) (λ t. rw t (length-toMiddles u j l)) (λ t. rw t (length-fromMiddles j u l))
 
 -- the edge between u and the middle j
 abbrev pub midEdge : ℕ → ℕ → ℕ → EdgeData → Edge

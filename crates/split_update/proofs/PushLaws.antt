@@ -15,7 +15,7 @@ use Rattle.laws.proofs.Diamonds.{nonEmpty-yes}
 use Rattle.tabs.proofs.Tabs.{tab-snoc, tab-ext}
 use Rattle.store.specs.Store.{edge, edgesIn, putEdge, putVertex, part, seqIn, seqsIn}
 use Rattle.store.proofs.EdgeLaws.{length-put, put-at, put-push}
-use Rattle.store.proofs.VertexLaws.{part-long, length-put-vertex}
+use Rattle.store.proofs.VertexLaws.{part-long, length-put-vertex, put-before}
 use Rattle.shared.proofs.PartLaws.{drop-part, take-part}
 use Rattle.split_update.specs.Pushed.{EdgesPushed, edgeIf, VertsPushed, PartPushed}
 
@@ -66,10 +66,6 @@ put-start vs k s n h = getD-set-other (set vs (2 * k) s) (2 * k + 1) (2 * k) n 0
 put-len : (vs : List ℕ) (k s n : ℕ) → 2 * k + 2 ≤ length vs → getD (putVertex vs k s n) (2 * k + 1) 0 ≡ n
 unfolding putVertex
 put-len vs k s n h = getD-set-same (set vs (2 * k) s) (2 * k + 1) n 0 (rw (length-set vs (2 * k) s) (omega arith))
-
-put-before : (vs : List ℕ) (k s n i : ℕ) → i < 2 * k → getD (putVertex vs k s n) i 0 ≡ getD vs i 0
-unfolding putVertex
-put-before vs k s n i h = getD-set-other (set vs (2 * k) s) (2 * k + 1) i n 0 (λ z. omega arith) ∙ getD-set-other vs (2 * k) i s 0 (λ z. omega arith)
 
 pub verts-none : (k : ℕ) (vs p : List ℕ) → VertsPushed k vs p [] k vs
 verts-none k vs p = record { count = omega arith; len = refl; same = λ i h. refl; is = sym (append-nil (seqsIn k vs p)) }

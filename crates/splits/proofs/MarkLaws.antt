@@ -14,7 +14,7 @@ use Rattle.defs.specs.Lists.{rank, elemOf, keepIf, bit}
 use Rattle.defs.specs.SeqGraph.{keeps, remapNumbers}
 use Rattle.laws.proofs.Walks.{byTest}
 use Rattle.laws.proofs.ListLaws.{clash, byOrder, rank-yes, rank-no, rank-mono, rank-lt, rank-inj, keepIf-yes, keepIf-no}
-use Rattle.compact.proofs.LoopLaws.{rank-same}
+use Rattle.tabs.proofs.Ranks.{rank-same}
 use Rattle.store.specs.Store.{isSet, keptBy, Numbered}
 use Rattle.splits.specs.Splits.{Marks, Movable, MarksMoved, Cleared}
 

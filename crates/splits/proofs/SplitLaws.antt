@@ -22,8 +22,8 @@ use Rattle.laws.proofs.Measures.{weight, order-weight, enough-is, Tame}
 use Rattle.laws.proofs.Bound.{firstSplit-tame}
 use Rattle.laws.proofs.Whole.{again, firstSplit-zero, firstSplit-tried, firstSplit-none, firstSplit-some, splitAll-none, splitAll-some}
 use Rattle.tabs.proofs.Tabs.{one-less}
+use Rattle.tabs.proofs.Ranks.{rank-same}
 use Rattle.compact.proofs.CompactLaws.{order-in}
-use Rattle.compact.proofs.LoopLaws.{rank-same}
 use Rattle.store.specs.Store.{isSet, keptBy, Numbered}
 use Rattle.store.proofs.EdgeLaws.{set-is, set-not}
 use Rattle.index.specs.Index.{Indexed, Indexable}

@@ -11,7 +11,7 @@ use lib.Dec.{eqb}
 use borrow.Author.Tests.{eq-eqb, ne-eqb, eqb-true, eqb-false}
 use Rattle.defs.specs.Lists.{tab}
 use Rattle.tabs.specs.First.{firstIx}
-use Rattle.tabs.proofs.Tabs.{tab-snoc, tab-ext, tab-set, length-tab, getD-tab}
+use Rattle.tabs.proofs.Tabs.{tab-snoc, tab-ext, tab-set, length-tab, getD-tab, firstIx-yes, firstIx-no}
 use Rattle.defs.specs.SeqGraph.{Edge, hasEnds, addOrUpdateEdge, saturatingAdd}
 use Rattle.laws.proofs.Walks.{byTest}
 use Rattle.laws.proofs.Edges.{raise-yes, raise-no}
@@ -19,15 +19,6 @@ use Rattle.store.specs.Store.{isSet, edge, edgeIn, edgesIn, putEdge, fin
 
 abbrev pub no-edge : Edge
 no-edge = record { from = 0; to = 0; support = 0; isRef = false }
-
-module _ {A : Type 0} (p : A → Bool) (x : A) (xs : List A) where
-  first-yes : p x ≡ true → firstIx p (x ∷ xs) ≡ 0
-  unfolding firstIx
-  first-yes t = rw t
-
-  first-no : p x ≡ false → firstIx p (x ∷ xs) ≡ suc (firstIx p xs)
-  unfolding firstIx
-  first-no t = rw t
 
 -- the edge with support s more
 abbrev raised : ℕ → Bool → Edge → Edge
@@ -37,17 +28,17 @@ raise-hit : (a b s : ℕ) (r : Bool) (es : List Edge) → findEdge a b es < leng
     → addOrUpdateEdge a b s r es ≡ set es (findEdge a b es) (raised s r (getD es (findEdge a b es) no-edge))
 raise-hit a b s r [] h = absurd (omega arith)
 raise-hit a b s r (e ∷ es) h = byTest (hasEnds a b e)
-    (λ t. rw (first-yes (hasEnds a b) e es t) (raise-yes a b s r e es t))
-    (λ t. rw (first-no (hasEnds a b) e es t) (raise-no a b s r e es t
-    ∙ ap (λ (xs : List Edge). e ∷ xs) (raise-hit a b s r es (omega (arith, h, first-no (hasEnds a b) e es t)))))
+    (λ t. rw (firstIx-yes (hasEnds a b) e es t) (raise-yes a b s r e es t))
+    (λ t. rw (firstIx-no (hasEnds a b) e es t) (raise-no a b s r e es t
+    ∙ ap (λ (xs : List Edge). e ∷ xs) (raise-hit a b s r es (omega (arith, h, firstIx-no (hasEnds a b) e es t)))))
 
 raise-miss : (a b s : ℕ) (r : Bool) (es : List Edge) → length es ≤ findEdge a b es
     → addOrUpdateEdge a b s r es ≡ es ++ (record { from = a; to = b; support = s; isRef = r } ∷ [])
 unfolding addOrUpdateEdge
 raise-miss a b s r [] h = refl
 raise-miss a b s r (e ∷ es) h = byTest (hasEnds a b e)
-    (λ t. absurd (omega (arith, h, first-yes (hasEnds a b) e es t)))
-    (λ t. raise-no a b s r e es t ∙ ap (λ (xs : List Edge). e ∷ xs) (raise-miss a b s r es (omega (arith, h, first-no (hasEnds a b) e es t))))
+    (λ t. absurd (omega (arith, h, firstIx-yes (hasEnds a b) e es t)))
+    (λ t. raise-no a b s r e es t ∙ ap (λ (xs : List Edge). e ∷ xs) (raise-miss a b s r es (omega (arith, h, firstIx-no (hasEnds a b) e es t))))
 
 pub length-put : (es : List ℕ) (i a b s r : ℕ) → length (putEdge es i a b s r) ≡ length es
 unfolding putEdge

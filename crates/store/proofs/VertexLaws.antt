@@ -1,29 +1,40 @@
--- Vertices in slices: the parts of the pool, and a vertex that is written, number by number. Assumes nothing.
+-- Vertices in slices: the parts of the pool, and a vertex that is written. Assumes nothing.
 use mathlib.Core.Path.{_≡_, _∙_}
-use mathlib.Core.List.{List}
-use Prim.Native.Nat.{ℕ, _+_, _*_, _≤_}
+use mathlib.Core.List.{List, []}
+use Prim.Native.Nat.{ℕ, _+_, _*_, _≤_, _<_}
 use native.Mathlib.Omega.{arith}
 use lib.ListN.{length, getD, set, drop, length-set, length-take, length-drop}
 use lib.Seq.{getD-set-same, getD-set-other}
-use Rattle.store.specs.Store.{part, putVertex}
+use Rattle.defs.specs.SeqGraph.{vertexSequence}
+use Rattle.tabs.proofs.Tabs.{getD-tab}
+use Rattle.store.specs.Store.{part, seqIn, graphIn, putVertex}
 
 -- a part within the pool is as long as it says
 pub part-long : (p : List ℕ) (a n : ℕ) → a + n ≤ length p → length (part p a n) ≡ n
 part-long p a n h = length-take n (drop a p) ∙ rw (length-drop a p) (omega arith)
 
-module _ (vs : List ℕ) (v s l : ℕ) (h : 2 * v + 2 ≤ length vs) where
-  pub put-start : getD (putVertex vs v s l) (2 * v) 0 ≡ s
-  unfolding putVertex
-  put-start = getD-set-other (set vs (2 * v) s) (2 * v + 1) (2 * v) l 0 (λ q. omega arith) ∙ getD-set-same vs (2 * v) s 0 (omega arith)
+pub seq-at : (k n m : ℕ) (es vs p : List ℕ) (v : ℕ) → v < n → vertexSequence (graphIn k n m es vs p) v ≡ seqIn vs p v
+unfolding vertexSequence
+seq-at k n m es vs p v b = getD-tab n (seqIn vs p) v [] b
 
-  pub put-len : getD (putVertex vs v s l) (2 * v + 1) 0 ≡ l
-  unfolding putVertex
-  put-len = getD-set-same (set vs (2 * v) s) (2 * v + 1) l 0 (omega (arith, length-set vs (2 * v) s))
+-- ---- a store of a vertex
 
-pub put-rest : (vs : List ℕ) (v s l x : ℕ) → (x ≡ 2 * v → ⊥) → (x ≡ 2 * v + 1 → ⊥) → getD (putVertex vs v s l) x 0 ≡ getD vs x 0
+pub length-put-vertex : (vs : List ℕ) (v start len : ℕ) → length (putVertex vs v start len) ≡ length vs
 unfolding putVertex
-put-rest vs v s l x a b = getD-set-other (set vs (2 * v) s) (2 * v + 1) x l 0 b ∙ getD-set-other vs (2 * v) x s 0 a
+length-put-vertex vs v start len = simp length-set
 
-pub length-put-vertex : (vs : List ℕ) (v s l : ℕ) → length (putVertex vs v s l) ≡ length vs
+pub put-rest : (vs : List ℕ) (v start len i : ℕ) → (i ≡ 2 * v → ⊥) → (i ≡ 2 * v + 1 → ⊥) → getD (putVertex vs v start len) i 0 ≡ getD vs i 0
 unfolding putVertex
-length-put-vertex vs v s l = simp length-set
+put-rest vs v start len i a b = getD-set-other (set vs (2 * v) start) (2 * v + 1) i len 0 b ∙ getD-set-other vs (2 * v) i start 0 a
+
+pub put-before : (vs : List ℕ) (v start len i : ℕ) → i < 2 * v → getD (putVertex vs v start len) i 0 ≡ getD vs i 0
+put-before vs v start len i h = put-rest vs v start len i (λ z. omega arith) (λ z. omega arith)
+
+module _ (vs : List ℕ) (v start len : ℕ) (h : 2 * v + 2 ≤ length vs) where
+  pub put-start : getD (putVertex vs v start len) (2 * v) 0 ≡ start
+  unfolding putVertex
+  put-start = getD-set-other (set vs (2 * v) start) (2 * v + 1) (2 * v) len 0 (λ q. omega arith) ∙ getD-set-same vs (2 * v) start 0 (omega arith)
+
+  pub put-len : getD (putVertex vs v start len) (2 * v + 1) 0 ≡ len
+  unfolding putVertex
+  put-len = getD-set-same (set vs (2 * v) start) (2 * v + 1) len 0 (omega (arith, length-set vs (2 * v) start))

@@ -5,7 +5,9 @@ use Prim.Native.Nat.{ℕ, zero, suc, _+_, _≤_, _<_}
 use native.Mathlib.Numerals.{add-one}
 use native.Mathlib.Omega.{arith}
 use native.Mathlib.Decide.{ℕ-discrete}
+use lib.ListN.{length}
 use Rattle.defs.specs.Lists.{tab, tabFrom, sum, concat}
+use Rattle.defs.specs.Simplify.{sequenceBytes}
 use Rattle.laws.proofs.Counts.{total}
 use Rattle.tabs.proofs.Tabs.{tab-snoc}
 
@@ -31,6 +33,12 @@ sum-below (suc n) i f h = elim (ℕ-discrete i n) [
   | yes q ↦ rw q (omega (arith, sum-suc n f))
   | no ne ↦ omega (arith, sum-suc n f, sum-below n i f (omega arith))
 ]
+
+-- the bytes of sequences, as a sum
+pub bytes-sum : (vs : List (List ℕ)) → sequenceBytes vs ≡ sum (map length vs)
+unfolding sequenceBytes sum
+bytes-sum [] = refl
+bytes-sum (v ∷ vs) = ap (λ (n : ℕ). length v + n) (bytes-sum vs)
 
 -- a total along a list, as a sum
 pub total-sum : {A : Type 0} (f : A → ℕ) (l : List A) → total f l ≡ sum (map f l)

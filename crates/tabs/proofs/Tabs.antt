@@ -84,6 +84,14 @@ module _ {A : Type 0} where
 
   -- ---- firstIx
 
+  pub firstIx-yes : (p : A → Bool) (x : A) (xs : List A) → p x ≡ true → firstIx p (x ∷ xs) ≡ 0
+  unfolding firstIx
+  firstIx-yes p x xs t = rw t
+
+  pub firstIx-no : (p : A → Bool) (x : A) (xs : List A) → p x ≡ false → firstIx p (x ∷ xs) ≡ suc (firstIx p xs)
+  unfolding firstIx
+  firstIx-no p x xs t = rw t
+
   pub first-skip : (p : A → Bool) (xs ys : List A) → ((k : ℕ) (d : A) → k < length xs → p (getD xs k d) ≡ false) → firstIx p (xs ++ ys)
       ≡ length xs + firstIx p ys
   unfolding firstIx
@@ -129,9 +137,17 @@ set-more P to i x h o p k b = elim (ℕ-discrete k i) [
   | no ne ↦ rw (getD-set-other to i k x 0 ne) (o k (omega arith))
 ]
 
--- the turns that are left before turn i, of n
+-- the turns that are left at turn i of n: this one, and those that are left at the next
 pub one-less : (n i : ℕ) → i < n → n - i ≡ suc (n - (i + 1))
 one-less n i h = omega arith
+
+-- ---- `if t { x } else { y }`
+
+pub then-is : {A : Type 0} {t : Bool} (x y : A) → t ≡ true → x ≡ cond t x y
+then-is x y h = rw h
+
+pub else-is : {A : Type 0} {t : Bool} (x y : A) → t ≡ false → y ≡ cond t x y
+else-is x y h = rw h
 
 -- ---- `if p { q } else { false }` is `p && q`
 

@@ -27,7 +27,7 @@ use Rattle.tabs.proofs.Tabs.{length-tab, getD-tab, tab-ext, tab-set, tab-snoc}
 use Rattle.tabs.proofs.SumTabs.{map-tab, sum-none, sum-more, total-sum}
 use Rattle.tabs.proofs.ListTabs.{of-mem-tab, mem-tab}
 use Rattle.store.specs.Store.{part, edgeIn, edgesIn, seqIn, seqsIn, graphIn, numsIn, EndsBelow, Within, putVertex}
-use Rattle.store.proofs.VertexLaws.{part-long}
+use Rattle.store.proofs.VertexLaws.{part-long, seq-at}
 use Rattle.compact.specs.Compact.{Compactable, Below, Removed}
 use Rattle.compact.specs.declared.Counts.{Counts}
 use Rattle.compact.proofs.CompactLaws.{order-in, mem-ends, ends-mem}
@@ -35,7 +35,7 @@ use Rattle.pool.specs.Pool.{bytesIn, Packable, Packed}
 use Rattle.pool.proofs.PoolLaws.{part-same, packed-seqs, packed-within}
 use Rattle.memory.specs.Memory.{graphOf, vertexRoom, edgeRoom, Room, Fit, Holds}
 use Rattle.memory.specs.declared.Held.{Held}
-use Rattle.memory.proofs.RoomLaws.{fit-bytes, fit-tame, held-vertices, held-edges, held-ends}
+use Rattle.memory.proofs.RoomLaws.{fit-bytes, fit-tame, held-vertices, held-edges, held-ends, held-pool}
 use Rattle.zip.specs.Zip.{bytesAt, Writable, Written, movedEdge, EdgesMoved, Chain, Joined}
 
 -- ---- lengths
@@ -76,13 +76,6 @@ module _ {h : Held} {es vs p heads nexts nodes mp : List ℕ} {start c : ℕ}
   n-room : h .n ≤ vertexRoom heads
   n-room = held-vertices H
 
-  seq-at : (v : ℕ) → v < h .n → vertexSequence g v ≡ seqIn vs p v
-  unfolding vertexSequence
-  seq-at v b = getD-tab (h .n) (seqIn vs p) v [] b
-
-  in-pool : Within (length p) (h .n) vs
-  in-pool = record { at = λ v b. omega (arith, H .within .at v b, H .used-room, R .p-room) }
-
   rest-below : (v : ℕ) → List·Memᴰ v (start ∷ rest) → v < h .n
   rest-below v m = ⊎-elim (λ (e : v ≡ start). rw e (C .start-below)) (λ k. let z = of-mem-tab c (λ (i : ℕ). getD nodes i 0) k in
       rw (z .2) (C .below (z .0) (z .1))) (List·Memᴰ·cases-cons m)
@@ -94,7 +87,7 @@ module _ {h : Held} {es vs p heads nexts nodes mp : List ℕ} {start c : ℕ}
       omega (arith, k, bytes-is (g .verts), fit-bytes (H .fit), sums)
     where
       size : (v : ℕ) → v < h .n → length (getD (g .verts) v []) ≡ getD vs (2 * v + 1) 0
-      size v b = ap length (getD-tab (h .n) (seqIn vs p) v [] b) ∙ part-long p _ _ (in-pool .at v b)
+      size v b = ap length (getD-tab (h .n) (seqIn vs p) v [] b) ∙ part-long p _ _ (held-pool H R .at v b)
 
       sums : total (λ (v : ℕ). length (getD (g .verts) v [])) (start ∷ rest) ≡ getD vs (2 * start + 1) 0 + bytesAt vs nodes c
       sums = unfold total in (λ i. size start (C .start-below) i + (total-tab c (λ (v : ℕ). length (getD (g .verts) v [])) (λ (i : ℕ). getD nodes i 0)
@@ -147,11 +140,11 @@ module _ {h : Held} {es vs p heads nexts nodes mp : List ℕ} {start c : ℕ}
     )
 
     merged-is : merged ≡ concat (map (seqIn vs p) (start ∷ rest))
-    merged-is = λ i. concat (seq-at start (C .start-below) i ∷ seqs i)
+    merged-is = λ i. concat (seq-at (h .k .0) (h .n) (h .m) es vs p start (C .start-below) i ∷ seqs i)
       where
         seqs : map (vertexSequence g) rest ≡ map (seqIn vs p) rest
         seqs = map-tab (vertexSequence g) c (λ (i : ℕ). getD nodes i 0)
-            ∙ tab-ext c (λ (i : ℕ). vertexSequence g (getD nodes i 0)) (λ (i : ℕ). seqIn vs p (getD nodes i 0)) (λ i b. seq-at (getD nodes i 0) (C .below i b))
+            ∙ tab-ext c (λ (i : ℕ). vertexSequence g (getD nodes i 0)) (λ (i : ℕ). seqIn vs p (getD nodes i 0)) (λ i b. seq-at (h .k .0) (h .n) (h .m) es vs p (getD nodes i 0) (C .below i b))
             ∙ sym (map-tab (seqIn vs p) c (λ (i : ℕ). getD nodes i 0))
 
     module _ (q : length p′ ≡ length p) where
@@ -160,8 +153,8 @@ module _ {h : Held} {es vs p heads nexts nodes mp : List ℕ} {start c : ℕ}
 
       seq-other : (v : ℕ) → v < h .n → (v ≡ start → ⊥) → seqIn vs′ p′ v ≡ seqIn vs p v
       seq-other v b ne = let z = put-other v ne in rw (z .0, z .1)
-          (part-same p p′ (getD vs (2 * v) 0) (getD vs (2 * v) 0) (getD vs (2 * v + 1) 0) (in-pool .at v b)
-          (omega (arith, in-pool .at v b, q)) (λ x d. W .old (getD vs (2 * v) 0 + x) (omega (arith, H .within .at v b))))
+          (part-same p p′ (getD vs (2 * v) 0) (getD vs (2 * v) 0) (getD vs (2 * v + 1) 0) (held-pool H R .at v b)
+          (omega (arith, held-pool H R .at v b, q)) (λ x d. W .old (getD vs (2 * v) 0 + x) (omega (arith, H .within .at v b))))
 
       pub verts-joined : seqsIn (h .n) vs′ p′ ≡ set (g .verts) start merged
       verts-joined = tab-set (h .n) (seqIn vs p) (seqIn vs′ p′) start [] (C .start-below) (λ v b ne. seq-other v b ne) ∙ ap (set (g .verts) start) seq-start

@@ -10,6 +10,7 @@ use borrow.Author.Tests.{lt-ltb}
 use Rattle.defs.specs.SeqGraph.{Graph, nodeCount}
 use Rattle.defs.specs.Zip.{isLinearChainStart, traceLinearChain, linearChain, mergeLinearChain}
 use Rattle.laws.proofs.ZipLaws.{Chained, chained-after}
+use Rattle.laws.proofs.Quiet.{chain-none}
 use Rattle.tabs.proofs.Tabs.{length-tab, tab-zero}
 use Rattle.store.specs.Store.{numsIn, graphIn}
 use Rattle.compact.proofs.CompactLaws.{order-in}
@@ -26,14 +27,6 @@ use Rattle.zips.specs.declared.Zipped.{Zipped}
 module _ {w : Work} {es vs p heads nexts nodes mp : List ℕ} (R : Ready w es vs p heads nexts nodes mp) {s : ℕ} (h : s < w .held .n) where
   abbrev g : Graph
   g = graphOf (w .held) es vs p
-
-  -- the chain at s, by the test and the trace
-  chain-off : isLinearChainStart g s ≡ false → linearChain g s ≡ []
-  unfolding linearChain
-  chain-off t = rw (off, linearChain)
-    where
-      off : ltb s (nodeCount g) && isLinearChainStart g s ≡ false
-      off = rw (lt-ltb s (nodeCount g) (omega (arith, order-in (w .held .k .0) (w .held .n) (w .held .m) es vs p)), t)
 
   chain-on : isLinearChainStart g s ≡ true → linearChain g s ≡ traceLinearChain (w .held .n) g s
   unfolding linearChain
@@ -62,7 +55,7 @@ module _ {w : Work} {es vs p heads nexts nodes mp : List ℕ} (R : Ready w es vs
 
   pub at-no-start : {r : Bool} → ChainStart (w .held .m) (w .held .n) es s r → r ≡ false
       → At w es vs p s record { joined = false; work = w } es vs p heads nexts nodes mp
-  at-no-start C e = unchanged refl (chain-off (sym (C .is (w .held .k .0) vs p) ∙ e))
+  at-no-start C e = unchanged refl (chain-none g s (sym (C .is (w .held .k .0) vs p) ∙ e))
 
   module _ {r : Bool} (C : ChainStart (w .held .m) (w .held .n) es s r) (e : r ≡ true) {c : ℕ} {nodes′ : List ℕ} (T :
       Traced (w .held .m) (w .held .n) es s c nodes′) (q : length nodes′ ≡ length nodes) where

@@ -16,9 +16,9 @@ use Rattle.laws.proofs.Walks.{byTest}
 use Rattle.laws.proofs.Nets.{order-restrict}
 use Rattle.laws.proofs.Whole.{byList, again, zip-nil, zip-cons, zip-zero, zip-empty}
 use Rattle.tabs.proofs.Tabs.{length-tab, tab-ext, tab-zero, getD-tab}
+use Rattle.tabs.proofs.Ranks.{rank-same}
 use Rattle.store.specs.Store.{isSet, numsIn, keptBy, Numbered}
 use Rattle.compact.proofs.CompactLaws.{order-in}
-use Rattle.compact.proofs.LoopLaws.{rank-same}
 use Rattle.chain.specs.Chain.{Starts}
 use Rattle.memory.specs.Memory.{graphOf, workOf}
 use Rattle.memory.specs.declared.Work.{Work}

@@ -1,6 +1,6 @@
 -- `redirect::new_to` meets its contract. Assumes nothing.
 use borrow.Author.Tests.{eq-eqb, ne-eqb}
-use Rattle.redirect.proofs.RedirectLaws.{then-is, else-is}
+use Rattle.tabs.proofs.Tabs.{then-is, else-is}
 use Rattle.redirect.proofs.new_to.Statement.{statement}
 use Rattle.redirect.proofs.new_to.Tie as tie
 

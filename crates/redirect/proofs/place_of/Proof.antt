@@ -1,7 +1,7 @@
 -- `redirect::place_of` meets its contract. Assumes nothing.
 use borrow.Author.Tests.{le-leb, lt-leb}
-use Rattle.redirect.proofs.RedirectLaws.{then-is, else-is}
 use borrow.Author.Needs.{needs}
+use Rattle.tabs.proofs.Tabs.{then-is, else-is}
 use Rattle.redirect.proofs.place_of.Statement.{statement}
 use Rattle.redirect.proofs.place_of.Tie as tie
 

@@ -1,6 +1,6 @@
 -- `split_suffix::entry_of` meets its contract. Assumes nothing.
-use Rattle.redirect.proofs.RedirectLaws.{then-is, else-is}
 use borrow.Author.Needs.{needs}
+use Rattle.tabs.proofs.Tabs.{then-is, else-is}
 use Rattle.split_suffix.proofs.entry_of.Statement.{statement}
 use Rattle.split_suffix.proofs.entry_of.Tie as tie
 

@@ -3,8 +3,8 @@ use native.Mathlib.Omega.{arith}
 use mathlib.Core.Path.{_∙_}
 use Prim.Native.Nat.{_+_, _*_}
 use borrow.Author.Tests.{lt-ltb, le-ltb}
-use Rattle.split_update.proofs.NodeLaws.{cond-yes, cond-no}
 use borrow.Author.Needs.{needs}
+use Rattle.tabs.proofs.Tabs.{then-is, else-is}
 use Rattle.split_update.proofs.end_support.Statement.{statement}
 use Rattle.split_update.proofs.end_support.Tie as tie
 
@@ -24,5 +24,5 @@ end-support-spec =
     (λ c. search needs)
     cast-e
     (λ c κs. search needs)
-    (λ c. let at-if1 : tie.Then1 = search in c .edge-support .ensures ∙ cond-yes _ _ (lt-ltb _ _ (at-if1 .if1 .taken)))
-    (λ c. cond-no _ _ (le-ltb _ _ (c .if1 .left))))
+    (λ c. let at-if1 : tie.Then1 = search in c .edge-support .ensures ∙ then-is _ _ (lt-ltb _ _ (at-if1 .if1 .taken)))
+    (λ c. else-is _ _ (le-ltb _ _ (c .if1 .left))))
