@@ -5,8 +5,8 @@ use mathlib.Core.List.{List, [], _++_}
 use Prim.Native.Nat.{ℕ, suc, _+_, _*_, _-_, _≤_, _<_}
 use native.Mathlib.Omega.{arith}
 use native.Mathlib.Decide.{ℕ-discrete}
-use lib.ListN.{length, getD, set, take, drop, length-set, length-drop}
-use lib.Seq.{take-add, drop-drop, drop-at, length-take-le, getD-set-same, getD-set-other}
+use lib.ListN.{length, getD, take, drop, length-drop}
+use lib.Seq.{take-add, drop-drop, drop-at, length-take-le}
 use lib.Dec.{eqb}
 use borrow.Author.Tests.{eq-eqb, ne-eqb}
 use Rattle.defs.specs.Lists.{tab}
@@ -14,7 +14,7 @@ use Rattle.defs.specs.SeqGraph.{Graph, vertexSequence, inDegree}
 use Rattle.defs.specs.Assembly.{additionalSequence}
 use Rattle.tabs.proofs.Tabs.{tab-ext, getD-tab}
 use Rattle.store.specs.Store.{part, seqIn, seqsIn, graphIn, putVertex, Within}
-use Rattle.store.proofs.VertexLaws.{part-long, length-put-vertex, put-start, put-len, put-rest}
+use Rattle.store.proofs.VertexLaws.{part-long, put-start, put-len, put-rest, length-put-vertex}
 use Rattle.index.specs.Index.{endOf, edgesAt, atFrom, pairAt, Indexed}
 use Rattle.index.proofs.IndexLaws.{in-degree-is, at-none, at-first}
 use Rattle.convert.specs.Convert.{Trimmable, Trimmed}
@@ -75,15 +75,15 @@ module _ {m n : ℕ} {es heads nexts vs₀ : List ℕ} (T : Trimmable n vs₀) (
     omega (arith, T .small v h, W .start-rest v (omega arith), W .len-rest v (omega arith)),
   )
 
-  pub trimming-last : {vs′ : List ℕ} → getD heads (2 * v + 1) 0 < m → vs′
-      ≡ putVertex vs v (getD vs (2 * v) 0 + (getD vs (2 * v + 1) 0 - 1)) 1 → Trimming m n es vs₀ vs′ (v + 1)
-  trimming-last {vs′} b e = record {
+  pub trimming-last : {vs′ : List ℕ} {start len : ℕ} → getD heads (2 * v + 1) 0 < m → start ≡ getD vs (2 * v) 0 → len ≡ getD vs (2 * v + 1) 0
+      → vs′ ≡ putVertex vs v (start + (len - 1)) 1 → Trimming m n es vs₀ vs′ (v + 1)
+  trimming-last {vs′} b qs ql e = record {
     high = omega arith;
     size = ap length e ∙ length-put-vertex vs v _ 1 ∙ W .size;
     done = λ u c. elim (ℕ-discrete u v) [
       | yes q ↦ rw q (record {
         start = ap (λ (l : List ℕ). getD l (2 * v) 0) e ∙ put-start vs v _ 1 room
-            ∙ (λ i. W .start-rest v (omega arith) i + (W .len-rest v (omega arith) i - 1)) ∙ rw (some-in b);
+            ∙ (λ i. (qs ∙ W .start-rest v (omega arith)) i + ((ql ∙ W .len-rest v (omega arith)) i - 1)) ∙ rw (some-in b);
         len = ap (λ (l : List ℕ). getD l (2 * v + 1) 0) e ∙ put-len vs v _ 1 room ∙ rw (some-in b);
       })
       | no ne ↦ (let P = W .done u (omega arith) in record {
