@@ -36,7 +36,7 @@ pub fn read_and_convert(
     let m = held.m;
     convert::edges_sorted(es, m, n, order, scratch, place, sorted);
     convert::additional_sequences(es, m, n, heads, nexts, vs);
-    if 8192 < write_record::sequence_bytes(vs, n) {
+    if record::MOST_BYTES < write_record::sequence_bytes(vs, n) {
         return Read::Refused(8);
     }
     Read::Graph(held)

@@ -2,6 +2,10 @@
 ghost use mathlib.Core.Path.{_≡_};
 ghost use Rattle.kmer.specs.Size.{sizeOf};
 
+// The limits of a k-mer's size.
+pub const LEAST_SIZE: u16 = 2;
+pub const MOST_SIZE: u16 = 128;
+
 // A k-mer size, 2 to 128. Its number is private here, and `kmer_size` alone makes one, behind the check.
 pub struct KmerSize(u16);
 
@@ -13,10 +17,10 @@ pub enum MadeSize {
 pub fn kmer_size(n: u16) -> MadeSize
     ensures { λ r. ⌜ r ≡ sizeOf n ⌝ }
 {
-    if n < 2 {
+    if n < LEAST_SIZE {
         return MadeSize::Refused;
     }
-    if 128 < n {
+    if MOST_SIZE < n {
         return MadeSize::Refused;
     }
     MadeSize::Size(KmerSize(n))

@@ -11,6 +11,14 @@ ghost use Rattle.record.specs.Layout.{countPastLimit, otherKmerLength, o
 use kmer::KmerSize;
 use kmer::MadeSize;
 
+// The limits of input (`Refusals.pastLimit`). The bytes are limited in a sequence graph alone; k-mers by their number and size.
+pub const MOST_VERTICES: usize = 2048;
+pub const MOST_EDGES: usize = 4096;
+pub const MOST_BYTES: usize = 8192;
+
+// So the k-mers of a record have at most 2,048 times 128 bytes.
+pub const MOST_KMER_BYTES: usize = 128 * MOST_VERTICES;
+
 // Which kinds a call takes.
 pub enum Takes {
     KmerOnly,
@@ -164,14 +172,14 @@ fn count_past_limit(rec: &[u8]) -> bool
     requires { ⌜ 32 ≤ length (now rec) ⌝ }
     ensures { λ r. ⌜ r ≡ countPastLimit (now (rec .entry)) ⌝ }
 {
-    if 2048 < vertex_count(rec) {
+    if MOST_VERTICES < vertex_count(rec) {
         return true;
     }
-    if 4096 < edge_count(rec) {
+    if MOST_EDGES < edge_count(rec) {
         return true;
     }
     if rec[4] == 1 {
-        return 8192 < byte_count(rec);
+        return MOST_BYTES < byte_count(rec);
     }
     false
 }

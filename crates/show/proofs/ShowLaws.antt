@@ -6,6 +6,7 @@ use native.Mathlib.Omega.{arith}
 use lib.ListN.{length, drop, length-append}
 use lib.Seq.{sets-eq}
 use borrow.Author.Tests.{lt-ltb, le-ltb}
+use Rattle.defs.specs.SeqGraph as G
 use Rattle.defs.specs.Simplify as S
 use Rattle.defs.specs.Simplify.{simplifyGraphFull, minTailSuffixLen}
 use Rattle.defs.specs.Record.{sequenceGraph, encode, decode}
@@ -17,22 +18,22 @@ use Rattle.memory.specs.Memory.{graphOf, Holds}
 use Rattle.memory.specs.declared.Held.{Held}
 use Rattle.memory.proofs.RoomLaws.{fit-bytes, held-vertices, held-edges}
 use Rattle.zip.proofs.JoinLaws.{held-bytes}
-use Rattle.rounds.specs.Rounds.{Answers}
-use Rattle.rounds.specs.declared.Simplified.{Simplified}
-use Rattle.calls.proofs.AnswerLaws.{fits-enough, fits-short, respond-fits, respond-refused}
+use Rattle.calls.proofs.ResponseLaws.{fits-enough, fits-short, respond-fits, respond-refused}
 use Rattle.write_record.specs.Written.{Measured}
 use Rattle.write_record.proofs.WriteLaws.{encode-length}
 use Rattle.arrays.specs.Sized.{Lent}
-use Rattle.simplify_graph.specs.MadeOf.{MadeOf}
-use Rattle.simplify_graph.specs.declared.Made.{Made}
-use Rattle.simplify_graph.specs.declared.Made.the-variants.{Graph, Refused}
-use Rattle.simplify_graph.proofs.MadeLaws.{number-graph, number-refused}
+use Rattle.accept.specs.declared.Read.{Read}
+use Rattle.accept.specs.declared.Read.the-variants.{Graph, Refused}
+use Rattle.accept.proofs.AcceptLaws.{number-graph, number-refused}
+use Rattle.rewriting.specs.Rewriting.{Result, resultIn, resultOf, RewrittenAs}
+use Rattle.rewriting.specs.declared.Rewritten.{Rewritten}
+use Rattle.rewriting.specs.declared.RewritingCall.the-variants.{SimplifyGraph}
 use Rattle.text.specs.Printed.{printedGraph, printedRefusal, printedAnswer, inputCauses, shown}
 use Rattle.text.specs.Put.{Put}
 use Rattle.text.proofs.TextLaws.{put-as, put-most}
 use Rattle.graph_text.specs.GraphText.{endOf, simplifiedIn, graphMost, Printable}
 use Rattle.graph_text.proofs.GraphLaws.{end-back}
-use Rattle.show.specs.Show.{Bounded, answerText, Printing, Shown}
+use Rattle.show.specs.Show.{Bounded, readText, answerText, Printing, Shown}
 
 -- ---- the number
 
@@ -54,39 +55,39 @@ accepted-text : (result : List ℕ) (z : S.Simplified) → printedAnswer (accept
 unfolding printedAnswer
 accepted-text result z = refl
 
-module _ {made : Made} {es vs p text : List ℕ} (P : Printing made es vs p text) where
-  pub answer-refused : {n : ℕ} → made ≡ Refused n → {text′ : List ℕ} {r : ℕ} → Put 19 (printedRefusal n) text 0 r text′
+module _ {made : Rewritten} {es vs p text : List ℕ} (P : Printing made es vs p text) where
+  pub answer-refused : {n : ℕ} → made .read ≡ Refused n → {text′ : List ℕ} {r : ℕ} → Put 19 (printedRefusal n) text 0 r text′
       → Put 340000 (answerText made es vs p) text 0 r text′
-  unfolding answerText
-  answer-refused f W = put-as (sym (ap (λ (m : Made). answerText m es vs p) f)) (put-most (omega arith) W)
+  unfolding readText
+  answer-refused f W = put-as (sym (ap (λ (x : Read). readText x (made .rewrites) (made .rounds) (made .end) es vs p) f)) (put-most (omega arith) W)
 
-  module _ {s : Simplified} (ok : made ≡ Graph s) where
-    B : Bounded (s .held) es vs p
-    B = P .bounded s ok
+  module _ {h : Held} (ok : made .read ≡ Graph h) where
+    B : Bounded h es vs p
+    B = P .bounded h ok
 
-    long-is : length (encode sequenceGraph 0 (graphOf (s .held) es vs p)) ≡ 32 + 2 * s .held .n + 9 * s .held .m + bytesIn (s .held .n) vs
-    long-is = encode-length 0 (s .held .k .0) (s .held .n) (s .held .m) es vs p (B .within)
+    long-is : length (encode sequenceGraph 0 (graphOf h es vs p)) ≡ 32 + 2 * h .n + 9 * h .m + bytesIn (h .n) vs
+    long-is = encode-length 0 (h .k .0) (h .n) (h .m) es vs p (B .within)
 
-    text-is : {a : Response} → fits 65536 (encode sequenceGraph 0 (graphOf (s .held) es vs p)) ≡ a → answerText made es vs p
-        ≡ printedAnswer a (simplifiedIn (s .held) (s .rewrites) (s .rounds) (s .end) es vs p)
-    unfolding answerText
+    text-is : {a : Response} → fits 65536 (encode sequenceGraph 0 (graphOf h es vs p)) ≡ a → answerText made es vs p
+        ≡ printedAnswer a (simplifiedIn h (made .rewrites) (made .rounds) (made .end) es vs p)
+    unfolding readText
     text-is e =
-        ap (λ (m : Made). answerText m es vs p) ok
-        ∙ ap (λ (a : Response). printedAnswer a (simplifiedIn (s .held) (s .rewrites) (s .rounds) (s .end) es vs p)) e
+        ap (λ (x : Read). readText x (made .rewrites) (made .rounds) (made .end) es vs p) ok
+        ∙ ap (λ (a : Response). printedAnswer a (simplifiedIn h (made .rewrites) (made .rounds) (made .end) es vs p)) e
 
-    pub answer-measured : Measured (s .held) vs
+    pub answer-measured : Measured h vs
     answer-measured = record { vs-room = B .vs-room; small = omega (arith, B .vertices, B .edges, B .bytes) }
 
-    module _ {len : ℕ} (q : len ≡ 32 + 2 * s .held .n + 9 * s .held .m + bytesIn (s .held .n) vs) where
+    module _ {len : ℕ} (q : len ≡ 32 + 2 * h .n + 9 * h .m + bytesIn (h .n) vs) where
       pub answer-over : {text′ : List ℕ} {r : ℕ} → 65536 < len → Put 19 (printedRefusal 11) text 0 r text′
           → Put 340000 (answerText made es vs p) text 0 r text′
-      answer-over h W = put-as (sym (text-is (fits-short 65536 _ (omega (arith, long-is, q))) ∙ refused-text 11 _)) (put-most (omega arith) W)
+      answer-over l W = put-as (sym (text-is (fits-short 65536 _ (omega (arith, long-is, q))) ∙ refused-text 11 _)) (put-most (omega arith) W)
 
-      module _ (h : len ≤ 65536) where
-        text-fits : graphMost (s .held) vs ≤ 340000
+      module _ (l : len ≤ 65536) where
+        text-fits : graphMost h vs ≤ 340000
         text-fits = omega (arith, q, B .vertices, B .edges, B .bytes)
 
-        pub answer-printable : Printable (s .held) es vs p text
+        pub answer-printable : Printable h es vs p text
         answer-printable = record {
           n-fits = omega (arith, B .vertices);
           m-fits = omega (arith, B .edges);
@@ -97,8 +98,8 @@ module _ {made : Made} {es vs p text : List ℕ} (P : Printing made es vs p text
           room = omega (arith, text-fits, P .room);
         }
 
-        pub answer-graph : {text′ : List ℕ} {r : ℕ} → Put (graphMost (s .held) vs)
-            (printedGraph (simplifiedIn (s .held) (s .rewrites) (s .rounds) (s .end) es vs p)) text 0 r text′
+        pub answer-graph : {text′ : List ℕ} {r : ℕ} → Put (graphMost h vs)
+            (printedGraph (simplifiedIn h (made .rewrites) (made .rounds) (made .end) es vs p)) text 0 r text′
             → Put 340000 (answerText made es vs p) text 0 r text′
         answer-graph W =
             put-as (sym (text-is (fits-enough 65536 _ (omega (arith, long-is, q))) ∙ accepted-text _ _)) (put-most text-fits W)
@@ -120,14 +121,20 @@ module _ {bs es vs p heads nexts nodes mp starts tried sig : List ℕ} (Z : Lent
       in-pool : Within (length p′) (h .n) vs′
       in-pool = record { at = λ v w. omega (arith, H .within .at v w, H .used-room, c, Z .graph .room .p-room) }
 
-  pub made-printing : {r : Made} {es′ vs′ p′ text : List ℕ} → MadeOf bs heads nexts r es′ vs′ p′
+  pub made-printing : {r : Rewritten} {es′ vs′ p′ text : List ℕ} → RewrittenAs SimplifyGraph bs heads nexts r es′ vs′ p′
       → length es′ ≡ length es → length vs′ ≡ length vs → length p′ ≡ length p → 340000 ≤ length text → Printing r es′ vs′ p′ text
   made-printing A a b c h = record { bounded = λ s e. bounded (A .holds s e) a b c; room = h }
 
 -- the simplification that is held is the definition's
-simplified-is : {z : S.Simplified} {s : Simplified} {es vs p : List ℕ} → Answers z s es vs p
-    → simplifiedIn (s .held) (s .rewrites) (s .rounds) (s .end) es vs p ≡ z
-simplified-is {z} A = λ i. record { graph = A .graph i; rewrites = A .rewrites i; rounds = A .rounds i; end = (ap endOf (A .end) ∙ end-back (z .end)) i }
+simplified-is : (h : Held) (r : Rewritten) (es vs p : List ℕ) (g : G.Graph) → resultIn h r es vs p ≡ resultOf SimplifyGraph g
+    → simplifiedIn h (r .rewrites) (r .rounds) (r .end) es vs p ≡ simplifyGraphFull minTailSuffixLen g
+unfolding resultOf
+simplified-is h r es vs p g q = λ i. record {
+  graph = q i .graph;
+  rewrites = q i .rewrites;
+  rounds = q i .rounds;
+  end = (ap (λ (z : Result). endOf (z .end)) q ∙ end-back ((simplifyGraphFull minTailSuffixLen g) .end)) i;
+}
 
 abbrev answerFor : List ℕ → S.Simplified
 answerFor bs = simplifyGraphFull minTailSuffixLen (decode bs)
@@ -159,16 +166,16 @@ pub long-shown : (bs : List ℕ) {text text′ : List ℕ} {r : ℕ} → 65536 <
     → Shown bs text r text′
 long-shown bs l h P = put-shown (shown-refused bs (sym (causes-long bs l)) (λ z. omega arith)) (omega arith) h P
 
-module _ {bs heads nexts : List ℕ} {made : Made} {es vs p : List ℕ} (A : MadeOf bs heads nexts made es vs p) (short : length bs ≤ 65536) where
-  made-is : (m : Made) → made ≡ m → answerText m es vs p ≡ shown bs
-  unfolding answerText
-  made-is (Graph s) f =
-      (let e = simplified-is (A .answers s f) in λ i. printedAnswer (fits 65536 (encode sequenceGraph 0 (e i .graph))) (e i))
+module _ {bs heads nexts : List ℕ} {made : Rewritten} {es vs p : List ℕ} (A : RewrittenAs SimplifyGraph bs heads nexts made es vs p) (short : length bs ≤ 65536) where
+  made-is : (x : Read) → made .read ≡ x → readText x (made .rewrites) (made .rounds) (made .end) es vs p ≡ shown bs
+  unfolding readText
+  made-is (Graph h) f =
+      (let e = simplified-is h made es vs p (decode bs) (A .is h f) in λ i. printedAnswer (fits 65536 (encode sequenceGraph 0 (e i .graph))) (e i))
       ∙ shown-fitting bs (sym (causes-record bs short) ∙ sym (A .number) ∙ number-graph f)
   made-is (Refused n) f = shown-refused bs (sym (causes-record bs short) ∙ sym (A .number) ∙ number-refused f) (A .refused n f)
 
   pub made-shown : {text text′ : List ℕ} {r : ℕ} → 340000 ≤ length text → Put 340000 (answerText made es vs p) text 0 r text′ → Shown bs text r text′
-  made-shown h P = put-shown (made-is made refl) (omega arith) h P
+  made-shown h P = put-shown (made-is (made .read) refl) (omega arith) h P
 
 -- the text ends within the slice
 pub shown-fits : {bs text text′ : List ℕ} {r : ℕ} → Shown bs text r text′ → r ≤ length text′

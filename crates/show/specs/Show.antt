@@ -9,9 +9,9 @@ use Rattle.store.specs.Store.{Within}
 use Rattle.pool.specs.Pool.{bytesIn}
 use Rattle.memory.specs.Memory.{graphOf}
 use Rattle.memory.specs.declared.Held.{Held}
-use Rattle.rounds.specs.declared.Simplified.{Simplified}
-use Rattle.simplify_graph.specs.declared.Made.{Made}
-use Rattle.simplify_graph.specs.declared.Made.the-variants.{Graph, Refused}
+use Rattle.accept.specs.declared.Read.{Read}
+use Rattle.accept.specs.declared.Read.the-variants.{Graph, Refused}
+use Rattle.rewriting.specs.declared.Rewritten.{Rewritten}
 use Rattle.text.specs.Printed.{printedRefusal, printedAnswer, shown}
 use Rattle.graph_text.specs.GraphText.{simplifiedIn}
 
@@ -24,16 +24,18 @@ pub record Bounded (h : Held) (es vs p : List ℕ) : Type 0 where
   pub vs-room : 2 * h .n ≤ length vs
   pub within : Within (length p) (h .n) vs
 
--- the text of what was made of a record; an answer record over 65,536 bytes counts as 11
-unfoldable pub answerText : Made → List ℕ → List ℕ → List ℕ → List ℕ
-answerText (Graph s) es vs p =
-    printedAnswer (fits 65536 (encode sequenceGraph 0 (graphOf (s .held) es vs p)))
-    (simplifiedIn (s .held) (s .rewrites) (s .rounds) (s .end) es vs p)
-answerText (Refused n) es vs p = printedRefusal n
+-- the text of a simplified graph, with what was counted, or of a refusal; an answer record over 65,536 bytes counts as 11
+unfoldable pub readText : Read → ℕ → ℕ → ℕ → List ℕ → List ℕ → List ℕ → List ℕ
+readText (Graph h) rewrites rounds end es vs p =
+    printedAnswer (fits 65536 (encode sequenceGraph 0 (graphOf h es vs p))) (simplifiedIn h rewrites rounds end es vs p)
+readText (Refused n) rewrites rounds end es vs p = printedRefusal n
+
+abbrev pub answerText : Rewritten → List ℕ → List ℕ → List ℕ → List ℕ
+answerText made es vs p = readText (made .read) (made .rewrites) (made .rounds) (made .end) es vs p
 
 -- room for every text
-pub record Printing (made : Made) (es vs p text : List ℕ) : Type 0 where
-  pub bounded : (s : Simplified) → made ≡ Graph s → Bounded (s .held) es vs p
+pub record Printing (made : Rewritten) (es vs p text : List ℕ) : Type 0 where
+  pub bounded : (h : Held) → made .read ≡ Graph h → Bounded h es vs p
   pub room : 340000 ≤ length text
 
 -- the text stands at the front, r bytes long; the rest is as it was

@@ -4,22 +4,32 @@ ghost use lib.ListN.{length};
 ghost use Rattle.arrays.specs.Sized.{Lent};
 ghost use Rattle.text.specs.Put.{Put};
 ghost use Rattle.show.specs.Show.{answerText, Printing, Shown};
-use simplify_graph::Made;
+use accept::Read;
+use arrays::LARGE_EDGES;
+use arrays::LARGE_VERTICES;
+use rewriting::Rewritten;
+use rewriting::RewritingCall;
 
-// The text of what was made of a record, at the front. An answer record over 65,536 bytes is told as 11, though none is written here.
-fn put_answer(text: &mut [u8], made: Made, es: &[u32], vs: &[u32], p: &[u8]) -> usize
+// The longest record that is read, and the longest answer that is printed.
+pub const RECORD_MOST: usize = 65536;
+
+// Room for the text of every answer whose record is that short.
+pub const TEXT_MOST: usize = 340000;
+
+// The text of what became of a record, at the front. An answer record over 65,536 bytes is told as 11, though none is written here.
+fn put_answer(text: &mut [u8], made: Rewritten, es: &[u32], vs: &[u32], p: &[u8]) -> usize
     requires { ⌜ Printing made (now es) (now vs) (now p) (now text) ⌝ }
     ensures { λ r. ⌜ Put 340000 (answerText made (now (es .entry)) (now (vs .entry)) (now (p .entry))) (now (text .entry)) 0 r (now (text .exit)) ⌝ }
 {
-    let s = match made {
-        Made::Graph(simplified) => simplified,
-        Made::Refused(number) => return graph_text::put_refusal(text, number),
+    let read = made.read;
+    let held = match read {
+        Read::Graph(held) => held,
+        Read::Refused(number) => return graph_text::put_refusal(text, number),
     };
-    let held = s.held;
-    if 65536 < write_record::record_length(held, vs) {
+    if RECORD_MOST < write_record::record_length(held, vs) {
         return graph_text::put_refusal(text, 11);
     }
-    graph_text::put_graph(text, held, s.rewrites, s.rounds, s.end, es, vs, p)
+    graph_text::put_graph(text, held, made.rewrites, made.rounds, made.end, es, vs, p)
 }
 
 // Input of more than 65,536 bytes counts as 1, whatever it is.
@@ -41,10 +51,11 @@ fn show_in(
         (now starts) (now tried) (now sig) ⌝ }
     ensures { λ r. ⌜ Shown (now (rec .entry)) (now (text .entry)) r (now (text .exit)) ⌝ }
 {
-    if 65536 < rec.len() {
+    if RECORD_MOST < rec.len() {
         return graph_text::put_refusal(text, 1);
     }
-    let made = simplify_graph::read_and_simplify(
+    let made = rewriting::read_and_rewrite(
+        RewritingCall::SimplifyGraph,
         rec,
         es,
         vs,
@@ -63,17 +74,17 @@ fn show_in(
 // Whole arrays, whose lengths are known.
 fn show_with(
     rec: &[u8],
-    text: &mut [u8; 340000],
-    es: &mut [u32; 131072],
-    vs: &mut [u32; 40960],
-    p: &mut [u8; 30720],
-    heads: &mut [u32; 20480],
-    nexts: &mut [u32; 32768],
-    nodes: &mut [u32; 16384],
-    map: &mut [u32; 20480],
-    starts: &mut [u32; 10240],
-    tried: &mut [u64; 10240],
-    sig: &mut [u32; 20482],
+    text: &mut [u8; TEXT_MOST],
+    es: &mut [u32; 8 * LARGE_EDGES],
+    vs: &mut [u32; 4 * LARGE_VERTICES],
+    p: &mut [u8; 3 * LARGE_VERTICES],
+    heads: &mut [u32; 2 * LARGE_VERTICES],
+    nexts: &mut [u32; 2 * LARGE_EDGES],
+    nodes: &mut [u32; LARGE_EDGES],
+    map: &mut [u32; 2 * LARGE_VERTICES],
+    starts: &mut [u32; LARGE_VERTICES],
+    tried: &mut [u64; LARGE_VERTICES],
+    sig: &mut [u32; 2 * LARGE_VERTICES + 2],
 ) -> usize
     ensures { λ r. ⌜ Shown (now (rec .entry)) (now (text .entry)) r (now (text .exit)) ⌝ }
 {
@@ -93,20 +104,20 @@ fn show_with(
     )
 }
 
-// Writes the text to the front of `text`; how long it is. 340,000 bytes hold the text of every answer whose record has at most 65,536.
-pub fn show(rec: &[u8], text: &mut [u8; 340000]) -> usize
+// Writes the text to the front of `text`; how long it is.
+pub fn show(rec: &[u8], text: &mut [u8; TEXT_MOST]) -> usize
     ensures { λ r. ⌜ Shown (now (rec .entry)) (now (text .entry)) r (now (text .exit)) ⌝ }
 {
-    let mut es = [0u32; 131072];
-    let mut vs = [0u32; 40960];
-    let mut p = [0u8; 30720];
-    let mut heads = [0u32; 20480];
-    let mut nexts = [0u32; 32768];
-    let mut nodes = [0u32; 16384];
-    let mut map = [0u32; 20480];
-    let mut starts = [0u32; 10240];
-    let mut tried = [0u64; 10240];
-    let mut sig = [0u32; 20482];
+    let mut es = [0u32; 8 * LARGE_EDGES];
+    let mut vs = [0u32; 4 * LARGE_VERTICES];
+    let mut p = [0u8; 3 * LARGE_VERTICES];
+    let mut heads = [0u32; 2 * LARGE_VERTICES];
+    let mut nexts = [0u32; 2 * LARGE_EDGES];
+    let mut nodes = [0u32; LARGE_EDGES];
+    let mut map = [0u32; 2 * LARGE_VERTICES];
+    let mut starts = [0u32; LARGE_VERTICES];
+    let mut tried = [0u64; LARGE_VERTICES];
+    let mut sig = [0u32; 2 * LARGE_VERTICES + 2];
     show_with(
         rec,
         text,

@@ -40,9 +40,6 @@ use Rattle.vertex_sequence.specs.declared.SequencePlace.{SequencePlace}
 
 -- ---- the checks behind the layout
 
-pub peelable-kept : {n : ℕ} {degrees queue degrees′ : List ℕ} → Peelable n degrees queue → length degrees′ ≡ length degrees → Peelable n degrees′ queue
-peelable-kept P l = record { degrees-room = omega (arith, l, P .degrees-room); queue-room = P .queue-room; small = P .small }
-
 module _ (m n : ℕ) (es vs p : List ℕ) where
   -- what is doubled, in graphs of k-mers and of sequences
   pub kmers-doubled : {kmers d : Bool} {order : List ℕ} → kmers ≡ true → Doubles m n es vs p d order → d

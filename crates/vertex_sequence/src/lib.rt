@@ -11,6 +11,9 @@ ghost use Rattle.kmer_order.specs.Order.{Sequence};
 ghost use Rattle.vertex_sequence.specs.Checks.{Roomy, Checkable, Checks};
 ghost use Rattle.vertex_sequence.specs.Handed.{Handed, Placed};
 use record::Layout;
+use record::MOST_EDGES;
+use record::MOST_KMER_BYTES;
+use record::MOST_VERTICES;
 use record::Takes;
 
 // Where a vertex's sequence stands in the record, and how long it is.
@@ -105,17 +108,17 @@ fn record_number(
     )
 }
 
-// Whole arrays, whose lengths are known.
+// Whole arrays, whose lengths are known: enough for every record of either kind.
 fn record_number_with(
     rec: &[u8],
-    es: &mut [u32; 16384],
-    vs: &mut [u32; 4096],
-    p: &mut [u8; 262144],
-    heads: &mut [u32; 4096],
-    nexts: &mut [u32; 8192],
-    order: &mut [u32; 2048],
-    scratch: &mut [u32; 2048],
-    place: &mut [u32; 2048],
+    es: &mut [u32; 4 * MOST_EDGES],
+    vs: &mut [u32; 2 * MOST_VERTICES],
+    p: &mut [u8; MOST_KMER_BYTES],
+    heads: &mut [u32; 2 * MOST_VERTICES],
+    nexts: &mut [u32; 2 * MOST_EDGES],
+    order: &mut [u32; MOST_VERTICES],
+    scratch: &mut [u32; MOST_VERTICES],
+    place: &mut [u32; MOST_VERTICES],
 ) -> u32
     ensures { λ r. ⌜ r ≡ recordRefusal bothKinds (now (rec .entry)) ⌝ }
 {
@@ -125,14 +128,14 @@ fn record_number_with(
 fn checked_record(rec: &[u8]) -> u32
     ensures { λ r. ⌜ r ≡ recordRefusal bothKinds (now (rec .entry)) ⌝ }
 {
-    let mut es = [0u32; 16384];
-    let mut vs = [0u32; 4096];
-    let mut p = [0u8; 262144];
-    let mut heads = [0u32; 4096];
-    let mut nexts = [0u32; 8192];
-    let mut order = [0u32; 2048];
-    let mut scratch = [0u32; 2048];
-    let mut place = [0u32; 2048];
+    let mut es = [0u32; 4 * MOST_EDGES];
+    let mut vs = [0u32; 2 * MOST_VERTICES];
+    let mut p = [0u8; MOST_KMER_BYTES];
+    let mut heads = [0u32; 2 * MOST_VERTICES];
+    let mut nexts = [0u32; 2 * MOST_EDGES];
+    let mut order = [0u32; MOST_VERTICES];
+    let mut scratch = [0u32; MOST_VERTICES];
+    let mut place = [0u32; MOST_VERTICES];
     record_number_with(
         rec,
         &mut es,

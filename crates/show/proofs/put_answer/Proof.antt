@@ -8,7 +8,7 @@ returns-2 : tie.Need-returns-2
 returns-2 c =
     answer-over
     (start .pre)
-    (at-made .made .given .1)
+    (at-graph .read .given .1)
     (at-record-length .record-length .ensures)
     (at-if1 .if1 .taken)
     (at-put-refusal2 .put-refusal2 .ensures)
@@ -22,17 +22,17 @@ returns-2 c =
     at-record-length : tie.After-record-length
     at-record-length = let c = at-if1 in search
 
-    at-made : tie.After-made
-    at-made = let c = at-record-length in search
+    at-graph : tie.After-read
+    at-graph = let c = at-record-length in search
 
     start : tie.Start
-    start = let c = at-made in search
+    start = let c = at-graph in search
 
 put-graph-requires : tie.Need-put-graph-requires
 put-graph-requires c κs =
     answer-printable
     (start .pre)
-    (at-made .made .given .1)
+    (at-graph .read .given .1)
     (at-record-length .record-length .ensures)
     (at-if1 .if1 .left)
   where
@@ -42,17 +42,17 @@ put-graph-requires c κs =
     at-record-length : tie.After-record-length
     at-record-length = let c = at-if1 in search
 
-    at-made : tie.After-made
-    at-made = let c = at-record-length in search
+    at-graph : tie.After-read
+    at-graph = let c = at-record-length in search
 
     start : tie.Start
-    start = let c = at-made in search
+    start = let c = at-graph in search
 
 returns-3 : tie.Need-returns-3
 returns-3 c =
     answer-graph
     (start .pre)
-    (at-made .made .given .1)
+    (at-graph .read .given .1)
     (at-record-length .record-length .ensures)
     (at-if1 .if1 .left)
     (at-put-graph .put-graph .ensures)
@@ -66,24 +66,24 @@ returns-3 c =
     at-record-length : tie.After-record-length
     at-record-length = let c = at-if1 in search
 
-    at-made : tie.After-made
-    at-made = let c = at-record-length in search
+    at-graph : tie.After-read
+    at-graph = let c = at-record-length in search
 
     start : tie.Start
-    start = let c = at-made in search
+    start = let c = at-graph in search
 
 returns : tie.Need-returns
 returns c =
     let at-put-refusal : tie.After-put-refusal = search in
-    let at-made2 : tie.After-made2 = search in
+    let at-refused : tie.After-read2 = search in
     let start : tie.Start = search in
-    answer-refused (start .pre) (at-made2 .made2 .given .1) (at-put-refusal .put-refusal .ensures)
+    answer-refused (start .pre) (at-refused .read2 .given .1) (at-put-refusal .put-refusal .ensures)
 
 record-length-requires : tie.Need-record-length-requires
 record-length-requires c κs =
-    let at-made : tie.After-made = search in
+    let at-graph : tie.After-read = search in
     let start : tie.Start = search in
-    answer-measured (start .pre) (at-made .made .given .1)
+    answer-measured (start .pre) (at-graph .read .given .1)
 
 pub put-answer-spec : {M : Type 1} → statement M
 put-answer-spec =

@@ -1,6 +1,8 @@
 -- `vertex_sequence::graph_number` meets its contract. Assumes nothing.
+use mathlib.Core.Path.{refl}
 use native.Mathlib.Omega.{arith}
-use Rattle.vertex_sequence.proofs.VertexLaws.{peelable-kept, checks-6, checks-7, checks-0}
+use Rattle.cycle.proofs.PeelLaws.{peelable-kept}
+use Rattle.vertex_sequence.proofs.VertexLaws.{checks-6, checks-7, checks-0}
 use borrow.Author.Needs.{needs}
 use Rattle.vertex_sequence.proofs.graph_number.Statement.{statement}
 use Rattle.vertex_sequence.proofs.graph_number.Tie as tie
@@ -28,7 +30,7 @@ has-cycle-requires c κs = (
   start .pre .indexed,
   (
     start .pre .few,
-    peelable-kept (start .pre .peelable) (at-is-doubled .is-doubled .kept .1 .1 .1 .1 .1 .1 .1 .1 .1 .0),
+    peelable-kept (start .pre .peelable) (at-is-doubled .is-doubled .kept .1 .1 .1 .1 .1 .1 .1 .1 .1 .0) refl,
   ),
 )
   where
