@@ -36,6 +36,10 @@ use Rattle.accept.specs.declared.Read.the-variants.{Graph, Refused}
 pub not-both : {A : Type 0} {r : Read} {h : Held} {n : ℕ} → r ≡ Graph h → r ≡ Refused n → A
 not-both e f = let z : _≡_ {A = ℕ} 0 1 = cc in absurd (omega arith)
 
+pub byRead : {A : Type 0} (r : Read) → ((h : Held) → r ≡ Graph h → A) → ((n : ℕ) → r ≡ Refused n → A) → A
+byRead (Graph h) f g = f h refl
+byRead (Refused n) f g = g n refl
+
 pub number-refused : {r : Read} {n : ℕ} → r ≡ Refused n → readNumber r ≡ n
 unfolding readNumber
 number-refused e = ap readNumber e

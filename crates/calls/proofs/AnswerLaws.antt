@@ -1,127 +1,149 @@
--- The result structs, field by field; and which response a call gives. Assumes nothing.
+-- The result structs, field by field. Assumes nothing.
 use mathlib.Core.Path.{_≡_, refl, sym, ap, _∙_}
-use mathlib.Core.Bool.{Bool, true, false}
-use mathlib.Core.List.{List, _++_}
-use Prim.Native.Nat.{ℕ, zero, suc, _≤_, _<_}
+use mathlib.Core.List.{List}
+use Prim.Native.Nat.{ℕ}
 use native.Mathlib.Omega.{arith}
-use lib.ListN.{length, drop}
-use lib.Dec.{ltb}
-use borrow.Author.Tests.{lt-ltb, le-ltb}
+use lib.ListN.{length}
 use Rattle.defs.specs.SeqGraph.{saturatingAdd}
 use Rattle.defs.specs.Calls as D
-use Rattle.defs.specs.Calls.{Response, refused, accepted, numberOf, lengthOf, fieldOf, tallied, fits, respondTo, respond, writtenOf}
+use Rattle.defs.specs.Calls.{Response, refused, accepted, numberOf, lengthOf, fieldOf, tallied, respond}
 use Rattle.defs.specs.Simplify.{Simplified, endNumber}
 use Rattle.defs.specs.Cleanup.{Cleaned, statusNumber}
-use Rattle.defs.specs.Refusals.{Cause, refusalOf}
-use Rattle.calls.specs.Answers.{tallyOf, TalliesRefused, TalliesAnswered, Refuses, Accepts, Responds, RefusesSimplify}
-use Rattle.calls.specs.Answers.{AcceptsSimplify, RefusesCleanup, AcceptsCleanup}
+use Rattle.defs.specs.Refusals.{Cause}
+use Rattle.calls.specs.Answers.{tallyOf, Counts, Tallies, TalliesSimplify, TalliesCleanup}
 use Rattle.calls.specs.declared.Tally.{Tally}
-use Rattle.calls.specs.declared.Answer.{Answer}
+use Rattle.calls.specs.declared.Sent.{Sent}
+use Rattle.calls.proofs.ResponseLaws.{by-response}
 
 module _ {t r : Tally} where
-  pub tally-refused-is : r .answered ≡ t .answered → r .refused ≡ saturatingAdd (t .refused) 1 → r .rewrites ≡ t .rewrites → TalliesRefused t r
+  pub counts-refused : {number rewrites : ℕ} → (number ≡ 0 → ⊥) → r .answered ≡ t .answered → r .refused ≡ saturatingAdd (t .refused) 1
+      → r .rewrites ≡ t .rewrites → Counts number rewrites t r
   unfolding tallied
-  tally-refused-is a b c = record { is = λ number rewrites. λ i. record { answered = a i; refused = b i; rewrites = c i } }
+  counts-refused o a b c = record {
+    refuses = λ _ n w. λ i. record { answered = a i; refused = b i; rewrites = c i };
+    answers = λ z. absurd (o z);
+  }
 
-  pub tally-answered-is : {rewrites : ℕ} → r .answered ≡ saturatingAdd (t .answered) 1 → r .refused ≡ t .refused → r .rewrites
-      ≡ saturatingAdd (t .rewrites) rewrites → TalliesAnswered rewrites t r
+  pub counts-answered : {number rewrites : ℕ} → number ≡ 0 → r .answered ≡ saturatingAdd (t .answered) 1 → r .refused ≡ t .refused
+      → r .rewrites ≡ saturatingAdd (t .rewrites) rewrites → Counts number rewrites t r
   unfolding tallied
-  tally-answered-is a b c = record { is = λ bytes. λ i. record { answered = a i; refused = b i; rewrites = c i } }
+  counts-answered z a b c = record {
+    refuses = λ o. absurd (o z);
+    answers = λ _ bytes. λ i. record { answered = a i; refused = b i; rewrites = c i };
+  }
 
-  module _ (T : TalliesRefused t r) (number : ℕ) where
-    pub refuse-is : Refuses number t record { number = number; length = 0; tally = r }
-    unfolding D.answer numberOf lengthOf
-    refuse-is = record { is = λ i. record { number = number; length = 0; tally = T .is number 0 i } }
+-- a field that is 0 when refused
+module _ {x : Response} where
+  field-refused : {n : ℕ} (v : ℕ) → x ≡ refused n → 0 ≡ fieldOf x v
+  unfolding fieldOf
+  field-refused v e = sym (ap (λ (y : Response). fieldOf y v) e)
 
-    pub refuse-simplify-is : RefusesSimplify number t record { number = number; length = 0; rewrites = 0; rounds = 0; end = 0; tally = r }
-    unfolding numberOf lengthOf fieldOf
-    refuse-simplify-is = record {
-      is = λ s. λ i. record {
-        number = number;
-        length = 0;
-        rewrites = 0;
-        rounds = 0;
-        end = 0;
-        tally =
-            T .is number (s .rewrites) i;
-      };
+  field-accepted : {bytes : List ℕ} {w : ℕ} (v : ℕ) → x ≡ accepted bytes → w ≡ v → w ≡ fieldOf x v
+  unfolding fieldOf
+  field-accepted v e q = q ∙ sym (ap (λ (y : Response). fieldOf y v) e)
+
+-- the tally by the response
+module _ {number : ℕ} {t r : Tally} {rewrites : ℕ} (T : Counts number rewrites t r) {x : Response} (q : number ≡ numberOf x) where
+  tally-refused : {n : ℕ} (w : ℕ) → x ≡ refused n → (n ≡ 0 → ⊥) → tallyOf r ≡ tallied x w (tallyOf t)
+  unfolding numberOf
+  tally-refused {n} w e o = T .refuses (λ z. o (sym (q ∙ ap numberOf e) ∙ z)) n w ∙ ap (λ (y : Response). tallied y w (tallyOf t)) (sym e)
+
+  tally-accepted : {bytes : List ℕ} (w : ℕ) → x ≡ accepted bytes → (number ≡ 0 → rewrites ≡ w) → tallyOf r ≡ tallied x w (tallyOf t)
+  unfolding numberOf
+  tally-accepted {bytes} w e f =
+      let z = q ∙ ap numberOf e in
+      T .answers z bytes ∙ ap (λ (n : ℕ). tallied (accepted bytes) n (tallyOf t)) (f z) ∙ ap (λ (y : Response). tallied y w (tallyOf t)) (sym e)
+
+-- only a refusal has another number than 0, and every refusal has one
+module _ {number : ℕ} {x : Response} (q : number ≡ numberOf x) where
+  not-accepted : {A : Type 0} {bytes : List ℕ} → (number ≡ 0 → ⊥) → x ≡ accepted bytes → A
+  unfolding numberOf
+  not-accepted o e = absurd (o (q ∙ ap numberOf e))
+
+  not-refused : {A : Type 0} {n : ℕ} → number ≡ 0 → x ≡ refused n → (n ≡ 0 → ⊥) → A
+  unfolding numberOf
+  not-refused z e o = absurd (o (sym (q ∙ ap numberOf e) ∙ z))
+
+length-refused : {x : Response} {n : ℕ} → x ≡ refused n → 0 ≡ lengthOf x
+unfolding lengthOf
+length-refused e = sym (ap lengthOf e)
+
+module _ (s : Sent) {t r : Tally} where
+  pub tallies-is : Counts (s .number) 0 t r → Tallies s t record { number = s .number; length = s .length; tally = r }
+  unfolding D.answer
+  tallies-is T = record {
+    is = λ causes room result q l. λ i. record {
+      number = q i;
+      length = l i;
+      tally = (by-response causes room result (λ n e o. tally-refused T q 0 e o) (λ z m e. tally-accepted T q 0 e (λ _. refl))) i;
+    };
+  }
+
+module _ (s : Sent) {t r : Tally} {rewrites : ℕ} (T : Counts (s .number) rewrites t r) where
+  module _ (o : s .number ≡ 0 → ⊥) where
+    pub simplify-refused-is : (rounds end : ℕ) → TalliesSimplify s rewrites rounds end t record {
+      number = s .number;
+      length = 0;
+      rewrites = 0;
+      rounds = 0;
+      end = 0;
+      tally = r;
+    }
+    simplify-refused-is rounds end = record {
+      is = λ causes room result z q l f. by-response causes room result
+          (λ n e p. λ i. record {
+            number = q i;
+            length = length-refused e i;
+            rewrites = field-refused (z .rewrites) e i;
+            rounds = field-refused (z .rounds) e i;
+            end = field-refused (endNumber (z .end)) e i;
+            tally = tally-refused T q (z .rewrites) e p i;
+          })
+          (λ _ _ e. not-accepted q o e);
     }
 
-    pub refuse-cleanup-is : RefusesCleanup number t record { number = number; length = 0; status = 0; tally = r }
-    unfolding numberOf lengthOf fieldOf
-    refuse-cleanup-is = record { is = λ c. λ i. record { number = number; length = 0; status = 0; tally = T .is number (c .rewrites) i } }
+    pub cleanup-refused-is : (status : ℕ) → TalliesCleanup s status rewrites t record { number = s .number; length = 0; status = 0; tally = r }
+    cleanup-refused-is status = record {
+      is = λ causes room result z q l f. by-response causes room result
+          (λ n e p. λ i. record {
+            number = q i;
+            length = length-refused e i;
+            status = field-refused (statusNumber (z .status)) e i;
+            tally = tally-refused T q (z .rewrites) e p i;
+          })
+          (λ _ _ e. not-accepted q o e);
+    }
 
-  pub accept-is : (size : ℕ) → TalliesAnswered 0 t r → Accepts size t record { number = 0; length = size; tally = r }
-  unfolding D.answer numberOf lengthOf
-  accept-is size T = record { is = λ bytes l. λ i. record { number = 0; length = sym l i; tally = T .is bytes i } }
-
-  module _ {rewrites : ℕ} (T : TalliesAnswered rewrites t r) where
-    tally-as : (n : ℕ) (bytes : List ℕ) → n ≡ rewrites → tallyOf r ≡ tallied (accepted bytes) n (tallyOf t)
-    tally-as n bytes q = rw q (T .is bytes)
-
-    pub accept-simplify-is : (size rounds end : ℕ) → AcceptsSimplify size rewrites rounds end t record {
+  module _ (zero-is : s .number ≡ 0) where
+    pub simplify-answered-is : (rounds end : ℕ) → TalliesSimplify s rewrites rounds end t record {
       number = 0;
-      length = size;
+      length = s .length;
       rewrites = rewrites;
       rounds = rounds;
       end = end;
       tally = r;
     }
-    unfolding numberOf lengthOf fieldOf
-    accept-simplify-is size rounds end = record {
-      is = λ bytes s l a b c. λ i. record {
-        number = 0;
-        length = sym l i;
-        rewrites = sym a i;
-        rounds = sym b i;
-        end = sym c i;
-        tally =
-            tally-as (s .rewrites) bytes a i;
-      };
+    simplify-answered-is rounds end = record {
+      is = λ causes room result z q l f. by-response causes room result
+          (λ n e o. not-refused q zero-is e o)
+          (λ _ _ e. λ i. record {
+            number = (sym zero-is ∙ q) i;
+            length = l i;
+            rewrites = field-accepted (z .rewrites) e (f zero-is .0) i;
+            rounds = field-accepted (z .rounds) e (f zero-is .1 .0) i;
+            end = field-accepted (endNumber (z .end)) e (f zero-is .1 .1) i;
+            tally = tally-accepted T q (z .rewrites) e (λ y. f y .0) i;
+          });
     }
 
-    pub accept-cleanup-is : (size status : ℕ) → AcceptsCleanup size status rewrites t record { number = 0; length = size; status = status; tally = r }
-    unfolding numberOf lengthOf fieldOf
-    accept-cleanup-is size status = record {
-      is = λ bytes c l a b. λ i. record { number = 0; length = sym l i; status = sym a i; tally = tally-as (c .rewrites) bytes b i };
+    pub cleanup-answered-is : (status : ℕ) → TalliesCleanup s status rewrites t record { number = 0; length = s .length; status = status; tally = r }
+    cleanup-answered-is status = record {
+      is = λ causes room result z q l f. by-response causes room result
+          (λ n e o. not-refused q zero-is e o)
+          (λ _ _ e. λ i. record {
+            number = (sym zero-is ∙ q) i;
+            length = l i;
+            status = field-accepted (statusNumber (z .status)) e (f zero-is .0) i;
+            tally = tally-accepted T q (z .rewrites) e (λ y. f y .1) i;
+          });
     }
-
--- 11 only where the output is strictly shorter
-pub fits-short : (room : ℕ) (result : List ℕ) → room < length result → fits room result ≡ refused 11
-unfolding fits
-fits-short room result l = rw (lt-ltb room (length result) l, fits)
-
-pub fits-enough : (room : ℕ) (result : List ℕ) → length result ≤ room → fits room result ≡ accepted result
-unfolding fits
-fits-enough room result l = rw (le-ltb room (length result) l, fits)
-
-pub fits-not-short : (room : ℕ) (result : List ℕ) → length result ≤ room → fits room result ≡ refused 11 → ⊥
-unfolding numberOf
-fits-not-short room result l e = let z : _≡_ {A = ℕ} 0 11 = ap numberOf (sym (fits-enough room result l) ∙ e) in omega (arith, z)
-
--- a cause that is present refuses, whatever the room
-pub respond-refused : (causes : List Cause) (room : ℕ) (result : List ℕ) (n : ℕ) → refusalOf causes ≡ n → (n ≡ 0 → ⊥) → respond causes room result ≡ refused n
-unfolding respond respondTo
-respond-refused causes room result zero e o = absurd (o refl)
-respond-refused causes room result (suc n) e o = ap (λ (i : ℕ). respondTo i room result) e
-
-pub respond-fits : (causes : List Cause) (room : ℕ) (result : List ℕ) → refusalOf causes ≡ 0 → respond causes room result ≡ fits room result
-unfolding respond respondTo
-respond-fits causes room result e = ap (λ (i : ℕ). respondTo i room result) e
-
-module _ {x : Response} {out out′ : List ℕ} {t : Tally} {r : Answer} where
-  pub responds-refused : {n : ℕ} → x ≡ refused n → Refuses n t r → out′ ≡ out → Responds x out t r out′
-  unfolding writtenOf
-  responds-refused e R q = record {
-    answer = R .is ∙ ap (λ (y : Response). D.answer y (tallyOf t)) (sym e);
-    written = q
-        ∙ ap (λ (y : Response). writtenOf y out) (sym e);
-  }
-
-  pub responds-accepted : {bytes : List ℕ} {n : ℕ} → x ≡ accepted bytes → n ≡ length bytes → Accepts n t r → out′ ≡ bytes
-      ++ drop (length bytes) out → Responds x out t r out′
-  unfolding writtenOf
-  responds-accepted {bytes} e l A q = record {
-    answer = A .is bytes (sym l) ∙ ap (λ (y : Response). D.answer y (tallyOf t)) (sym e);
-    written = q ∙ ap (λ (y : Response). writtenOf y out) (sym e);
-  }

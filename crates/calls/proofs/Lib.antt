@@ -1,3 +1,4 @@
+pub mod ResponseLaws
 pub mod AnswerLaws
 pub mod SendLaws
 pub mod CauseLaws

@@ -1,20 +1,22 @@
 -- A record is written where it fits. Assumes nothing.
-use mathlib.Core.Path.{_≡_, refl, sym, ap, _∙_}
+use mathlib.Core.Path.{_≡_, refl, sym, ap, _∙_, subst}
 use mathlib.Core.List.{List, _++_}
 use Prim.Native.Nat.{ℕ, _+_, _*_, _≤_, _<_}
 use native.Mathlib.Omega.{arith}
 use lib.ListN.{length, drop}
-use Rattle.defs.specs.Calls.{Response, numberOf, lengthOf, writtenOf, refused, accepted, fits}
+use Rattle.defs.specs.Calls.{Response, numberOf, lengthOf, writtenOf, fits}
 use Rattle.defs.specs.Record.{sequenceGraph, encode}
 use Rattle.memory.specs.Memory.{graphOf, vertexRoom, edgeRoom, Room, Holds}
 use Rattle.memory.specs.declared.Held.{Held}
 use Rattle.memory.proofs.RoomLaws.{held-vertices, held-edges, held-ends, fit-bytes}
 use Rattle.pool.specs.Pool.{bytesIn}
+use Rattle.accept.specs.declared.Read.{Read}
+use Rattle.accept.specs.declared.Read.the-variants as read
+use Rattle.accept.proofs.AcceptLaws.{number-graph, number-refused}
 use Rattle.write_record.specs.Written.{Measured, Writable, Written}
-use Rattle.calls.specs.Sending.{Sendable, Sends}
-use Rattle.calls.proofs.AnswerLaws.{fits-short, fits-enough}
+use Rattle.calls.specs.Sending.{Sendable, Sends, SendsGraph}
+use Rattle.calls.proofs.ResponseLaws.{fits-short, fits-enough, respond-refused, respond-fits}
 use Rattle.store.specs.Store.{Within}
-use Rattle.laws.proofs.ListLaws.{byOrder}
 use Rattle.write_record.proofs.WriteLaws.{bytes-are, encode-length}
 use Rattle.calls.specs.declared.Sent.{Sent}
 
@@ -73,19 +75,25 @@ module _ {status : ℕ} {h : Held} {es vs p : List ℕ} (S : Sendable status h e
   pub send-small : {r : ℕ} {out′ : List ℕ} → Written status h es vs p out r out′ → r < 4294967296
   send-small W = omega (arith, W .long, long, q, S .measured .small)
 
--- what the number tells
-module _ {result out out′ : List ℕ} {r : Sent} (S : Sends result out r out′) where
-  pub sent-short : (r .number ≡ 0 → ⊥) → (fits (length out) result ≡ refused 11) × ((r .number ≡ 11) × (out′ ≡ out))
-  unfolding numberOf writtenOf
-  sent-short o = byOrder (length result) (length out)
-      (λ l. absurd (o (S .number ∙ ap numberOf (fits-enough (length out) result l))))
-      (λ l. let e = fits-short (length out) result l in (e, (S .number ∙ ap numberOf e, S .written ∙ ap (λ (x : Response). writtenOf x out) e)))
-
-  pub sent-whole : r .number ≡ 0 → (fits (length out) result ≡ accepted result) × ((r .length ≡ length result) × (out′ ≡ result ++ drop (length result) out))
+-- a number where a cause is present, else the record where it fits
+module _ {r : Read} {es vs p : List ℕ} where
+  pub sends-refused : {n : ℕ} → r ≡ read.Refused n → {status : ℕ} {out : List ℕ} → SendsGraph status r es vs p out record { number = n; length = 0 } out
   unfolding numberOf lengthOf writtenOf
-  sent-whole z = byOrder (length result) (length out)
-      (λ l. let e = fits-enough (length out) result l in (e, (S .size ∙ ap lengthOf e, S .written ∙ ap (λ (x : Response). writtenOf x out) e)))
-      (λ l. absurd (eleven (sym (S .number ∙ ap numberOf (fits-short (length out) result l)) ∙ z)))
-    where
-      eleven : _≡_ {A = ℕ} 11 0 → ⊥
-      eleven q = omega (arith, q)
+  sends-refused {n} f {status} {out} = record {
+    is = λ causes result M.
+        let e = respond-refused causes (length out) result n (sym (M .number) ∙ number-refused f) (M .refused n f) in
+        record { number = sym (ap numberOf e); size = sym (ap lengthOf e); written = sym (ap (λ (x : Response). writtenOf x out) e) };
+  }
+
+  pub sends-graph : {h : Held} → r ≡ read.Graph h → {status : ℕ} {out : List ℕ} {s : Sent} {out′ : List ℕ}
+      → Sends (encode sequenceGraph status (graphOf h es vs p)) out s out′ → SendsGraph status r es vs p out s out′
+  sends-graph {h} ok {status} {out} {s} {out′} S = record {
+    is = λ causes result M.
+        let e = respond-fits causes (length out) result (sym (M .number) ∙ number-graph ok) in
+        let S′ = subst (λ (x : List ℕ). Sends x out s out′) (M .is h ok) S in
+        record {
+          number = S′ .number ∙ ap numberOf (sym e);
+          size = S′ .size ∙ ap lengthOf (sym e);
+          written = S′ .written ∙ ap (λ (x : Response). writtenOf x out) (sym e);
+        };
+  }

@@ -2,15 +2,16 @@
 use mathlib.Core.Path.{_≡_}
 use mathlib.Core.List.{List}
 use Prim.Native.Nat.{ℕ}
-use lib.ListN.{length}
 use Rattle.defs.specs.Calls as D
-use Rattle.defs.specs.Calls.{Response, refused, accepted, tallied}
+use Rattle.defs.specs.Calls.{refused, accepted, numberOf, lengthOf, tallied, respond}
+use Rattle.defs.specs.Refusals.{Cause}
 use Rattle.defs.specs.Simplify.{Simplified, endNumber}
 use Rattle.defs.specs.Cleanup.{Cleaned, statusNumber}
 use Rattle.calls.specs.declared.Tally.{Tally}
 use Rattle.calls.specs.declared.Answer.{Answer}
 use Rattle.calls.specs.declared.SimplifyAnswer.{SimplifyAnswer}
 use Rattle.calls.specs.declared.CleanupAnswer.{CleanupAnswer}
+use Rattle.calls.specs.declared.Sent.{Sent}
 
 -- a struct's fields, as the definition has them
 abbrev pub tallyOf : Tally → D.Tally
@@ -25,34 +26,26 @@ simplifyAnswerOf r = record { number = r .number; length = r .length; rewrites =
 abbrev pub cleanupAnswerOf : CleanupAnswer → D.CleanupAnswer
 cleanupAnswerOf r = record { number = r .number; length = r .length; status = r .status; tally = tallyOf (r .tally) }
 
-pub record TalliesRefused (t r : Tally) : Type 0 where
-  pub is : (number rewrites : ℕ) → tallyOf r ≡ tallied (refused number) rewrites (tallyOf t)
+-- the tally behind a call that was refused by a number, or answered
+pub record Counts (number rewrites : ℕ) (t r : Tally) : Type 0 where
+  pub refuses : (number ≡ 0 → ⊥) → (n w : ℕ) → tallyOf r ≡ tallied (refused n) w (tallyOf t)
+  pub answers : number ≡ 0 → (bytes : List ℕ) → tallyOf r ≡ tallied (accepted bytes) rewrites (tallyOf t)
 
-pub record TalliesAnswered (rewrites : ℕ) (t r : Tally) : Type 0 where
-  pub is : (bytes : List ℕ) → tallyOf r ≡ tallied (accepted bytes) rewrites (tallyOf t)
+-- The whole answer is the definition's if number and length are those of the call's response and, in an answered call, the other numbers are
+-- the definition's.
+pub record Tallies (s : Sent) (t : Tally) (r : Answer) : Type 0 where
+  pub is : (causes : List Cause) (room : ℕ) (result : List ℕ) → s .number ≡ numberOf (respond causes room result)
+      → s .length ≡ lengthOf (respond causes room result)
+      → answerOf r ≡ D.answer (respond causes room result) (tallyOf t)
 
-pub record Refuses (number : ℕ) (t : Tally) (r : Answer) : Type 0 where
-  pub is : answerOf r ≡ D.answer (refused number) (tallyOf t)
+pub record TalliesSimplify (s : Sent) (rewrites rounds end : ℕ) (t : Tally) (r : SimplifyAnswer) : Type 0 where
+  pub is : (causes : List Cause) (room : ℕ) (result : List ℕ) (z : Simplified) → s .number ≡ numberOf (respond causes room result)
+      → s .length ≡ lengthOf (respond causes room result)
+      → (s .number ≡ 0 → (rewrites ≡ z .rewrites) × ((rounds ≡ z .rounds) × (end ≡ endNumber (z .end))))
+      → simplifyAnswerOf r ≡ D.simplifyAnswer (respond causes room result) z (tallyOf t)
 
--- the answer where the result is so many bytes
-pub record Accepts (size : ℕ) (t : Tally) (r : Answer) : Type 0 where
-  pub is : (bytes : List ℕ) → length bytes ≡ size → answerOf r ≡ D.answer (accepted bytes) (tallyOf t)
-
--- The promise of a call whose answer is number, length and tally: the answer and the output at exit are those of its response.
-pub record Responds (x : Response) (out : List ℕ) (t : Tally) (r : Answer) (out′ : List ℕ) : Type 0 where
-  pub answer : answerOf r ≡ D.answer x (tallyOf t)
-  pub written : out′ ≡ D.writtenOf x out
-
-pub record RefusesSimplify (number : ℕ) (t : Tally) (r : SimplifyAnswer) : Type 0 where
-  pub is : (s : Simplified) → simplifyAnswerOf r ≡ D.simplifyAnswer (refused number) s (tallyOf t)
-
-pub record AcceptsSimplify (size rewrites rounds end : ℕ) (t : Tally) (r : SimplifyAnswer) : Type 0 where
-  pub is : (bytes : List ℕ) (s : Simplified) → length bytes ≡ size → s .rewrites ≡ rewrites → s .rounds ≡ rounds → endNumber (s .end) ≡ end
-      → simplifyAnswerOf r ≡ D.simplifyAnswer (accepted bytes) s (tallyOf t)
-
-pub record RefusesCleanup (number : ℕ) (t : Tally) (r : CleanupAnswer) : Type 0 where
-  pub is : (c : Cleaned) → cleanupAnswerOf r ≡ D.cleanupAnswer (refused number) c (tallyOf t)
-
-pub record AcceptsCleanup (size status rewrites : ℕ) (t : Tally) (r : CleanupAnswer) : Type 0 where
-  pub is : (bytes : List ℕ) (c : Cleaned) → length bytes ≡ size → statusNumber (c .status) ≡ status → c .rewrites ≡ rewrites
-      → cleanupAnswerOf r ≡ D.cleanupAnswer (accepted bytes) c (tallyOf t)
+pub record TalliesCleanup (s : Sent) (status rewrites : ℕ) (t : Tally) (r : CleanupAnswer) : Type 0 where
+  pub is : (causes : List Cause) (room : ℕ) (result : List ℕ) (z : Cleaned) → s .number ≡ numberOf (respond causes room result)
+      → s .length ≡ lengthOf (respond causes room result)
+      → (s .number ≡ 0 → (status ≡ statusNumber (z .status)) × (rewrites ≡ z .rewrites))
+      → cleanupAnswerOf r ≡ D.cleanupAnswer (respond causes room result) z (tallyOf t)

@@ -3,10 +3,16 @@ use mathlib.Core.Path.{_≡_}
 use mathlib.Core.List.{List}
 use Prim.Native.Nat.{ℕ, _+_, _*_, _≤_}
 use lib.ListN.{length}
-use Rattle.defs.specs.Calls.{fits, numberOf, lengthOf, writtenOf}
+use Rattle.defs.specs.Record.{sequenceGraph, encode}
+use Rattle.defs.specs.Refusals.{Cause, refusalOf}
+use Rattle.defs.specs.Calls.{Response, fits, respond, numberOf, lengthOf, writtenOf}
 use Rattle.store.specs.Store.{Within}
 use Rattle.pool.specs.Pool.{bytesIn}
+use Rattle.memory.specs.Memory.{graphOf}
 use Rattle.memory.specs.declared.Held.{Held}
+use Rattle.accept.specs.Accept.{readNumber}
+use Rattle.accept.specs.declared.Read.{Read}
+use Rattle.accept.specs.declared.Read.the-variants as read
 use Rattle.write_record.specs.Written.{Measured, Writable}
 use Rattle.calls.specs.declared.Sent.{Sent}
 
@@ -21,3 +27,23 @@ pub record Sends (result out : List ℕ) (r : Sent) (out′ : List ℕ) : Type 0
   pub number : r .number ≡ numberOf (fits (length out) result)
   pub size : r .length ≡ lengthOf (fits (length out) result)
   pub written : out′ ≡ writtenOf (fits (length out) result) out
+
+-- The promise of what a call sends: number, length and the output at exit are those of its response.
+pub record Responds (x : Response) (out : List ℕ) (s : Sent) (out′ : List ℕ) : Type 0 where
+  pub number : s .number ≡ numberOf x
+  pub size : s .length ≡ lengthOf x
+  pub written : out′ ≡ writtenOf x out
+
+-- What was made of a record, by its causes of a refusal: a number other than 0, or a graph in the slices whose record, with this status, is the
+-- result.
+pub record Makes (causes : List Cause) (status : ℕ) (result : List ℕ) (r : Read) (es vs p : List ℕ) : Type 0 where
+  pub number : readNumber r ≡ refusalOf causes
+  pub is : (h : Held) → r ≡ read.Graph h → encode sequenceGraph status (graphOf h es vs p) ≡ result
+  pub refused : (n : ℕ) → r ≡ read.Refused n → n ≡ 0 → ⊥
+
+pub record GraphSendable (status : ℕ) (r : Read) (es vs p : List ℕ) : Type 0 where
+  pub sendable : (h : Held) → r ≡ read.Graph h → Sendable status h es vs p
+
+-- what is sent responds to the causes of a refusal, whatever they are, with that record
+pub record SendsGraph (status : ℕ) (r : Read) (es vs p out : List ℕ) (s : Sent) (out′ : List ℕ) : Type 0 where
+  pub is : (causes : List Cause) (result : List ℕ) → Makes causes status result r es vs p → Responds (respond causes (length out) result) out s out′

@@ -1,10 +1,12 @@
-// What the public calls have in common: their result structs, the tally, and the record that is written where it fits.
+// What the public calls have in common: their result structs, the tally, and what is sent: the number of a refusal, or the record of a graph
+// where it fits.
 ghost use mathlib.Core.Path.{_≡_};
 ghost use lib.ListN.{length};
 ghost use Rattle.defs.specs.Record.{sequenceGraph, encode};
 ghost use Rattle.memory.specs.Memory.{graphOf};
-ghost use Rattle.calls.specs.Answers.{Refuses, Accepts, RefusesSimplify, AcceptsSimplify, RefusesCleanup, AcceptsCleanup, TalliesRefused, TalliesAnswered};
-ghost use Rattle.calls.specs.Sending.{Sendable, Sends};
+ghost use Rattle.calls.specs.Answers.{Counts, Tallies, TalliesSimplify, TalliesCleanup};
+ghost use Rattle.calls.specs.Sending.{Sendable, Sends, GraphSendable, SendsGraph};
+use accept::Read;
 use memory::Held;
 
 // Calls answered, calls refused, rewrites made in the answered calls.
@@ -40,25 +42,23 @@ pub struct CleanupAnswer {
     pub tally: Tally,
 }
 
-// A record that was to be written: 0 and its length, or 11 and 0.
+// What a call sends: 0 and the length of what it wrote, or the number of the refusal and 0.
 pub struct Sent {
     pub number: u32,
     pub length: u32,
 }
 
-fn tally_refused(t: Tally) -> Tally
-    ensures { λ r. ⌜ TalliesRefused t r ⌝ }
+// One call more: refused by a number, or, with number 0, answered with so many rewrites.
+fn count_call(number: u32, rewrites: u32, t: Tally) -> Tally
+    ensures { λ r. ⌜ Counts number rewrites t r ⌝ }
 {
-    Tally {
-        answered: t.answered,
-        refused: store::saturating_add(t.refused, 1),
-        rewrites: t.rewrites,
+    if number != 0 {
+        return Tally {
+            answered: t.answered,
+            refused: store::saturating_add(t.refused, 1),
+            rewrites: t.rewrites,
+        };
     }
-}
-
-fn tally_answered(rewrites: u32, t: Tally) -> Tally
-    ensures { λ r. ⌜ TalliesAnswered rewrites t r ⌝ }
-{
     Tally {
         answered: store::saturating_add(t.answered, 1),
         refused: t.refused,
@@ -66,55 +66,41 @@ fn tally_answered(rewrites: u32, t: Tally) -> Tally
     }
 }
 
-pub fn refuse(number: u32, t: Tally) -> Answer
-    ensures { λ r. ⌜ Refuses number t r ⌝ }
+pub fn tally_answer(sent: Sent, t: Tally) -> Answer
+    ensures { λ r. ⌜ Tallies sent t r ⌝ }
 {
-    let tally = tally_refused(t);
+    let tally = count_call(sent.number, 0, t);
     Answer {
-        number: number,
-        length: 0,
+        number: sent.number,
+        length: sent.length,
         tally: tally,
     }
 }
 
-pub fn accept(length: u32, t: Tally) -> Answer
-    ensures { λ r. ⌜ Accepts length t r ⌝ }
-{
-    let tally = tally_answered(0, t);
-    Answer {
-        number: 0,
-        length: length,
-        tally: tally,
-    }
-}
-
-pub fn refuse_simplify(number: u32, t: Tally) -> SimplifyAnswer
-    ensures { λ r. ⌜ RefusesSimplify number t r ⌝ }
-{
-    let tally = tally_refused(t);
-    SimplifyAnswer {
-        number: number,
-        length: 0,
-        rewrites: 0,
-        rounds: 0,
-        end: 0,
-        tally: tally,
-    }
-}
-
-pub fn accept_simplify(
-    length: u32,
+pub fn tally_simplify(
+    sent: Sent,
     rewrites: u32,
     rounds: u32,
     end: u32,
     t: Tally,
 ) -> SimplifyAnswer
-    ensures { λ r. ⌜ AcceptsSimplify length rewrites rounds end t r ⌝ }
+    ensures { λ r. ⌜ TalliesSimplify sent rewrites rounds end t r ⌝ }
 {
-    let tally = tally_answered(rewrites, t);
+    let number = sent.number;
+    let tally = count_call(number, rewrites, t);
+    if number != 0 {
+        return SimplifyAnswer {
+            number: number,
+            length: 0,
+            rewrites: 0,
+            rounds: 0,
+            end: 0,
+            tally: tally,
+        };
+    }
     SimplifyAnswer {
         number: 0,
-        length: length,
+        length: sent.length,
         rewrites: rewrites,
         rounds: rounds,
         end: end,
@@ -122,31 +108,28 @@ pub fn accept_simplify(
     }
 }
 
-pub fn refuse_cleanup(number: u32, t: Tally) -> CleanupAnswer
-    ensures { λ r. ⌜ RefusesCleanup number t r ⌝ }
+pub fn tally_cleanup(sent: Sent, status: u32, rewrites: u32, t: Tally) -> CleanupAnswer
+    ensures { λ r. ⌜ TalliesCleanup sent status rewrites t r ⌝ }
 {
-    let tally = tally_refused(t);
-    CleanupAnswer {
-        number: number,
-        length: 0,
-        status: 0,
-        tally: tally,
+    let number = sent.number;
+    let tally = count_call(number, rewrites, t);
+    if number != 0 {
+        return CleanupAnswer {
+            number: number,
+            length: 0,
+            status: 0,
+            tally: tally,
+        };
     }
-}
-
-pub fn accept_cleanup(length: u32, status: u32, rewrites: u32, t: Tally) -> CleanupAnswer
-    ensures { λ r. ⌜ AcceptsCleanup length status rewrites t r ⌝ }
-{
-    let tally = tally_answered(rewrites, t);
     CleanupAnswer {
         number: 0,
-        length: length,
+        length: sent.length,
         status: status,
         tally: tally,
     }
 }
 
-pub fn send_record(
+fn send_record(
     out: &mut [u8],
     status: u32,
     held: Held,
@@ -170,4 +153,26 @@ pub fn send_record(
         number: 0,
         length: written as u32,
     }
+}
+
+// What was made of a record: the number of its refusal, or its graph, which the slices hold.
+pub fn send(
+    read: Read,
+    status: u32,
+    out: &mut [u8],
+    es: &[u32],
+    vs: &[u32],
+    p: &[u8],
+) -> Sent
+    requires { ⌜ GraphSendable status read (now es) (now vs) (now p) ⌝ }
+    ensures { λ r. ⌜ SendsGraph status read (now (es .entry)) (now (vs .entry)) (now (p .entry)) (now (out .entry)) r (now (out .exit)) ⌝ }
+{
+    let held = match read {
+        Read::Graph(held) => held,
+        Read::Refused(number) => return Sent {
+            number: number,
+            length: 0,
+        },
+    };
+    send_record(out, status, held, es, vs, p)
 }

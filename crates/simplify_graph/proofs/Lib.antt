@@ -1,2 +1,1 @@
-pub mod MadeLaws
 pub mod SimplifyLaws

@@ -1,0 +1,179 @@
+// The calls that rewrite a graph: a record is read, and its graph simplified or cleaned, in slices. What the two calls have in common is said
+// once, over which of them it is.
+ghost use mathlib.Core.Path.{_≡_};
+ghost use Rattle.defs.specs.Cleanup.{statusNumber};
+ghost use Rattle.arrays.specs.Sized.{Lent};
+ghost use Rattle.choice.specs.Choice.{Cleanable};
+ghost use Rattle.cleanup.specs.CleanUp.{cleanupStatusOf};
+ghost use Rattle.rewriting.specs.Rewriting.{ReadCleanable, GraphRewritten, ReadRewritten, RewrittenAs};
+ghost use Rattle.rewriting.specs.declared.RewritingCall.the-variants as call;
+use accept::Read;
+use cleanup::SeqGraphCleanupStatus;
+use memory::Held;
+
+pub enum RewritingCall {
+    SimplifyGraph,
+    CleanupSeqGraph,
+}
+
+// What became of a record: its graph, rewritten, which the slices hold, or the number of the refusal; and what the call counted. A number that
+// a call does not have is 0.
+pub struct Rewritten {
+    pub read: Read,
+    pub status: u32,
+    pub rewrites: u32,
+    pub rounds: u32,
+    pub end: u32,
+}
+
+// The number of a status, as a record has it.
+fn status_number(status: SeqGraphCleanupStatus) -> u32
+    ensures { λ r. ⌜ r ≡ statusNumber (cleanupStatusOf status) ⌝ }
+{
+    match status {
+        SeqGraphCleanupStatus::JustAssembledReference => 1,
+        SeqGraphCleanupStatus::AssembledSomeVariation => 2,
+    }
+}
+
+fn simplify(
+    held: Held,
+    es: &mut [u32],
+    vs: &mut [u32],
+    p: &mut [u8],
+    heads: &mut [u32],
+    nexts: &mut [u32],
+    nodes: &mut [u32],
+    map: &mut [u32],
+    starts: &mut [u32],
+    tried: &mut [u64],
+    sig: &mut [u32],
+) -> Rewritten
+    requires { ⌜ Cleanable held (now es) (now vs) (now p) (now heads) (now nexts) (now nodes) (now map) (now starts) (now tried) (now sig) ⌝ }
+    ensures { λ r. ⌜ GraphRewritten call.SimplifyGraph held (now (es .entry)) (now (vs .entry)) (now (p .entry)) (now (heads .entry))
+        (now (nexts .entry)) r (now (es .exit)) (now (vs .exit)) (now (p .exit)) ⌝ }
+{
+    let s = rounds::simplify_graph_full(
+        held,
+        10,
+        es,
+        vs,
+        p,
+        heads,
+        nexts,
+        nodes,
+        map,
+        starts,
+        tried,
+        sig,
+    );
+    let left = s.held;
+    Rewritten {
+        read: Read::Graph(left),
+        status: 0,
+        rewrites: s.rewrites,
+        rounds: s.rounds,
+        end: s.end,
+    }
+}
+
+fn clean_up(
+    held: Held,
+    es: &mut [u32],
+    vs: &mut [u32],
+    p: &mut [u8],
+    heads: &mut [u32],
+    nexts: &mut [u32],
+    nodes: &mut [u32],
+    map: &mut [u32],
+    starts: &mut [u32],
+    tried: &mut [u64],
+    sig: &mut [u32],
+) -> Rewritten
+    requires { ⌜ Cleanable held (now es) (now vs) (now p) (now heads) (now nexts) (now nodes) (now map) (now starts) (now tried) (now sig) ⌝ }
+    ensures { λ r. ⌜ GraphRewritten call.CleanupSeqGraph held (now (es .entry)) (now (vs .entry)) (now (p .entry)) (now (heads .entry))
+        (now (nexts .entry)) r (now (es .exit)) (now (vs .exit)) (now (p .exit)) ⌝ }
+{
+    let c = cleanup::cleanup_seq_graph(
+        held,
+        es,
+        vs,
+        p,
+        heads,
+        nexts,
+        nodes,
+        map,
+        starts,
+        tried,
+        sig,
+    );
+    let left = c.held;
+    let end = c.status;
+    let status = status_number(end);
+    Rewritten {
+        read: Read::Graph(left),
+        status: status,
+        rewrites: c.rewrites,
+        rounds: 0,
+        end: 0,
+    }
+}
+
+fn rewrite(
+    call: RewritingCall,
+    read: Read,
+    es: &mut [u32],
+    vs: &mut [u32],
+    p: &mut [u8],
+    heads: &mut [u32],
+    nexts: &mut [u32],
+    nodes: &mut [u32],
+    map: &mut [u32],
+    starts: &mut [u32],
+    tried: &mut [u64],
+    sig: &mut [u32],
+) -> Rewritten
+    requires { ⌜ ReadCleanable read (now es) (now vs) (now p) (now heads) (now nexts) (now nodes) (now map) (now starts) (now tried) (now sig) ⌝ }
+    ensures { λ r. ⌜ ReadRewritten call read (now (es .entry)) (now (vs .entry)) (now (p .entry)) (now (heads .entry)) (now (nexts .entry)) r
+        (now (es .exit)) (now (vs .exit)) (now (p .exit)) ⌝ }
+{
+    let held = match read {
+        Read::Graph(held) => held,
+        Read::Refused(number) => return Rewritten {
+            read: Read::Refused(number),
+            status: 0,
+            rewrites: 0,
+            rounds: 0,
+            end: 0,
+        },
+    };
+    match call {
+        RewritingCall::SimplifyGraph => {
+            return simplify(held, es, vs, p, heads, nexts, nodes, map, starts, tried, sig);
+        }
+        RewritingCall::CleanupSeqGraph => {
+            return clean_up(held, es, vs, p, heads, nexts, nodes, map, starts, tried, sig);
+        }
+    }
+}
+
+pub fn read_and_rewrite(
+    call: RewritingCall,
+    rec: &[u8],
+    es: &mut [u32],
+    vs: &mut [u32],
+    p: &mut [u8],
+    heads: &mut [u32],
+    nexts: &mut [u32],
+    nodes: &mut [u32],
+    map: &mut [u32],
+    starts: &mut [u32],
+    tried: &mut [u64],
+    sig: &mut [u32],
+) -> Rewritten
+    requires { ⌜ Lent (now rec) (now es) (now vs) (now p) (now heads) (now nexts) (now nodes) (now map) (now starts) (now tried) (now sig) ⌝ }
+    ensures { λ r. ⌜ RewrittenAs call (now (rec .entry)) (now (heads .entry)) (now (nexts .entry)) r (now (es .exit)) (now (vs .exit)) (now (p .exit)) ⌝ }
+{
+    let read = accept::read_sequence_graph(rec, es, vs, p, heads, nexts, nodes, map);
+    rewrite(call, read, es, vs, p, heads, nexts, nodes, map, starts, tried, sig)
+}

@@ -1,0 +1,30 @@
+-- The promise of a call that rewrites, the tally aside. Assumes nothing.
+use mathlib.Core.Path.{_≡_}
+use mathlib.Core.List.{List}
+use Prim.Native.Nat.{ℕ}
+use Rattle.defs.specs.Record.{sequenceGraph, encode, decode}
+use Rattle.defs.specs.Refusals.{sequenceOnly, recordCauses}
+use Rattle.defs.specs.Calls.{Response, respond}
+use lib.ListN.{length}
+use Rattle.rewriting.specs.Rewriting.{Result, resultOf}
+use Rattle.rewriting.specs.declared.RewritingCall.{RewritingCall}
+use Rattle.calls.specs.Sending.{Responds}
+use Rattle.rewriting_calls.specs.declared.RewritingAnswer.{RewritingAnswer}
+
+-- the record of what the call makes of a record's graph, and the response with it
+abbrev pub recordOf : Result → List ℕ
+recordOf z = encode sequenceGraph (z .status) (z .graph)
+
+abbrev pub responseOf : RewritingCall → List ℕ → ℕ → Response
+responseOf call bs room = respond (recordCauses sequenceOnly bs) room (recordOf (resultOf call (decode bs)))
+
+-- the numbers that the call counted are the result's
+pub record CountedAs (z : Result) (r : RewritingAnswer) : Type 0 where
+  pub status : r .status ≡ z .status
+  pub rewrites : r .rewrites ≡ z .rewrites
+  pub rounds : r .rounds ≡ z .rounds
+  pub end : r .end ≡ z .end
+
+pub record Answered (call : RewritingCall) (bs out : List ℕ) (r : RewritingAnswer) (out′ : List ℕ) : Type 0 where
+  pub sent : Responds (responseOf call bs (length out)) out (r .sent) out′
+  pub counted : r .sent .number ≡ 0 → CountedAs (resultOf call (decode bs)) r
