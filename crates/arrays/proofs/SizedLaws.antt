@@ -7,9 +7,9 @@ use lib.ListN.{length}
 use Rattle.defs.specs.Record.{kindOf, verticesOf, edgesOf, bytesOf}
 use Rattle.record.specs.Layout.{WellFormed}
 use Rattle.record.proofs.Sequences.{length-is}
-use Rattle.memory.specs.Memory.{Room, Holds, Scratch, Countable, Simplifiable}
+use Rattle.memory.specs.Memory.{Room, Holds, Scratch, Countable}
 use Rattle.memory.specs.declared.Held.{Held}
-use Rattle.memory.proofs.RoomLaws.{room-kept, holds-kept}
+use Rattle.memory.proofs.RoomLaws.{room-kept}
 use Rattle.accept.specs.Accept.{Roomy}
 use Rattle.calls.specs.Sending.{Sendable}
 use Rattle.calls.proofs.SendLaws.{held-sendable}
@@ -84,12 +84,6 @@ module _ {v e : ℕ} {bs : List ℕ} (S : Enough v e bs) where
   }
 
 module _ {bs es vs p heads nexts nodes mp : List ℕ} where
-  pub large-graph : SizedGraph 10240 16384 es vs p heads nexts nodes mp → LentGraph bs es vs p heads nexts nodes mp
-  large-graph = graph-lent (large bs)
-
-  pub small-graph : length bs ≤ 1024 → SizedGraph 1024 1280 es vs p heads nexts nodes mp → LentGraph bs es vs p heads nexts nodes mp
-  small-graph l = graph-lent (small bs l)
-
   module _ {tried : List ℕ} where
     pub large-marks : SizedMarks 10240 16384 es vs p heads nexts nodes mp tried → LentMarks bs es vs p heads nexts nodes mp tried
     large-marks = marks-lent (large bs)
@@ -124,16 +118,3 @@ module _ {bs es vs p heads nexts nodes mp starts tried sig : List ℕ} (Z : Lent
 
   pub lent-countable : {heads′ : List ℕ} → length heads′ ≡ length heads → Countable 501 0 heads′
   lent-countable d = record { small = omega (arith, d, Z .graph .vertices-most) }
-
-  pub lent-simplifiable : {h : Held} {es′ vs′ p′ heads′ nexts′ nodes′ mp′ : List ℕ} → Holds h es′ vs′ p′ heads nexts
-      → length es′ ≡ length es → length vs′ ≡ length vs → length p′ ≡ length p → length heads′ ≡ length heads → length nexts′ ≡ length nexts
-      → length nodes′ ≡ length nodes → length mp′ ≡ length mp
-      → Simplifiable 10 h es′ vs′ p′ heads′ nexts′ nodes′ mp′ starts tried sig
-  lent-simplifiable H la lb lc ld le lf lg = record {
-    least-is = omega arith;
-    room = room-kept (Z .graph .room) la lb lc ld le lf lg;
-    holds = holds-kept H ld le;
-    scratch = lent-scratch ld;
-    sig-room = omega (arith, ld, Z .sig-room);
-    countable = lent-countable ld;
-  }

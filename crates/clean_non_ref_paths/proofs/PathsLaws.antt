@@ -8,7 +8,7 @@ use Rattle.defs.specs.Cleanup.{cleanNonRefPaths}
 use Rattle.defs.specs.Record.{sequenceGraph, encode, decode}
 use Rattle.defs.specs.Refusals.{Cause, sequenceOnly, recordCauses, recordRefusal}
 use Rattle.defs.specs.Calls as D
-use Rattle.defs.specs.Calls.{numberOf, lengthOf, cleanNonRefPathsResponse, cleanNonRefPathsAnswer}
+use Rattle.defs.specs.Calls.{numberOf, cleanNonRefPathsResponse, cleanNonRefPathsAnswer}
 use Rattle.reread.specs.Reread.{ReacceptedAs}
 use Rattle.reread.proofs.Graphs.{input-reaccepted}
 use Rattle.reread.proofs.Read.{Bytes, record-most, sequence-input}

@@ -7,7 +7,7 @@ use lib.ListN.{length}
 use Rattle.defs.specs.Cleanup.{cleanNonRefPaths}
 use Rattle.defs.specs.Record.{sequenceGraph, encode, decode}
 use Rattle.defs.specs.Refusals.{sequenceOnly, recordCauses, recordRefusal}
-use Rattle.defs.specs.Calls.{Response, refused, cleanNonRefPathsResponse, referencePathBytesResponse}
+use Rattle.defs.specs.Calls.{refused, cleanNonRefPathsResponse, referencePathBytesResponse}
 use Rattle.compact.specs.Compact.{Compactable}
 use Rattle.index.specs.Index.{Indexable}
 use Rattle.memory.specs.Memory.{graphOf, Holds}

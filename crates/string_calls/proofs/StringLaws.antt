@@ -11,7 +11,7 @@ use Rattle.defs.specs.Simplify.{sequenceBytes}
 use Rattle.defs.specs.Paths.{isPathOf, pathBasesBytes, referencePathBytes}
 use Rattle.defs.specs.Record.{decode}
 use Rattle.defs.specs.Refusals.{sequenceOnly, recordRefusal}
-use Rattle.defs.specs.Calls.{Response, refused, accepted, numberOf, fits, referencePathBytesResponse, pathBasesBytesResponse}
+use Rattle.defs.specs.Calls.{Response, refused, numberOf, fits, referencePathBytesResponse, pathBasesBytesResponse}
 use Rattle.laws.proofs.ListLaws.{given-some}
 use Rattle.laws.proofs.Whole.{byOption}
 use Rattle.record.proofs.Accepted.{sequence-kind}
