@@ -84,12 +84,6 @@ module _ {v e : ℕ} {bs : List ℕ} (S : Enough v e bs) where
   }
 
 module _ {bs es vs p heads nexts nodes mp : List ℕ} where
-  pub large-graph : SizedGraph 10240 16384 es vs p heads nexts nodes mp → LentGraph bs es vs p heads nexts nodes mp
-  large-graph = graph-lent (large bs)
-
-  pub small-graph : length bs ≤ 1024 → SizedGraph 1024 1280 es vs p heads nexts nodes mp → LentGraph bs es vs p heads nexts nodes mp
-  small-graph l = graph-lent (small bs l)
-
   module _ {tried : List ℕ} where
     pub large-marks : SizedMarks 10240 16384 es vs p heads nexts nodes mp tried → LentMarks bs es vs p heads nexts nodes mp tried
     large-marks = marks-lent (large bs)

@@ -77,13 +77,7 @@ pub fn tally_answer(sent: Sent, t: Tally) -> Answer
     }
 }
 
-pub fn tally_simplify(
-    sent: Sent,
-    rewrites: u32,
-    rounds: u32,
-    end: u32,
-    t: Tally,
-) -> SimplifyAnswer
+pub fn tally_simplify(sent: Sent, rewrites: u32, rounds: u32, end: u32, t: Tally) -> SimplifyAnswer
     ensures { λ r. ⌜ TalliesSimplify sent rewrites rounds end t r ⌝ }
 {
     let number = sent.number;
@@ -129,14 +123,7 @@ pub fn tally_cleanup(sent: Sent, status: u32, rewrites: u32, t: Tally) -> Cleanu
     }
 }
 
-fn send_record(
-    out: &mut [u8],
-    status: u32,
-    held: Held,
-    es: &[u32],
-    vs: &[u32],
-    p: &[u8],
-) -> Sent
+fn send_record(out: &mut [u8], status: u32, held: Held, es: &[u32], vs: &[u32], p: &[u8]) -> Sent
     requires { ⌜ Sendable status held (now es) (now vs) (now p) ⌝ }
     ensures { λ r. ⌜ Sends (encode sequenceGraph status (graphOf held (now (es .entry)) (now (vs .entry)) (now (p .entry))))
         (now (out .entry)) r (now (out .exit)) ⌝ }
@@ -156,14 +143,7 @@ fn send_record(
 }
 
 // What was made of a record: the number of its refusal, or its graph, which the slices hold.
-pub fn send(
-    read: Read,
-    status: u32,
-    out: &mut [u8],
-    es: &[u32],
-    vs: &[u32],
-    p: &[u8],
-) -> Sent
+pub fn send(read: Read, status: u32, out: &mut [u8], es: &[u32], vs: &[u32], p: &[u8]) -> Sent
     requires { ⌜ GraphSendable status read (now es) (now vs) (now p) ⌝ }
     ensures { λ r. ⌜ SendsGraph status read (now (es .entry)) (now (vs .entry)) (now (p .entry)) (now (out .entry)) r (now (out .exit)) ⌝ }
 {

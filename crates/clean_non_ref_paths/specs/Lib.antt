@@ -1,2 +1,1 @@
-pub mod MadeOf
 pub mod CleansPaths

@@ -1,16 +1,15 @@
 -- The promise of from_assembly_graph. Assumes nothing.
 use mathlib.Core.Path.{_≡_, refl, sym, ap, _∙_, subst}
 use mathlib.Core.Bool.{Bool}
-use mathlib.Core.List.{List, _++_}
+use mathlib.Core.List.{List}
 use Prim.Native.Nat.{ℕ, _≤_}
 use native.Mathlib.Omega.{arith}
 use native.Mathlib.Decide.{ℕ-discrete}
 use lib.Dec.{ltb}
-use lib.ListN.{length, take, drop}
-use lib.Seq.{take-append-seam}
+use lib.ListN.{length, take}
 use Rattle.defs.specs.SeqGraph.{Graph, nodeCount}
 use Rattle.defs.specs.Calls as D
-use Rattle.defs.specs.Calls.{Response, refused, accepted, numberOf, lengthOf, writtenOf, fits, conversionCauses}
+use Rattle.defs.specs.Calls.{numberOf, lengthOf, writtenOf, conversionCauses}
 use Rattle.defs.specs.Calls.{fromAssemblyGraphResponse, fromAssemblyGraphAnswer}
 use Rattle.defs.specs.Record.{kindOf, verticesOf, edgesOf, bytesOf, sequenceGraph, encode, decode}
 use Rattle.defs.specs.Refusals.{kmerOnly, refusalOf, recordRefusal}
@@ -25,24 +24,19 @@ use Rattle.reread.specs.Reread.{ReacceptedAs}
 use Rattle.reread.specs.Recordable.{SequenceInput, KmerInput}
 use Rattle.reread.proofs.Graphs.{input-reaccepted}
 use Rattle.reread.proofs.Read.{Bytes, record-most, kmer-input}
-use Rattle.memory.specs.Memory.{graphOf}
-use Rattle.memory.specs.declared.Held.{Held}
 use Rattle.convert.proofs.SortLaws.{of-sort, length-sort, single-sort}
-use Rattle.calls.specs.Answers.{tallyOf, answerOf, Refuses, Accepts}
-use Rattle.calls.specs.Sending.{Sends}
+use Rattle.calls.specs.Answers.{tallyOf, answerOf, Tallies}
+use Rattle.calls.specs.Sending.{Responds, GraphSendable, SendsGraph}
 use Rattle.calls.specs.declared.Tally.{Tally}
 use Rattle.calls.specs.declared.Answer.{Answer}
 use Rattle.calls.specs.declared.Sent.{Sent}
-use Rattle.calls.proofs.AnswerLaws.{fits-not-short, respond-refused, respond-fits}
+use Rattle.calls.proofs.ResponseLaws.{answered, room-enough}
 use Rattle.calls.proofs.CauseLaws.{behind-refused, behind-present, behind-absent}
-use Rattle.calls.proofs.SendLaws.{sent-short, sent-whole}
 use Rattle.read_kmers.proofs.KmerLaws.{kmer-bytes-least, kmer-bytes-most}
 use Rattle.from_kmers.specs.Conversion.{Roomy, ConvertedAs}
 use Rattle.accept.specs.declared.Read.{Read}
-use Rattle.accept.specs.declared.Read.the-variants as read
-use Rattle.accept.proofs.AcceptLaws.{number-graph, number-refused}
 use Rattle.from_kmers.proofs.ConversionLaws.{none-early, none-late}
-use Rattle.from_assembly_graph.specs.Converts.{Converts, Large, Small}
+use Rattle.from_assembly_graph.specs.Converts.{Converts, Sized}
 
 -- ---- the converted graph is within the limits of input
 
@@ -94,140 +88,100 @@ never-11 bs e =
           (λ t. omega (arith, e, behind-absent kmerOnly bs 8 over z t))
     ]
 
--- ---- the answer and the output go by the response
+-- ---- what is sent
 
-module _ (bs out : List ℕ) (t : Tally) where
-  abbrev result : List ℕ
-  result = encode sequenceGraph 0 (fromAssemblyGraph (decode bs))
+abbrev result : List ℕ → List ℕ
+result bs = encode sequenceGraph 0 (fromAssemblyGraph (decode bs))
 
-  stopped : (n : ℕ) → refusalOf (conversionCauses bs) ≡ n → (n ≡ 0 → ⊥) → fromAssemblyGraphResponse bs (length out) ≡ refused n
+module _ {bs : List ℕ} {r : Read} {sorted vs p : List ℕ} (C : ConvertedAs bs r sorted vs p) where
+  pub converted-sendable : GraphSendable 0 r sorted vs p
+  converted-sendable = record { sendable = C .sendable }
+
+  pub converted-sent : {out out′ : List ℕ} {s : Sent} → SendsGraph 0 r sorted vs p out s out′
+      → Responds (fromAssemblyGraphResponse bs (length out)) out s out′
   unfolding fromAssemblyGraphResponse
-  stopped n e o = respond-refused (conversionCauses bs) (length out) result n e o
-
-  fitting : refusalOf (conversionCauses bs) ≡ 0 → fromAssemblyGraphResponse bs (length out) ≡ fits (length out) result
-  unfolding fromAssemblyGraphResponse
-  fitting e = respond-fits (conversionCauses bs) (length out) result e
-
-  answer-by : {x : Response} {a : Answer} → fromAssemblyGraphResponse bs (length out) ≡ x → answerOf a ≡ D.answer x (tallyOf t) → answerOf a
-      ≡ fromAssemblyGraphAnswer bs (length out) (tallyOf t)
-  unfolding fromAssemblyGraphAnswer
-  answer-by e q = q ∙ ap (λ (x : Response). D.answer x (tallyOf t)) (sym e)
-
-  number-by : (x : Response) {a : Answer} → answerOf a ≡ D.answer x (tallyOf t) → a .number ≡ numberOf x
-  unfolding D.answer
-  number-by x q = ap (λ (y : D.Answer). y .number) q
-
-  length-by : (x : Response) {a : Answer} → answerOf a ≡ D.answer x (tallyOf t) → a .length ≡ lengthOf x
-  unfolding D.answer
-  length-by x q = ap (λ (y : D.Answer). y .length) q
-
-  refused-with : (n : ℕ) → (n ≡ 0 → ⊥) → (49184 ≤ length out → n ≡ 11 → ⊥) → fromAssemblyGraphResponse bs (length out) ≡ refused n
-      → {a : Answer} {out′ : List ℕ} → Refuses n t a → out′ ≡ out → Converts bs out t a out′
-  unfolding writtenOf numberOf
-  refused-with n o short e {a} R q = record {
-    answer = answer-by e (R .is);
-    written = q ∙ sym (ap (λ (x : Response). writtenOf x out) e);
-    room = λ l i. short l (sym (number-by (refused n) (R .is)) ∙ i);
-    reaccepted = λ i. absurd (other i);
-  }
-    where
-      other : a .number ≡ 0 → ⊥
-      other i = o (sym (number-by (refused n) (R .is)) ∙ i)
-
-  accepted-with : Bytes bs → refusalOf (conversionCauses bs) ≡ 0 → {a : Answer} {out′ : List ℕ}
-      → fromAssemblyGraphResponse bs (length out) ≡ accepted result → answerOf a ≡ D.answer (accepted result) (tallyOf t)
-      → out′ ≡ result ++ drop (length result) out → Converts bs out t a out′
-  unfolding writtenOf numberOf lengthOf
-  accepted-with small none {a} {out′} e q w = record {
-    answer = answer-by e q;
-    written = w ∙ sym (ap (λ (x : Response). writtenOf x out) e);
-    room = λ l i. omega (arith, i, number-by (accepted result) q);
-    reaccepted = λ i. subst (ReacceptedAs (fromAssemblyGraph (decode bs))) (sym front) (convert-reaccepted bs small none);
-  }
-    where
-      front : take (a .length) out′ ≡ result
-      front =
-          ap (λ (n : ℕ). take n out′) (length-by (accepted result) q) ∙ ap (take (length result)) w
-          ∙ take-append-seam result (drop (length result) out)
+  converted-sent S = S .is (conversionCauses bs) (result bs)
+      record { number = C .number; is = λ h ok. ap (encode sequenceGraph 0) (C .is h ok); refused = C .refused }
 
 -- ---- the whole call
 
-module _ {bs : List ℕ} {c : Read} {sorted vs p : List ℕ} (C : ConvertedAs bs c sorted vs p) (t : Tally) where
-  pub converts-refused : (out : List ℕ) {a : Answer} {n : ℕ} → c ≡ read.Refused n → Refuses n t a → Converts bs out t a out
-  converts-refused out {n = n} f R =
-      let o = C .refused n f in
-      let is = sym (C .number) ∙ number-refused f in
-      refused-with bs out t n o (λ l i. never-11 bs (is ∙ i)) (stopped bs out t n is o) R refl
+module _ (bs : List ℕ) {out : List ℕ} {t : Tally} {s : Sent} {a : Answer} {out′ : List ℕ} (small : Bytes bs)
+    (S : Responds (fromAssemblyGraphResponse bs (length out)) out s out′) (T : Tallies s t a) where
+  answer-is : answerOf a ≡ fromAssemblyGraphAnswer bs (length out) (tallyOf t)
+  unfolding fromAssemblyGraphAnswer fromAssemblyGraphResponse
+  answer-is = T .is (conversionCauses bs) (length out) (result bs) (S .number) (S .size)
 
-  module _ (small : Bytes bs) {h : Held} (ok : c ≡ read.Graph h) {out out′ : List ℕ} {s : Sent} (S :
-      Sends (encode sequenceGraph 0 (graphOf h sorted vs p)) out s out′) where
-    none : refusalOf (conversionCauses bs) ≡ 0
-    none = sym (C .number) ∙ number-graph ok
+  pub converts : Converts bs out t a out′
+  unfolding fromAssemblyGraphAnswer fromAssemblyGraphResponse D.answer
+  converts = record {
+    answer = answer-is;
+    written = S .written;
+    room = λ l i. room-enough (conversionCauses bs) out (result bs) 49184 (never-11 bs)
+        (λ ok. (convert-reaccepted bs small ok) .size) l (sym number-is ∙ i);
+    reaccepted = λ i. let y = answered (conversionCauses bs) out (result bs) (sym number-is ∙ i) in
+        subst (ReacceptedAs (fromAssemblyGraph (decode bs))) (sym (front ∙ y .1)) (convert-reaccepted bs small (y .0));
+  }
+    where
+      number-is : a .number ≡ numberOf (fromAssemblyGraphResponse bs (length out))
+      number-is = ap (λ (x : D.Answer). x .number) answer-is
 
-    sends : Sends (encode sequenceGraph 0 (fromAssemblyGraph (decode bs))) out s out′
-    sends = subst (λ (g : Graph). Sends (encode sequenceGraph 0 g) out s out′) (C .is h ok) S
-
-    pub converts-short : {a : Answer} → (s .number ≡ 0 → ⊥) → Refuses (s .number) t a → Converts bs out t a out′
-    converts-short o R =
-        let d = sent-short sends o in
-        refused-with bs out t (s .number) o
-        (λ l i. fits-not-short (length out) _ (omega (arith, l, (convert-reaccepted bs small none) .size)) (d .0))
-        (fitting bs out t none ∙ d .0 ∙ ap refused (sym (d .1 .0))) R (d .1 .1)
-
-    pub converts-accepted : {a : Answer} → s .number ≡ 0 → Accepts (s .length) t a → Converts bs out t a out′
-    converts-accepted i A =
-        let d = sent-whole sends i in
-        accepted-with bs out t small none (fitting bs out t none
-        ∙ d .0) (A .is (encode sequenceGraph 0 (fromAssemblyGraph (decode bs))) (sym (d .1 .0))) (d .1 .1)
+      front : take (a .length) out′
+          ≡ take (lengthOf (fromAssemblyGraphResponse bs (length out))) (writtenOf (fromAssemblyGraphResponse bs (length out)) out)
+      front = λ j. take (ap (λ (x : D.Answer). x .length) answer-is j) (S .written j)
 
 -- ---- room
 
--- a k-mer record of at most 4,096 bytes
-module _ (bs : List ℕ) (l : length bs ≤ 4096) (W : WellFormed bs) where
-  short-edges : edgesOf bs ≤ 451
-  short-edges = omega (arith, length-is bs W)
+-- v vertices, e edges and b bytes of k-mers are enough for the record bs; o is the larger of v and e
+record Enough (v e b o : ℕ) (bs : List ℕ) : Type 0 where
+  vertices : WellFormed bs → kindOf bs ≡ 0 → verticesOf bs ≤ v
+  edges : WellFormed bs → edgesOf bs ≤ e
+  bytes : WellFormed bs → kindOf bs ≡ 0 → bytesOf bs ≤ b
+  more-vertices : v ≤ o
+  more-edges : e ≤ o
 
-  short-bytes : bytesOf bs ≤ 4064
-  short-bytes = omega (arith, length-is bs W)
+large : (bs : List ℕ) → Enough 2048 4096 262144 4096 bs
+large bs = record {
+  vertices = λ W z. W .vertices;
+  edges = λ W. W .edges;
+  bytes = λ W z. omega (arith, kmer-bytes-most bs W z);
+  more-vertices = omega arith;
+  more-edges = omega arith;
+}
 
-  short-vertices : kindOf bs ≡ 0 → verticesOf bs ≤ 1016
-  short-vertices z = omega (arith, length-is bs W, kmer-bytes-least bs W z)
+small : (bs : List ℕ) → length bs ≤ 4096 → Enough 1016 451 4064 1016 bs
+small bs l = record {
+  vertices = λ W z. omega (arith, length-is bs W, kmer-bytes-least bs W z);
+  edges = λ W. omega (arith, length-is bs W);
+  bytes = λ W z. omega (arith, length-is bs W);
+  more-vertices = omega arith;
+  more-edges = omega arith;
+}
 
 module _ {bs es vs p heads nexts order scratch place sorted : List ℕ} where
-  pub large-roomy : Large es vs p heads nexts order scratch place sorted → Roomy bs es vs p heads nexts order scratch place sorted
-  large-roomy Z = record {
+  roomy : {v e b o : ℕ} → Enough v e b o bs → Sized v e b o es vs p heads nexts order scratch place sorted
+      → Roomy bs es vs p heads nexts order scratch place sorted
+  roomy S Z = record {
     reading = record {
       room = λ W z. record {
-        es-room = omega (arith, W .edges, Z .es-is);
-        vs-room = omega (arith, W .vertices, Z .vs-is);
-        p-room = omega (arith, kmer-bytes-most bs W z, Z .p-is);
-        heads-room = omega (arith, W .vertices, Z .heads-is);
-        nexts-room = omega (arith, W .edges, Z .nexts-is);
-        order-room = omega (arith, W .vertices, Z .order-is);
-        scratch-room = omega (arith, W .vertices, Z .scratch-is);
-        place-room = omega (arith, W .vertices, Z .place-is);
+        es-room = omega (arith, S .edges W, Z .es-is);
+        vs-room = omega (arith, S .vertices W z, Z .vs-is);
+        p-room = omega (arith, S .bytes W z, Z .p-is);
+        heads-room = omega (arith, S .vertices W z, Z .heads-is);
+        nexts-room = omega (arith, S .edges W, Z .nexts-is);
+        order-room = omega (arith, S .vertices W z, S .more-vertices, Z .order-is);
+        scratch-room = omega (arith, S .vertices W z, S .more-vertices, Z .scratch-is);
+        place-room = omega (arith, S .vertices W z, Z .place-is);
       };
     };
-    order-room = λ W. omega (arith, W .edges, Z .order-is);
-    scratch-room = λ W. omega (arith, W .edges, Z .scratch-is);
-    sorted-room = λ W. omega (arith, W .edges, Z .sorted-is);
+    order-room = λ W. omega (arith, S .edges W, S .more-edges, Z .order-is);
+    scratch-room = λ W. omega (arith, S .edges W, S .more-edges, Z .scratch-is);
+    sorted-room = λ W. omega (arith, S .edges W, Z .sorted-is);
   }
 
-  pub small-roomy : length bs ≤ 4096 → Small es vs p heads nexts order scratch place sorted → Roomy bs es vs p heads nexts order scratch place sorted
-  small-roomy l Z = record {
-    reading = record {
-      room = λ W z. record {
-        es-room = omega (arith, short-edges bs l W, Z .es-is);
-        vs-room = omega (arith, short-vertices bs l W z, Z .vs-is);
-        p-room = omega (arith, short-bytes bs l W, Z .p-is);
-        heads-room = omega (arith, short-vertices bs l W z, Z .heads-is);
-        nexts-room = omega (arith, short-edges bs l W, Z .nexts-is);
-        order-room = omega (arith, short-vertices bs l W z, Z .order-is);
-        scratch-room = omega (arith, short-vertices bs l W z, Z .scratch-is);
-        place-room = omega (arith, short-vertices bs l W z, Z .place-is);
-      };
-    };
-    order-room = λ W. omega (arith, short-edges bs l W, Z .order-is);
-    scratch-room = λ W. omega (arith, short-edges bs l W, Z .scratch-is);
-    sorted-room = λ W. omega (arith, short-edges bs l W, Z .sorted-is);
-  }
+  pub large-roomy : Sized 2048 4096 262144 4096 es vs p heads nexts order scratch place sorted
+      → Roomy bs es vs p heads nexts order scratch place sorted
+  large-roomy = roomy (large bs)
+
+  pub small-roomy : length bs ≤ 4096 → Sized 1016 451 4064 1016 es vs p heads nexts order scratch place sorted
+      → Roomy bs es vs p heads nexts order scratch place sorted
+  small-roomy l = roomy (small bs l)

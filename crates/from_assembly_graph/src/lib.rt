@@ -1,16 +1,34 @@
 // The public call `from_assembly_graph`: a k-mer record's graph as a sequence graph's record. Nothing is asked of the caller.
 ghost use Prim.Native.Nat.{_≤_};
 ghost use lib.ListN.{length};
+ghost use Rattle.defs.specs.Calls.{fromAssemblyGraphResponse};
+ghost use Rattle.calls.specs.Sending.{Responds};
 ghost use Rattle.from_kmers.specs.Conversion.{Roomy};
 ghost use Rattle.from_assembly_graph.specs.Converts.{Converts};
-use accept::Read;
 use calls::Answer;
+use calls::Sent;
 use calls::Tally;
 
-fn from_assembly_graph_in(
+// For every record: no more vertices and edges are accepted, and a k-mer has at most 128 bytes.
+const LARGE_VERTICES: usize = 2048;
+
+const LARGE_EDGES: usize = 4096;
+
+const LARGE_BYTES: usize = 128 * LARGE_VERTICES;
+
+// For a record of at most 4,096 bytes, of which 32 are its head, nine stand for each edge, and two for each vertex beside its k-mer, which has
+// at least two: a tenth of the room, and so less time to clear it.
+const SMALL_RECORD: usize = 4096;
+
+const SMALL_VERTICES: usize = 1016;
+
+const SMALL_EDGES: usize = 451;
+
+const SMALL_BYTES: usize = 4064;
+
+fn convert_in(
     rec: &[u8],
     out: &mut [u8],
-    tally: Tally,
     es: &mut [u32],
     vs: &mut [u32],
     p: &mut [u8],
@@ -20,11 +38,11 @@ fn from_assembly_graph_in(
     scratch: &mut [u32],
     place: &mut [u32],
     sorted: &mut [u32],
-) -> Answer
+) -> Sent
     requires { ⌜ Roomy (now rec) (now es) (now vs) (now p) (now heads) (now nexts) (now order) (now scratch) (now place) (now sorted) ⌝ }
-    ensures { λ r. ⌜ Converts (now (rec .entry)) (now (out .entry)) tally r (now (out .exit)) ⌝ }
+    ensures { λ r. ⌜ Responds (fromAssemblyGraphResponse (now (rec .entry)) (length (now (out .entry)))) (now (out .entry)) r (now (out .exit)) ⌝ }
 {
-    let converted = from_kmers::read_and_convert(
+    let read = from_kmers::read_and_convert(
         rec,
         es,
         vs,
@@ -36,39 +54,28 @@ fn from_assembly_graph_in(
         place,
         sorted,
     );
-    let held = match converted {
-        Read::Graph(held) => held,
-        Read::Refused(number) => return calls::refuse(number, tally),
-    };
-    let sent = calls::send_record(out, 0, held, sorted, vs, p);
-    let short = sent.number;
-    if short != 0 {
-        return calls::refuse(short, tally);
-    }
-    calls::accept(sent.length, tally)
+    calls::send(read, 0, out, sorted, vs, p)
 }
 
-// Whole arrays, whose lengths are known.
+// Whole arrays, whose lengths are known. `order` and `scratch` hold numbers of vertices, then of edges.
 fn large_with(
     rec: &[u8],
     out: &mut [u8],
-    tally: Tally,
-    es: &mut [u32; 16384],
-    vs: &mut [u32; 4096],
-    p: &mut [u8; 262144],
-    heads: &mut [u32; 4096],
-    nexts: &mut [u32; 8192],
-    order: &mut [u32; 4096],
-    scratch: &mut [u32; 4096],
-    place: &mut [u32; 2048],
-    sorted: &mut [u32; 16384],
-) -> Answer
-    ensures { λ r. ⌜ Converts (now (rec .entry)) (now (out .entry)) tally r (now (out .exit)) ⌝ }
+    es: &mut [u32; 4 * LARGE_EDGES],
+    vs: &mut [u32; 2 * LARGE_VERTICES],
+    p: &mut [u8; LARGE_BYTES],
+    heads: &mut [u32; 2 * LARGE_VERTICES],
+    nexts: &mut [u32; 2 * LARGE_EDGES],
+    order: &mut [u32; LARGE_EDGES],
+    scratch: &mut [u32; LARGE_EDGES],
+    place: &mut [u32; LARGE_VERTICES],
+    sorted: &mut [u32; 4 * LARGE_EDGES],
+) -> Sent
+    ensures { λ r. ⌜ Responds (fromAssemblyGraphResponse (now (rec .entry)) (length (now (out .entry)))) (now (out .entry)) r (now (out .exit)) ⌝ }
 {
-    from_assembly_graph_in(
+    convert_in(
         rec,
         out,
-        tally,
         es,
         vs,
         p,
@@ -81,22 +88,21 @@ fn large_with(
     )
 }
 
-fn convert_large(rec: &[u8], out: &mut [u8], tally: Tally) -> Answer
-    ensures { λ r. ⌜ Converts (now (rec .entry)) (now (out .entry)) tally r (now (out .exit)) ⌝ }
+fn large(rec: &[u8], out: &mut [u8]) -> Sent
+    ensures { λ r. ⌜ Responds (fromAssemblyGraphResponse (now (rec .entry)) (length (now (out .entry)))) (now (out .entry)) r (now (out .exit)) ⌝ }
 {
-    let mut es = [0u32; 16384];
-    let mut vs = [0u32; 4096];
-    let mut p = [0u8; 262144];
-    let mut heads = [0u32; 4096];
-    let mut nexts = [0u32; 8192];
-    let mut order = [0u32; 4096];
-    let mut scratch = [0u32; 4096];
-    let mut place = [0u32; 2048];
-    let mut sorted = [0u32; 16384];
+    let mut es = [0u32; 4 * LARGE_EDGES];
+    let mut vs = [0u32; 2 * LARGE_VERTICES];
+    let mut p = [0u8; LARGE_BYTES];
+    let mut heads = [0u32; 2 * LARGE_VERTICES];
+    let mut nexts = [0u32; 2 * LARGE_EDGES];
+    let mut order = [0u32; LARGE_EDGES];
+    let mut scratch = [0u32; LARGE_EDGES];
+    let mut place = [0u32; LARGE_VERTICES];
+    let mut sorted = [0u32; 4 * LARGE_EDGES];
     large_with(
         rec,
         out,
-        tally,
         &mut es,
         &mut vs,
         &mut p,
@@ -109,28 +115,25 @@ fn convert_large(rec: &[u8], out: &mut [u8], tally: Tally) -> Answer
     )
 }
 
-// A record of at most 4,096 bytes needs a tenth of the room, and so less time to clear it.
 fn small_with(
     rec: &[u8],
     out: &mut [u8],
-    tally: Tally,
-    es: &mut [u32; 1804],
-    vs: &mut [u32; 2032],
-    p: &mut [u8; 4064],
-    heads: &mut [u32; 2032],
-    nexts: &mut [u32; 902],
-    order: &mut [u32; 1016],
-    scratch: &mut [u32; 1016],
-    place: &mut [u32; 1016],
-    sorted: &mut [u32; 1804],
-) -> Answer
+    es: &mut [u32; 4 * SMALL_EDGES],
+    vs: &mut [u32; 2 * SMALL_VERTICES],
+    p: &mut [u8; SMALL_BYTES],
+    heads: &mut [u32; 2 * SMALL_VERTICES],
+    nexts: &mut [u32; 2 * SMALL_EDGES],
+    order: &mut [u32; SMALL_VERTICES],
+    scratch: &mut [u32; SMALL_VERTICES],
+    place: &mut [u32; SMALL_VERTICES],
+    sorted: &mut [u32; 4 * SMALL_EDGES],
+) -> Sent
     requires { ⌜ length (now rec) ≤ 4096 ⌝ }
-    ensures { λ r. ⌜ Converts (now (rec .entry)) (now (out .entry)) tally r (now (out .exit)) ⌝ }
+    ensures { λ r. ⌜ Responds (fromAssemblyGraphResponse (now (rec .entry)) (length (now (out .entry)))) (now (out .entry)) r (now (out .exit)) ⌝ }
 {
-    from_assembly_graph_in(
+    convert_in(
         rec,
         out,
-        tally,
         es,
         vs,
         p,
@@ -143,23 +146,22 @@ fn small_with(
     )
 }
 
-fn convert_small(rec: &[u8], out: &mut [u8], tally: Tally) -> Answer
+fn small(rec: &[u8], out: &mut [u8]) -> Sent
     requires { ⌜ length (now rec) ≤ 4096 ⌝ }
-    ensures { λ r. ⌜ Converts (now (rec .entry)) (now (out .entry)) tally r (now (out .exit)) ⌝ }
+    ensures { λ r. ⌜ Responds (fromAssemblyGraphResponse (now (rec .entry)) (length (now (out .entry)))) (now (out .entry)) r (now (out .exit)) ⌝ }
 {
-    let mut es = [0u32; 1804];
-    let mut vs = [0u32; 2032];
-    let mut p = [0u8; 4064];
-    let mut heads = [0u32; 2032];
-    let mut nexts = [0u32; 902];
-    let mut order = [0u32; 1016];
-    let mut scratch = [0u32; 1016];
-    let mut place = [0u32; 1016];
-    let mut sorted = [0u32; 1804];
+    let mut es = [0u32; 4 * SMALL_EDGES];
+    let mut vs = [0u32; 2 * SMALL_VERTICES];
+    let mut p = [0u8; SMALL_BYTES];
+    let mut heads = [0u32; 2 * SMALL_VERTICES];
+    let mut nexts = [0u32; 2 * SMALL_EDGES];
+    let mut order = [0u32; SMALL_VERTICES];
+    let mut scratch = [0u32; SMALL_VERTICES];
+    let mut place = [0u32; SMALL_VERTICES];
+    let mut sorted = [0u32; 4 * SMALL_EDGES];
     small_with(
         rec,
         out,
-        tally,
         &mut es,
         &mut vs,
         &mut p,
@@ -170,13 +172,20 @@ fn convert_small(rec: &[u8], out: &mut [u8], tally: Tally) -> Answer
         &mut place,
         &mut sorted,
     )
+}
+
+fn convert(rec: &[u8], out: &mut [u8]) -> Sent
+    ensures { λ r. ⌜ Responds (fromAssemblyGraphResponse (now (rec .entry)) (length (now (out .entry)))) (now (out .entry)) r (now (out .exit)) ⌝ }
+{
+    if rec.len() <= SMALL_RECORD {
+        return small(rec, out);
+    }
+    large(rec, out)
 }
 
 pub fn from_assembly_graph(rec: &[u8], out: &mut [u8], tally: Tally) -> Answer
     ensures { λ r. ⌜ Converts (now (rec .entry)) (now (out .entry)) tally r (now (out .exit)) ⌝ }
 {
-    if rec.len() <= 4096 {
-        return convert_small(rec, out, tally);
-    }
-    convert_large(rec, out, tally)
+    let sent = convert(rec, out);
+    calls::tally_answer(sent, tally)
 }

@@ -4,6 +4,7 @@ ghost use Rattle.kmer.specs.Size.{sizeOf};
 
 // The limits of a k-mer's size.
 pub const LEAST_SIZE: u16 = 2;
+
 pub const MOST_SIZE: u16 = 128;
 
 // A k-mer size, 2 to 128. Its number is private here, and `kmer_size` alone makes one, behind the check.

@@ -13,7 +13,9 @@ use kmer::MadeSize;
 
 // The limits of input (`Refusals.pastLimit`). The bytes are limited in a sequence graph alone; k-mers by their number and size.
 pub const MOST_VERTICES: usize = 2048;
+
 pub const MOST_EDGES: usize = 4096;
+
 pub const MOST_BYTES: usize = 8192;
 
 // So the k-mers of a record have at most 2,048 times 128 bytes.

@@ -149,10 +149,34 @@ fn rewrite(
     };
     match call {
         RewritingCall::SimplifyGraph => {
-            return simplify(held, es, vs, p, heads, nexts, nodes, map, starts, tried, sig);
+            return simplify(
+                held,
+                es,
+                vs,
+                p,
+                heads,
+                nexts,
+                nodes,
+                map,
+                starts,
+                tried,
+                sig,
+            );
         }
         RewritingCall::CleanupSeqGraph => {
-            return clean_up(held, es, vs, p, heads, nexts, nodes, map, starts, tried, sig);
+            return clean_up(
+                held,
+                es,
+                vs,
+                p,
+                heads,
+                nexts,
+                nodes,
+                map,
+                starts,
+                tried,
+                sig,
+            );
         }
     }
 }
@@ -175,5 +199,18 @@ pub fn read_and_rewrite(
     ensures { λ r. ⌜ RewrittenAs call (now (rec .entry)) (now (heads .entry)) (now (nexts .entry)) r (now (es .exit)) (now (vs .exit)) (now (p .exit)) ⌝ }
 {
     let read = accept::read_sequence_graph(rec, es, vs, p, heads, nexts, nodes, map);
-    rewrite(call, read, es, vs, p, heads, nexts, nodes, map, starts, tried, sig)
+    rewrite(
+        call,
+        read,
+        es,
+        vs,
+        p,
+        heads,
+        nexts,
+        nodes,
+        map,
+        starts,
+        tried,
+        sig,
+    )
 }

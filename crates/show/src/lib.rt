@@ -7,8 +7,8 @@ ghost use Rattle.show.specs.Show.{answerText, Printing, Shown};
 use accept::Read;
 use arrays::LARGE_EDGES;
 use arrays::LARGE_VERTICES;
-use rewriting::Rewritten;
 use rewriting::RewritingCall;
+use rewriting::Rewritten;
 
 // The longest record that is read, and the longest answer that is printed.
 pub const RECORD_MOST: usize = 65536;

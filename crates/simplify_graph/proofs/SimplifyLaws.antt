@@ -53,8 +53,12 @@ module _ {bs out : List ℕ} {t : Tally} {r : RewritingAnswer} {a : SimplifyAnsw
     written = A .sent .written;
     strings = λ i s.
         subst (λ (g : Graph). Spells (decode bs) s ↔ Spells g s) (sym (again i .graph)) (simplify-spells (decode bs) (good (none i) .0) s);
-    bound = omega (arith, ap (λ (x : D.SimplifyAnswer). x .rewrites) answer-is, field-most causes out result (z .rewrites) _
-        (λ ok. simplify-bound minTailSuffixLen (omega arith) (decode bs) (good ok)));
+    bound = omega (
+      arith,
+      ap (λ (x : D.SimplifyAnswer). x .rewrites) answer-is,
+      field-most causes out result (z .rewrites) _
+          (λ ok. simplify-bound minTailSuffixLen (omega arith) (decode bs) (good ok)),
+    );
     room = λ l i. room-enough causes out result 176160 (λ e. omega (arith, e, record-most sequenceOnly bs))
         (λ ok. (simplify-reread bs small ok) .size) l (sym number-is ∙ i);
     reread = again;

@@ -1,3 +1,1 @@
-pub mod LengthLaws
 pub mod StringLaws
-pub mod EnoughLaws

@@ -5,9 +5,7 @@ use Rattle.from_assembly_graph.proofs.small_with.Statement.{statement}
 use Rattle.from_assembly_graph.proofs.small_with.Tie as tie
 
 pub small-with-spec : {M : Type 1} → statement M
-small-with-spec =
-    tie.close
-    (tie.spec
-    (λ c κs. let start : tie.Start = search in small-roomy (start .pre) (search needs))
+small-with-spec = tie.close (tie.spec
+    (λ c κs. small-roomy (search needs) (search needs))
     (λ c. search needs)
     (λ c. search needs))

@@ -1,0 +1,167 @@
+-- The bytes that are told are the call's response. Assumes nothing.
+use mathlib.Core.Path.{_≡_, refl, sym, ap, _∙_, subst}
+use mathlib.Core.Bool.{not}
+use mathlib.Core.Option.{Option, none, some}
+use mathlib.Core.List.{List, _++_}
+use Prim.Native.Nat.{ℕ, _≤_, _<_}
+use native.Mathlib.Omega.{arith}
+use lib.ListN.{length, drop}
+use Rattle.defs.specs.Lists.{given}
+use Rattle.defs.specs.SeqGraph.{Graph}
+use Rattle.defs.specs.Simplify.{sequenceBytes}
+use Rattle.defs.specs.Paths.{isPathOf, pathBasesBytes, referencePathBytes}
+use Rattle.defs.specs.Record.{decode}
+use Rattle.defs.specs.Refusals.{sequenceOnly, recordRefusal}
+use Rattle.defs.specs.Calls.{Response, refused, accepted, numberOf, lengthOf, writtenOf, fits, isNothing, bytesOrNone}
+use Rattle.defs.specs.Calls.{referencePathBytesResponse, pathBasesBytesResponse}
+use Rattle.laws.proofs.Walks.{byTest}
+use Rattle.laws.proofs.ListLaws.{given-some, byOrder}
+use Rattle.laws.proofs.Whole.{no-some}
+use Rattle.memory.specs.Memory.{graphOf}
+use Rattle.memory.specs.declared.Held.{Held}
+use Rattle.spell.specs.Spell.{Told}
+use Rattle.spell.specs.declared.OptionBytes.{OptionBytes}
+use Rattle.spell.specs.declared.OptionBytes.the-variants.{Some, None}
+use Rattle.spell.proofs.SpellLaws.{none-told, some-told}
+use Rattle.paths.proofs.BytesLaws.{given-yes}
+use Rattle.calls.specs.Sending.{Responds}
+use Rattle.calls.specs.declared.Sent.{Sent}
+use Rattle.calls.proofs.CauseLaws.{behind-refused, behind-present, behind-absent}
+use Rattle.calls.proofs.ResponseLaws.{fits-short, fits-enough, respond-refused, respond-fits}
+use Rattle.reading_calls.specs.Reading.{pathResponse, Tells, Tellable, GraphAnswered}
+use Rattle.reading_calls.proofs.LengthLaws.{path-most, reference-most}
+
+-- ---- what is sent, by the response
+
+pub responds-refused : {x : Response} {n : ℕ} → x ≡ refused n → {s : Sent} → s ≡ record { number = n; length = 0 } → {out out′ : List ℕ}
+    → out′ ≡ out → Responds x out s out′
+unfolding numberOf lengthOf writtenOf
+responds-refused e q {out} w = record {
+  number = ap (λ (y : Sent). y .number) q ∙ sym (ap numberOf e);
+  size = ap (λ (y : Sent). y .length) q ∙ sym (ap lengthOf e);
+  written = w ∙ sym (ap (λ (y : Response). writtenOf y out) e);
+}
+
+responds-accepted : {x : Response} (r : List ℕ) → x ≡ accepted r → {s : Sent} {n : ℕ} → n ≡ length r → s ≡ record { number = 0; length = n }
+    → {out out′ : List ℕ} → out′ ≡ r ++ drop n out → Responds x out s out′
+unfolding numberOf lengthOf writtenOf
+responds-accepted r e l q {out} w = record {
+  number = ap (λ (y : Sent). y .number) q ∙ sym (ap numberOf e);
+  size = ap (λ (y : Sent). y .length) q ∙ l ∙ sym (ap lengthOf e);
+  written = w ∙ ap (λ (i : ℕ). r ++ drop i out) l ∙ sym (ap (λ (y : Response). writtenOf y out) e);
+}
+
+byBytes : {A : Type 0} (b : OptionBytes) → ((n : ℕ) → b ≡ Some n → A) → (b ≡ None → A) → A
+byBytes (Some n) f g = f n refl
+byBytes None f g = g refl
+
+some-or-none : {A : Type 0} {b : OptionBytes} {n : ℕ} → b ≡ None → b ≡ Some n → A
+some-or-none p q = absurd (let z : _≡_ {A = ℕ} 0 1 = cc in omega arith)
+
+-- what is sent of what is told
+module _ {b : OptionBytes} {room missing : ℕ} {s : Sent} where
+  pub tell-none : b ≡ None → s ≡ record { number = missing; length = 0 } → Tells b room missing s
+  tell-none f q = record { none = λ _. q; short = λ n e. some-or-none f e; whole = λ n e. some-or-none f e }
+
+  pub tell-short : {k : ℕ} → b ≡ Some k → room < k → s ≡ record { number = 11; length = 0 } → Tells b room missing s
+  tell-short {k} f l q = record {
+    none = λ e. some-or-none e f;
+    short = λ _ _ _. q;
+    whole = λ n e h. absurd (let z : n ≡ k = cc in omega arith);
+  }
+
+  pub tell-whole : {k : ℕ} → b ≡ Some k → k ≤ room → s ≡ record { number = 0; length = k } → Tells b room missing s
+  tell-whole {k} f l q = record {
+    none = λ e. some-or-none e f;
+    short = λ n e h. absurd (let z : n ≡ k = cc in omega arith);
+    whole = λ n e _. let z : k ≡ n = cc in subst (λ (x : ℕ). s ≡ record { number = 0; length = x }) z q;
+  }
+
+-- a call that tells o, or the number n where there is none
+module _ {o : Option (List ℕ)} {out out′ : List ℕ} {b : OptionBytes} (T : Told o out b out′) {x : Response} {n : ℕ} (none-is : o ≡ none → x
+    ≡ refused n) (some-is : (r : List ℕ) → o ≡ some r → x ≡ fits (length out) r)
+    {s : Sent} (e : length out′ ≡ length out) (A : Tells b (length out′) n s) where
+  whole : (k : ℕ) → b ≡ Some k → Responds x out s out′
+  whole k f = let y = some-told T f in byOrder k (length out′)
+      (λ l. responds-accepted (y .0) (some-is (y .0) (y .1) ∙ fits-enough (length out) (y .0) (omega (arith, e, y .2 .size))) (y .2 .size)
+      (A .whole k f l) (y .2 .is (omega (arith, e))))
+      (λ l. responds-refused (some-is (y .0) (y .1) ∙ fits-short (length out) (y .0) (omega (arith, e, y .2 .size))) (A .short k f l)
+      (y .2 .kept (omega (arith, e))))
+
+  tells : Responds x out s out′
+  tells = byBytes b whole (λ f. let y = none-told T f in responds-refused (none-is (y .0)) (A .none f) (y .1))
+
+-- ---- the responses
+
+module _ (bs : List ℕ) (room : ℕ) where
+  pub reference-refused : {n : ℕ} → recordRefusal sequenceOnly bs ≡ n → (n ≡ 0 → ⊥) → referencePathBytesResponse bs room ≡ refused n
+  unfolding referencePathBytesResponse
+  reference-refused {n} e o = respond-refused _ room _ n (behind-refused sequenceOnly bs 10 _ e o) o
+
+  module _ (z : recordRefusal sequenceOnly bs ≡ 0) where
+    pub reference-none : referencePathBytes (decode bs) ≡ none → referencePathBytesResponse bs room ≡ refused 10
+    unfolding referencePathBytesResponse isNothing
+    reference-none e = respond-refused _ room _ 10 (behind-present sequenceOnly bs 10 _ z (ap isNothing e)) (λ q. omega arith)
+
+    pub reference-some : (s : List ℕ) → referencePathBytes (decode bs) ≡ some s → referencePathBytesResponse bs room ≡ fits room s
+    unfolding referencePathBytesResponse isNothing bytesOrNone
+    reference-some s e = respond-fits _ room _ (behind-absent sequenceOnly bs 10 _ z (ap isNothing e))
+        ∙ ap (λ (p : Option (List ℕ)). fits room (bytesOrNone p)) e
+
+module _ (bs : List ℕ) (start : ℕ) (list : List ℕ) (room : ℕ) where
+  abbrev told : Option (List ℕ)
+  told = given (isPathOf (decode bs) start list) (pathBasesBytes (decode bs) start list)
+
+  pub path-refused : {n : ℕ} → recordRefusal sequenceOnly bs ≡ n → (n ≡ 0 → ⊥) → pathBasesBytesResponse bs start list room ≡ refused n
+  unfolding pathBasesBytesResponse
+  path-refused {n} e o = respond-refused _ room _ n (behind-refused sequenceOnly bs 9 _ e o) o
+
+  module _ (z : recordRefusal sequenceOnly bs ≡ 0) where
+    pub path-none : told ≡ none → pathBasesBytesResponse bs start list room ≡ refused 9
+    unfolding pathBasesBytesResponse
+    path-none e = byTest (isPathOf (decode bs) start list)
+        (λ t. no-some e (given-yes _ (pathBasesBytes (decode bs) start list) t))
+        (λ t. respond-refused _ room _ 9 (behind-present sequenceOnly bs 9 _ z (ap not t)) (λ q. omega arith))
+
+    pub path-some : (s : List ℕ) → told ≡ some s → pathBasesBytesResponse bs start list room ≡ fits room s
+    unfolding pathBasesBytesResponse
+    path-some s e =
+        let y = given-some (isPathOf (decode bs) start list) (pathBasesBytes (decode bs) start list) s e in
+        respond-fits _ room _ (behind-absent sequenceOnly bs 9 _ z (ap not (y .0))) ∙ ap (fits room) (y .1)
+
+-- ---- the two calls
+
+module _ {h : Held} {es vs p : List ℕ} where
+  -- what is told can be counted in 32 bits
+  module _ {heads nexts nodes : List ℕ} (Q : Tellable h es vs p heads nexts nodes) where
+    most : {o : Option (List ℕ)} → ((s : List ℕ) → o ≡ some s → length s ≤ sequenceBytes (graphOf h es vs p .verts))
+        → {out out′ : List ℕ} {b : OptionBytes} → Told o out b out′ → (n : ℕ) → b ≡ Some n → n < 4294967296
+    most f T n e = let y = some-told T e in omega (arith, y .2 .size, f (y .0) (y .1), Q .few)
+
+    pub reference-counted : {out out′ : List ℕ} {b : OptionBytes} → Told (referencePathBytes (graphOf h es vs p)) out b out′ → (n : ℕ)
+        → b ≡ Some n → n < 4294967296
+    reference-counted T = most (reference-most (graphOf h es vs p) (Q .spellable .sound)) T
+
+    pub path-counted : (start : ℕ) (list : List ℕ) {out out′ : List ℕ} {b : OptionBytes}
+        → Told (given (isPathOf (graphOf h es vs p) start list) (pathBasesBytes (graphOf h es vs p) start list)) out b out′
+        → (n : ℕ) → b ≡ Some n → n < 4294967296
+    path-counted start list T =
+        let g = graphOf h es vs p in
+        most (λ s e. let y = given-some (isPathOf g start list) (pathBasesBytes g start list) s e in
+        omega (arith, ap length (y .1), path-most g (Q .spellable .sound) start list (y .0))) T
+
+  pub reference-answered : {out out′ : List ℕ} {b : OptionBytes} {s : Sent} → Told (referencePathBytes (graphOf h es vs p)) out b out′
+      → length out′ ≡ length out → Tells b (length out′) 10 s → GraphAnswered referencePathBytesResponse h es vs p out s out′
+  reference-answered {out} {out′} {b} T l S = record {
+    is = λ bs z e. tells (subst (λ (g : Graph). Told (referencePathBytes g) out b out′) e T) (reference-none bs (length out) z)
+        (reference-some bs (length out) z) l S;
+  }
+
+  pub path-answered : (start : ℕ) (list : List ℕ) {out out′ : List ℕ} {b : OptionBytes} {s : Sent}
+      → Told (given (isPathOf (graphOf h es vs p) start list) (pathBasesBytes (graphOf h es vs p) start list)) out b out′
+      → length out′ ≡ length out → Tells b (length out′) 9 s → GraphAnswered (pathResponse start list) h es vs p out s out′
+  unfolding pathResponse
+  path-answered start list {out} {out′} {b} T l S = record {
+    is = λ bs z e. tells (subst (λ (g : Graph). Told (given (isPathOf g start list) (pathBasesBytes g start list)) out b out′) e T)
+        (path-none bs start list (length out) z) (path-some bs start list (length out) z) l S;
+  }

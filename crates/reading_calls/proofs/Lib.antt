@@ -1,0 +1,3 @@
+pub mod LengthLaws
+pub mod BytesLaws
+pub mod ReadingLaws

@@ -1,0 +1,63 @@
+-- The calls that read a graph: their responses, and what is sent for a graph that is held. Assumes nothing.
+use mathlib.Core.Path.{_≡_}
+use mathlib.Core.List.{List}
+use Prim.Native.Nat.{ℕ, _≤_, _<_}
+use lib.ListN.{length}
+use Rattle.defs.specs.Simplify.{sequenceBytes}
+use Rattle.defs.specs.Record.{decode}
+use Rattle.defs.specs.Refusals.{sequenceOnly, recordRefusal}
+use Rattle.defs.specs.Calls.{Response, cleanNonRefPathsResponse, referencePathBytesResponse, pathBasesBytesResponse}
+use Rattle.index.specs.Index.{Indexable}
+use Rattle.memory.specs.Memory.{graphOf, vertexRoom, edgeRoom, Room}
+use Rattle.memory.specs.declared.Held.{Held}
+use Rattle.accept.specs.Accept.{ReadAs}
+use Rattle.accept.specs.declared.Read.{Read}
+use Rattle.accept.specs.declared.Read.the-variants as read
+use Rattle.spell.specs.declared.OptionBytes.{OptionBytes}
+use Rattle.spell.specs.declared.OptionBytes.the-variants.{Some, None}
+use Rattle.paths.specs.Paths.{Spellable}
+use Rattle.choice.specs.Choice.{HoldsLean}
+use Rattle.calls.specs.Sending.{Responds}
+use Rattle.calls.specs.declared.Sent.{Sent}
+use Rattle.reading_calls.specs.declared.ReadingCall.{ReadingCall}
+use Rattle.reading_calls.specs.declared.ReadingCall.the-variants.{CleanNonRefPaths, ReferencePathBytes, PathBasesBytes}
+
+-- the response of a call, by its record and the room
+unfoldable pub pathResponse : ℕ → List ℕ → List ℕ → ℕ → Response
+pathResponse start list bs room = pathBasesBytesResponse bs start list room
+
+unfoldable pub responseOf : ReadingCall → List ℕ → List ℕ → ℕ → Response
+responseOf CleanNonRefPaths list = cleanNonRefPathsResponse
+responseOf ReferencePathBytes list = referencePathBytesResponse
+responseOf (PathBasesBytes start) list = pathResponse start list
+
+-- the number for none; 11 for bytes that the room is too short for; else their length
+pub record Tells (told : OptionBytes) (room missing : ℕ) (s : Sent) : Type 0 where
+  pub none : told ≡ None → s ≡ record { number = missing; length = 0 }
+  pub short : (n : ℕ) → told ≡ Some n → room < n → s ≡ record { number = 11; length = 0 }
+  pub whole : (n : ℕ) → told ≡ Some n → n ≤ room → s ≡ record { number = 0; length = n }
+
+-- a held graph that can be cleaned and its record written
+pub record Answerable (h : Held) (es vs p heads nexts nodes mp tried : List ℕ) : Type 0 where
+  pub room : Room es vs p heads nexts nodes mp
+  pub holds : HoldsLean h es vs p heads nexts
+  pub tried-room : vertexRoom heads ≤ length tried
+  pub vertices-most : vertexRoom heads ≤ 10240
+  pub edges-most : edgeRoom nexts ≤ 16384
+
+-- a held graph that can be indexed and its paths spelled
+pub record Tellable (h : Held) (es vs p heads nexts nodes : List ℕ) : Type 0 where
+  pub indexable : Indexable (h .m) (h .n) es heads nexts
+  pub spellable : Spellable h es vs p nodes
+  pub few : sequenceBytes (graphOf h es vs p .verts) < 4294967296
+
+-- what is sent responds, for every accepted record of the held graph
+pub record GraphAnswered (f : List ℕ → ℕ → Response) (h : Held) (es vs p out : List ℕ) (s : Sent) (out′ : List ℕ) : Type 0 where
+  pub is : (bs : List ℕ) → recordRefusal sequenceOnly bs ≡ 0 → graphOf h es vs p ≡ decode bs → Responds (f bs (length out)) out s out′
+
+pub record ReadAnswerable (x : Read) (es vs p heads nexts nodes mp tried : List ℕ) : Type 0 where
+  pub answerable : (h : Held) → x ≡ read.Graph h → Answerable h es vs p heads nexts nodes mp tried
+
+-- the same, for every record of which x was read
+pub record ReadAnswered (f : List ℕ → ℕ → Response) (x : Read) (es vs p out : List ℕ) (s : Sent) (out′ : List ℕ) : Type 0 where
+  pub is : (bs heads nexts : List ℕ) → ReadAs bs heads nexts x es vs p → Responds (f bs (length out)) out s out′
