@@ -15,7 +15,7 @@ use Rattle.defs.specs.Refusals.{sequenceOnly, recordRefusal}
 use Rattle.defs.specs.Calls.{Response, refused, accepted, numberOf, lengthOf, writtenOf, fits, isNothing, bytesOrNone}
 use Rattle.defs.specs.Calls.{referencePathBytesResponse, pathBasesBytesResponse}
 use Rattle.laws.proofs.Walks.{byTest}
-use Rattle.laws.proofs.ListLaws.{given-some, byOrder}
+use Rattle.laws.proofs.ListLaws.{given-some, byOrder, given-yes}
 use Rattle.laws.proofs.Whole.{no-some}
 use Rattle.memory.specs.Memory.{graphOf}
 use Rattle.memory.specs.declared.Held.{Held}
@@ -23,7 +23,6 @@ use Rattle.spell.specs.Spell.{Told}
 use Rattle.spell.specs.declared.OptionBytes.{OptionBytes}
 use Rattle.spell.specs.declared.OptionBytes.the-variants.{Some, None}
 use Rattle.spell.proofs.SpellLaws.{none-told, some-told}
-use Rattle.paths.proofs.BytesLaws.{given-yes}
 use Rattle.calls.specs.Sending.{Responds}
 use Rattle.calls.specs.declared.Sent.{Sent}
 use Rattle.calls.proofs.CauseLaws.{behind-refused, behind-present, behind-absent}
