@@ -8,13 +8,9 @@ ghost use Rattle.from_assembly_graph.specs.Converts.{Converts};
 use calls::Answer;
 use calls::Sent;
 use calls::Tally;
-
-// For every record: no more vertices and edges are accepted, and a k-mer has at most 128 bytes.
-const LARGE_VERTICES: usize = 2048;
-
-const LARGE_EDGES: usize = 4096;
-
-const LARGE_BYTES: usize = 128 * LARGE_VERTICES;
+use record::MOST_EDGES;
+use record::MOST_KMER_BYTES;
+use record::MOST_VERTICES;
 
 // For a record of at most 4,096 bytes, of which 32 are its head, nine stand for each edge, and two for each vertex beside its k-mer, which has
 // at least two: a tenth of the room, and so less time to clear it.
@@ -61,15 +57,15 @@ fn convert_in(
 fn large_with(
     rec: &[u8],
     out: &mut [u8],
-    es: &mut [u32; 4 * LARGE_EDGES],
-    vs: &mut [u32; 2 * LARGE_VERTICES],
-    p: &mut [u8; LARGE_BYTES],
-    heads: &mut [u32; 2 * LARGE_VERTICES],
-    nexts: &mut [u32; 2 * LARGE_EDGES],
-    order: &mut [u32; LARGE_EDGES],
-    scratch: &mut [u32; LARGE_EDGES],
-    place: &mut [u32; LARGE_VERTICES],
-    sorted: &mut [u32; 4 * LARGE_EDGES],
+    es: &mut [u32; 4 * MOST_EDGES],
+    vs: &mut [u32; 2 * MOST_VERTICES],
+    p: &mut [u8; MOST_KMER_BYTES],
+    heads: &mut [u32; 2 * MOST_VERTICES],
+    nexts: &mut [u32; 2 * MOST_EDGES],
+    order: &mut [u32; MOST_EDGES],
+    scratch: &mut [u32; MOST_EDGES],
+    place: &mut [u32; MOST_VERTICES],
+    sorted: &mut [u32; 4 * MOST_EDGES],
 ) -> Sent
     ensures { λ r. ⌜ Responds (fromAssemblyGraphResponse (now (rec .entry)) (length (now (out .entry)))) (now (out .entry)) r (now (out .exit)) ⌝ }
 {
@@ -91,15 +87,15 @@ fn large_with(
 fn large(rec: &[u8], out: &mut [u8]) -> Sent
     ensures { λ r. ⌜ Responds (fromAssemblyGraphResponse (now (rec .entry)) (length (now (out .entry)))) (now (out .entry)) r (now (out .exit)) ⌝ }
 {
-    let mut es = [0u32; 4 * LARGE_EDGES];
-    let mut vs = [0u32; 2 * LARGE_VERTICES];
-    let mut p = [0u8; LARGE_BYTES];
-    let mut heads = [0u32; 2 * LARGE_VERTICES];
-    let mut nexts = [0u32; 2 * LARGE_EDGES];
-    let mut order = [0u32; LARGE_EDGES];
-    let mut scratch = [0u32; LARGE_EDGES];
-    let mut place = [0u32; LARGE_VERTICES];
-    let mut sorted = [0u32; 4 * LARGE_EDGES];
+    let mut es = [0u32; 4 * MOST_EDGES];
+    let mut vs = [0u32; 2 * MOST_VERTICES];
+    let mut p = [0u8; MOST_KMER_BYTES];
+    let mut heads = [0u32; 2 * MOST_VERTICES];
+    let mut nexts = [0u32; 2 * MOST_EDGES];
+    let mut order = [0u32; MOST_EDGES];
+    let mut scratch = [0u32; MOST_EDGES];
+    let mut place = [0u32; MOST_VERTICES];
+    let mut sorted = [0u32; 4 * MOST_EDGES];
     large_with(
         rec,
         out,
