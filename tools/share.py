@@ -65,16 +65,15 @@ class Binding(namedtuple('Binding', 'name typ value')):
 
 
 def bindings(text, abbrev=''):
-    out, names = [], set()
+    out = []
     for part in re.split(r'\n\n+', text.strip('\n')):
         m = re.match(r'\s*%s(\S+) : (tie\.\S+(?: \S+)*)\n\s*\1 =\s((?:.|\n)*)$' % abbrev, part)
         if not m:
             raise Leave
         b = Binding(m.group(1), m.group(2), ' '.join(m.group(3).split()))
         read = re.match(r'(let c = \S+ in )?(let c : tie\.\S+( \S+)* = search in )*search$', b.value)
-        if not read or b.name in names or b.uses() and b.uses() not in names:
+        if not read or b.uses() not in [None] + [x.name for x in out]:
             raise Leave
-        names.add(b.name)
         out.append(b)
     return out
 
@@ -90,6 +89,7 @@ class Answer:
         if re.search(r'(^|\s)(where|let c|--)(\s|$)|λ ([^.]* )?c[ .]|\(c :|\{-|⟦', self.main):
             raise Leave
         self.where = bindings(where) if where else []
+        self.was = item, self.main, self.where
 
     def cited(self, own):
         """The names of a module that stand here with `c` behind them."""
@@ -118,6 +118,8 @@ class Answer:
                 self.main = re.sub(form % re.escape(name), names[name], self.main)
 
     def text(self):
+        if self.was[1:] == (self.main, self.where):
+            return self.was[0]
         clause = self.head.split('\n')[-1] + self.main
         if max(map(len, clause.split('\n'))) > bind.WIDTH:
             clause = bind.lines_of(clause[:clause.index(' =')], bind.parse(self.main))
@@ -211,10 +213,9 @@ def undo(text):
                 if b.name in used and b.uses():
                     used.add(b.uses())
             names, there = {}, set(WORD.findall(x.main)) | {b.name for b in x.where}
-            for b in module.own:
+            for b in [b for b in module.own if b.name in used]:
                 short = re.sub(r'-\d+$', '', b.name)
-                if b.name in used:
-                    names[b.name] = b.name if short in there - {b.name} or short in names.values() else short
+                names[b.name] = b.name if short in there - {b.name} or short in names.values() else short
             x.uncite(names)
             x.where = [own[n].renamed(names[n], names) for n in names] + x.where
         items.remove(module)
@@ -233,9 +234,8 @@ def main():
         with open(path) as f:
             text = f.read()
         places = None if o.undo else bind.places_of(path, o.gen)
-        new, why = None, 'no generated places'
-        if o.undo or places:
-            new, why = bind.layout(undo(text) if o.undo else share(text, places))
+        done = undo(text) if o.undo else places and share(text, places)
+        new, why = bind.layout(done) if done else (None, 'no generated places')
         if new is None:
             print('%s: left: %s' % (path, why))
         elif new != text and (o.undo or text.count('\n') - new.count('\n') >= o.least):
