@@ -169,20 +169,16 @@ def written(items):
 def share(text, places):
     items = read(text)
     taken = set(re.findall(r'(?m)^(?:pub |abbrev |  abbrev )*(\S+) :', text)) | set(WORD.findall(text.split('\n\n')[0]))
-    groups = []  # a module, old or new, the types that are bound over its place, and the answers that bind them
+    groups = {}  # over each place a module, old or new, and the answers that bind there
     for x in items:
         if isinstance(x, Module):
-            groups.append((x, {b.typ for b in x.own}, []))
+            groups[x.place, x.args] = x, []
         elif isinstance(x, Answer) and x.where and x.need in places.need:
-            place, types = places.need[x.need], {b.typ for b in x.where}
-            near = [g for g in groups if (g[0].place, g[0].args) == (place, x.args) and types & g[1]]
-            if not near:
-                near = [(Module(place, x.args), set(), [])]
-                groups += near
-            near[0][1].update(types)
-            near[0][2].append(x)
-    for module, _, answers in groups:
-        if len(answers) + (module in items) < 2:
+            place = places.need[x.need], x.args
+            groups.setdefault(place, (Module(*place), []))[1].append(x)
+    for module, answers in groups.values():
+        types = [b.typ for x in answers for b in x.where]
+        if module not in items and len(types) == len(set(types)):
             continue
         new, names, now = Module(module.place, module.args, '', module.own), {}, set(taken)
         for x in sorted(answers, key=lambda x: -len(x.where)):
