@@ -26,8 +26,10 @@ a position in the source. Use it after a proof has been found by whatever means,
   -n                           write nothing, say what would change
 
 An answer that it cannot read is left as it is, and named. Run twice it changes nothing; run after a change of the code
-it brings bindings that carry a type up to date. Nothing here is a verdict: `rt check` is. Run `rt ci` after it: a must-fail
-edit that was refused only because a path broke would now be accepted.
+it brings bindings that carry a type up to date. The modules of tools/share.py, and answers that cite them, it leaves
+alone: `tools/share.py --undo FILE` before this tool makes them `where` blocks, and `tools/share.py FILE` after it modules.
+Nothing here is a verdict: `rt check` is. Run `rt ci` after it: a must-fail edit that was refused only because a path broke
+would now be accepted.
 """
 import atexit
 import os

@@ -36,26 +36,27 @@ returns c =
     (at-loop-test .loop-test .taken)
     (sym (not-true _ (c .if1 .taken)) ∙ at-has-one .has-one .ensures)
 
+module _ (c : tie.After-shared-slice-known4 Inv-loop μ-loop) where
+  abbrev at-if1 : tie.Else1 Inv-loop μ-loop
+  at-if1 = search
+
+  abbrev at-has-one : tie.After-has-one Inv-loop μ-loop
+  at-has-one = let c = at-if1 in search
+
+  abbrev at-loop : tie.At-loop Inv-loop μ-loop
+  at-loop = let c = at-has-one in search
+
+  abbrev start : tie.Start Inv-loop μ-loop
+  start = let c = at-loop in search
+
 edge-to-requires : tie.Need-edge-to-requires Inv-loop μ-loop
 edge-to-requires c κs =
     omega (
       arith,
-      one-out (start .pre .1 .1) _ (at-loop .loop .inv .last-below)
-          (sym (not-false _ (at-if1 .if1 .left)) ∙ at-has-one .has-one .ensures),
-      start .pre .1 .1 .room,
+      one-out (start c .pre .1 .1) _ (at-loop c .loop .inv .last-below)
+          (sym (not-false _ (at-if1 c .if1 .left)) ∙ at-has-one c .has-one .ensures),
+      start c .pre .1 .1 .room,
     )
-  where
-    at-if1 : tie.Else1 Inv-loop μ-loop
-    at-if1 = search
-
-    at-has-one : tie.After-has-one Inv-loop μ-loop
-    at-has-one = let c = at-if1 in search
-
-    at-loop : tie.At-loop Inv-loop μ-loop
-    at-loop = let c = at-has-one in search
-
-    start : tie.Start Inv-loop μ-loop
-    start = let c = at-loop in search
 
 chain-goes-on-requires : tie.Need-chain-goes-on-requires Inv-loop μ-loop
 chain-goes-on-requires c κs = (
@@ -159,38 +160,24 @@ has-one-requires c κs = (at-loop .loop .inv .last-below, (omega arith, start .p
     start : tie.Start Inv-loop μ-loop
     start = let c = at-loop in search
 
-mul-e : tie.Need-mul-e Inv-loop μ-loop
-mul-e c = omega (arith, at-loop .loop .inv .last-below, start .pre .1 .1 .heads-room)
-  where
-    at-loop : tie.At-loop Inv-loop μ-loop
-    at-loop = search
+module _ (c : tie.Else1 Inv-loop μ-loop) where
+  abbrev at-loop-2 : tie.At-loop Inv-loop μ-loop
+  at-loop-2 = search
 
-    start : tie.Start Inv-loop μ-loop
-    start = let c = at-loop in search
+  abbrev start-2 : tie.Start Inv-loop μ-loop
+  start-2 = let c = at-loop-2 in search
+
+mul-e : tie.Need-mul-e Inv-loop μ-loop
+mul-e c = omega (arith, at-loop-2 c .loop .inv .last-below, start-2 c .pre .1 .1 .heads-room)
 
 mul-e-2 : tie.Need-mul-e-2 Inv-loop μ-loop
-mul-e-2 c = omega (arith, at-loop .loop .inv .last-below, start .pre .1 .1 .heads-room)
-  where
-    at-loop : tie.At-loop Inv-loop μ-loop
-    at-loop = search
-
-    start : tie.Start Inv-loop μ-loop
-    start = let c = at-loop in search
+mul-e-2 c = omega (arith, at-loop-2 c .loop .inv .last-below, start-2 c .pre .1 .1 .heads-room)
 
 shared-slice-read-e : tie.Need-shared-slice-read-e Inv-loop μ-loop
-shared-slice-read-e c = omega (arith, at-loop .loop .inv .last-below, start .pre .1 .1 .heads-room)
-  where
-    at-loop : tie.At-loop Inv-loop μ-loop
-    at-loop = search
-
-    start : tie.Start Inv-loop μ-loop
-    start = let c = at-loop in search
+shared-slice-read-e c = omega (arith, at-loop c .loop .inv .last-below, start c .pre .1 .1 .heads-room)
 
 cast-e : tie.Need-cast-e Inv-loop μ-loop
-cast-e c = omega (arith, c .shared-slice-known4 .given (2 * at-loop .loop .last))
-  where
-    at-loop : tie.At-loop Inv-loop μ-loop
-    at-loop = search
+cast-e c = omega (arith, c .shared-slice-known4 .given (2 * at-loop c .loop .last))
 
 returns-3 : tie.Need-returns-3 Inv-loop μ-loop
 returns-3 c =

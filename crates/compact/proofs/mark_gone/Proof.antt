@@ -12,60 +12,47 @@ Inv-loop map₀ n gone g i₀ map i = Marking n g gone map₀ map i
 abbrev μ-loop : tie.MeasureT-loop
 μ-loop map₀ n gone g i₀ map i = g - i
 
+module _ (c : tie.After-shared-slice-known2 Inv-loop μ-loop) where
+  abbrev at-loop-test : tie.In-loop Inv-loop μ-loop
+  at-loop-test = search
+
+  abbrev at-loop : tie.At-loop Inv-loop μ-loop
+  at-loop = let c = at-loop-test in search
+
+  abbrev at-fill : tie.After-fill Inv-loop μ-loop
+  at-fill = let c = at-loop in search
+
+  abbrev start : tie.Start Inv-loop μ-loop
+  start = let c = at-fill in search
+
 mul-map-2 : tie.Need-mul-map-2 Inv-loop μ-loop
 mul-map-2 c =
-    omega (arith, start .pre .1 (at-loop .loop .i) (at-loop-test .loop-test .taken), start .pre .0, at-fill .fill .kept)
-  where
-    at-loop-test : tie.In-loop Inv-loop μ-loop
-    at-loop-test = search
-
-    at-loop : tie.At-loop Inv-loop μ-loop
-    at-loop = let c = at-loop-test in search
-
-    at-fill : tie.After-fill Inv-loop μ-loop
-    at-fill = let c = at-loop in search
-
-    start : tie.Start Inv-loop μ-loop
-    start = let c = at-fill in search
+    omega (
+      arith,
+      start c .pre .1 (at-loop c .loop .i) (at-loop-test c .loop-test .taken),
+      start c .pre .0,
+      at-fill c .fill .kept,
+    )
 
 slice-write-map : tie.Need-slice-write-map Inv-loop μ-loop
 slice-write-map c =
-    omega (arith, start .pre .1 (at-loop .loop .i) (at-loop-test .loop-test .taken), start .pre .0, at-fill .fill .kept)
-  where
-    at-loop-test : tie.In-loop Inv-loop μ-loop
-    at-loop-test = search
-
-    at-loop : tie.At-loop Inv-loop μ-loop
-    at-loop = let c = at-loop-test in search
-
-    at-fill : tie.After-fill Inv-loop μ-loop
-    at-fill = let c = at-loop in search
-
-    start : tie.Start Inv-loop μ-loop
-    start = let c = at-fill in search
+    omega (
+      arith,
+      start c .pre .1 (at-loop c .loop .i) (at-loop-test c .loop-test .taken),
+      start c .pre .0,
+      at-fill c .fill .kept,
+    )
 
 loop-again : tie.Need-loop-again Inv-loop μ-loop
 loop-again c =
     marking-more
-    (at-loop .loop .inv)
-    (at-loop-test .loop-test .taken)
-    (start .pre .1 _ (at-loop-test .loop-test .taken))
+    (at-loop c .loop .inv)
+    (at-loop-test c .loop-test .taken)
+    (start c .pre .1 _ (at-loop-test c .loop-test .taken))
     (omega arith)
-  where
-    at-loop-test : tie.In-loop Inv-loop μ-loop
-    at-loop-test = search
-
-    at-loop : tie.At-loop Inv-loop μ-loop
-    at-loop = let c = at-loop-test in search
-
-    start : tie.Start Inv-loop μ-loop
-    start = let c = at-loop in search
 
 cast-map : tie.Need-cast-map Inv-loop μ-loop
-cast-map c = omega (arith, c .shared-slice-known2 .given (at-loop .loop .i))
-  where
-    at-loop : tie.At-loop Inv-loop μ-loop
-    at-loop = search
+cast-map c = omega (arith, c .shared-slice-known2 .given (at-loop c .loop .i))
 
 pub mark-gone-spec : {M : Type 1} → statement M
 mark-gone-spec =

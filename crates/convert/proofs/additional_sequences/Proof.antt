@@ -18,60 +18,40 @@ Inv-loop es m n heads nexts vs₀ v₀ vs v = Trimming m n es vs₀ vs v
 abbrev μ-loop : tie.MeasureT-loop
 μ-loop es m n heads nexts vs₀ v₀ vs v = n - v
 
+module _ (c : tie.After-put-vertex-arg Inv-loop μ-loop) where
+  abbrev at-len-number : tie.After-len-number Inv-loop μ-loop
+  at-len-number = search
+
+  abbrev at-start-number : tie.After-start-number Inv-loop μ-loop
+  at-start-number = let c = at-len-number in search
+
+  abbrev at-loop-test : tie.In-loop Inv-loop μ-loop
+  at-loop-test = let c = at-start-number in search
+
+  abbrev at-loop : tie.At-loop Inv-loop μ-loop
+  at-loop = let c = at-loop-test in search
+
+  abbrev start : tie.Start Inv-loop μ-loop
+  start = let c = at-loop in search
+
 sub-put-vertex : tie.Need-sub-put-vertex Inv-loop μ-loop
 sub-put-vertex c =
     omega (
       arith,
-      trimming-small (start .pre .0) (start .pre .1) (at-loop .loop .inv) (at-loop-test .loop-test .taken)
-          (at-start-number .start-number .ensures) (at-len-number .len-number .ensures),
+      trimming-small (start c .pre .0) (start c .pre .1) (at-loop c .loop .inv) (at-loop-test c .loop-test .taken)
+          (at-start-number c .start-number .ensures) (at-len-number c .len-number .ensures),
     )
-  where
-    at-len-number : tie.After-len-number Inv-loop μ-loop
-    at-len-number = search
-
-    at-start-number : tie.After-start-number Inv-loop μ-loop
-    at-start-number = let c = at-len-number in search
-
-    at-loop-test : tie.In-loop Inv-loop μ-loop
-    at-loop-test = let c = at-start-number in search
-
-    at-loop : tie.At-loop Inv-loop μ-loop
-    at-loop = let c = at-loop-test in search
-
-    start : tie.Start Inv-loop μ-loop
-    start = let c = at-loop in search
 
 add-put-vertex : tie.Need-add-put-vertex Inv-loop μ-loop
 add-put-vertex c =
     omega (
       arith,
-      trimming-small (start .pre .0) (start .pre .1) (at-loop .loop .inv) (at-loop-test .loop-test .taken)
-          (at-start-number .start-number .ensures) (at-len-number .len-number .ensures),
+      trimming-small (start c .pre .0) (start c .pre .1) (at-loop c .loop .inv) (at-loop-test c .loop-test .taken)
+          (at-start-number c .start-number .ensures) (at-len-number c .len-number .ensures),
     )
-  where
-    at-len-number : tie.After-len-number Inv-loop μ-loop
-    at-len-number = search
-
-    at-start-number : tie.After-start-number Inv-loop μ-loop
-    at-start-number = let c = at-len-number in search
-
-    at-loop-test : tie.In-loop Inv-loop μ-loop
-    at-loop-test = let c = at-start-number in search
-
-    at-loop : tie.At-loop Inv-loop μ-loop
-    at-loop = let c = at-loop-test in search
-
-    start : tie.Start Inv-loop μ-loop
-    start = let c = at-loop in search
 
 put-vertex-requires : tie.Need-put-vertex-requires Inv-loop μ-loop
-put-vertex-requires c κs = omega (arith, start .pre .0 .vs-room, at-loop .loop .inv .size)
-  where
-    at-loop : tie.At-loop Inv-loop μ-loop
-    at-loop = search
-
-    start : tie.Start Inv-loop μ-loop
-    start = let c = at-loop in search
+put-vertex-requires c κs = omega (arith, start c .pre .0 .vs-room, at-loop c .loop .inv .size)
 
 loop-again : tie.Need-loop-again Inv-loop μ-loop
 loop-again c =

@@ -12,38 +12,27 @@ Inv-loop es m n heads nexts degrees₀ v₀ degrees v = Counting m n es degrees�
 abbrev μ-loop : tie.MeasureT-loop
 μ-loop es m n heads nexts degrees₀ v₀ degrees v = n - v
 
+module _ (c : tie.After-degree Inv-loop μ-loop) where
+  abbrev at-loop : tie.At-loop Inv-loop μ-loop
+  at-loop = search
+
+  abbrev start : tie.Start Inv-loop μ-loop
+  start = let c = at-loop in search
+
 cast-degrees : tie.Need-cast-degrees Inv-loop μ-loop
 cast-degrees c =
     omega (
       arith,
       c .degree .ensures,
-      degree-most (endOf 1 (start .args .es .now)) (start .args .m) (at-loop .loop .v),
-      start .pre .1 .0,
+      degree-most (endOf 1 (start c .args .es .now)) (start c .args .m) (at-loop c .loop .v),
+      start c .pre .1 .0,
     )
-  where
-    at-loop : tie.At-loop Inv-loop μ-loop
-    at-loop = search
-
-    start : tie.Start Inv-loop μ-loop
-    start = let c = at-loop in search
 
 mul-degrees : tie.Need-mul-degrees Inv-loop μ-loop
-mul-degrees c = omega (arith, at-loop .loop .inv .len, start .pre .1 .1)
-  where
-    at-loop : tie.At-loop Inv-loop μ-loop
-    at-loop = search
-
-    start : tie.Start Inv-loop μ-loop
-    start = let c = at-loop in search
+mul-degrees c = omega (arith, at-loop c .loop .inv .len, start c .pre .1 .1)
 
 slice-write-degrees : tie.Need-slice-write-degrees Inv-loop μ-loop
-slice-write-degrees c = omega (arith, at-loop .loop .inv .len, start .pre .1 .1)
-  where
-    at-loop : tie.At-loop Inv-loop μ-loop
-    at-loop = search
-
-    start : tie.Start Inv-loop μ-loop
-    start = let c = at-loop in search
+slice-write-degrees c = omega (arith, at-loop c .loop .inv .len, start c .pre .1 .1)
 
 loop-again : tie.Need-loop-again Inv-loop μ-loop
 loop-again c =

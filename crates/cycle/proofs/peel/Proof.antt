@@ -41,157 +41,101 @@ mul-left c =
     start : tie.Start Inv-loop μ-loop
     start = let c = at-loop in search
 
+module _ (c : tie.After-slice-known4 Inv-loop μ-loop) where
+  abbrev at-edge-to : tie.After-edge-to Inv-loop μ-loop
+  at-edge-to = search
+
+  abbrev at-loop-test : tie.In-loop Inv-loop μ-loop
+  at-loop-test = let c = at-edge-to in search
+
+  abbrev at-loop : tie.At-loop Inv-loop μ-loop
+  at-loop = let c = at-loop-test in search
+
+  abbrev start : tie.Start Inv-loop μ-loop
+  start = let c = at-loop in search
+
 slice-read-left : tie.Need-slice-read-left Inv-loop μ-loop
 slice-read-left c =
     omega (
       arith,
-      start .pre .1 .0 .ends .at _ (at-loop-test .loop-test .taken) .1,
-      start .pre .1 .1 .0 .degrees-room,
-      at-loop .loop .inv .degrees-len,
+      start c .pre .1 .0 .ends .at _ (at-loop-test c .loop-test .taken) .1,
+      start c .pre .1 .1 .0 .degrees-room,
+      at-loop c .loop .inv .degrees-len,
     )
-  where
-    at-loop-test : tie.In-loop Inv-loop μ-loop
-    at-loop-test = search
-
-    at-loop : tie.At-loop Inv-loop μ-loop
-    at-loop = let c = at-loop-test in search
-
-    start : tie.Start Inv-loop μ-loop
-    start = let c = at-loop in search
 
 sub-left : tie.Need-sub-left Inv-loop μ-loop
 sub-left c =
     omega (
       arith,
-      taken-some (start .pre .1 .0) (at-loop .loop .inv) (at-loop-test .loop-test .taken)
-          (at-edge-to .edge-to .ensures) (start .pre .1 .1 .0 .degrees-room),
+      taken-some (start c .pre .1 .0) (at-loop c .loop .inv) (at-loop-test c .loop-test .taken)
+          (at-edge-to c .edge-to .ensures) (start c .pre .1 .1 .0 .degrees-room),
     )
-  where
-    at-edge-to : tie.After-edge-to Inv-loop μ-loop
-    at-edge-to = search
-
-    at-loop-test : tie.In-loop Inv-loop μ-loop
-    at-loop-test = let c = at-edge-to in search
-
-    at-loop : tie.At-loop Inv-loop μ-loop
-    at-loop = let c = at-loop-test in search
-
-    start : tie.Start Inv-loop μ-loop
-    start = let c = at-loop in search
 
 mul-degrees : tie.Need-mul-degrees Inv-loop μ-loop
 mul-degrees c =
     omega (
       arith,
-      start .pre .1 .0 .ends .at _ (at-loop-test .loop-test .taken) .1,
-      start .pre .1 .1 .0 .degrees-room,
-      at-loop .loop .inv .degrees-len,
+      start c .pre .1 .0 .ends .at _ (at-loop-test c .loop-test .taken) .1,
+      start c .pre .1 .1 .0 .degrees-room,
+      at-loop c .loop .inv .degrees-len,
     )
-  where
-    at-loop-test : tie.In-loop Inv-loop μ-loop
-    at-loop-test = search
-
-    at-loop : tie.At-loop Inv-loop μ-loop
-    at-loop = let c = at-loop-test in search
-
-    start : tie.Start Inv-loop μ-loop
-    start = let c = at-loop in search
 
 slice-write-degrees : tie.Need-slice-write-degrees Inv-loop μ-loop
 slice-write-degrees c =
     omega (
       arith,
-      start .pre .1 .0 .ends .at _ (at-loop-test .loop-test .taken) .1,
-      start .pre .1 .1 .0 .degrees-room,
-      at-loop .loop .inv .degrees-len,
+      start c .pre .1 .0 .ends .at _ (at-loop-test c .loop-test .taken) .1,
+      start c .pre .1 .1 .0 .degrees-room,
+      at-loop c .loop .inv .degrees-len,
     )
-  where
-    at-loop-test : tie.In-loop Inv-loop μ-loop
-    at-loop-test = search
 
-    at-loop : tie.At-loop Inv-loop μ-loop
-    at-loop = let c = at-loop-test in search
+module _ (c : tie.Then1 Inv-loop μ-loop) where
+  abbrev at-loop-test-2 : tie.In-loop Inv-loop μ-loop
+  at-loop-test-2 = search
 
-    start : tie.Start Inv-loop μ-loop
-    start = let c = at-loop in search
+  abbrev at-loop-2 : tie.At-loop Inv-loop μ-loop
+  at-loop-2 = let c = at-loop-test-2 in search
+
+  abbrev start-2 : tie.Start Inv-loop μ-loop
+  start-2 = let c = at-loop-2 in search
 
 cast-queue : tie.Need-cast-queue Inv-loop μ-loop
 cast-queue c =
-    omega (arith, start .pre .1 .0 .ends .at _ (at-loop-test .loop-test .taken) .1, start .pre .1 .1 .0 .small)
-  where
-    at-loop-test : tie.In-loop Inv-loop μ-loop
-    at-loop-test = search
-
-    start : tie.Start Inv-loop μ-loop
-    start = let c = at-loop-test in search
+    omega
+    (arith, start-2 c .pre .1 .0 .ends .at _ (at-loop-test-2 c .loop-test .taken) .1, start-2 c .pre .1 .1 .0 .small)
 
 mul-queue : tie.Need-mul-queue Inv-loop μ-loop
 mul-queue c =
     omega (
       arith,
-      taken-fits (start .pre .1 .0) (at-loop .loop .inv) (at-loop-test .loop-test .taken)
-          (start .pre .1 .1 .0 .degrees-room),
-      start .pre .1 .1 .0 .queue-room,
-      at-loop .loop .inv .queue-len,
+      taken-fits (start-2 c .pre .1 .0) (at-loop-2 c .loop .inv) (at-loop-test-2 c .loop-test .taken)
+          (start-2 c .pre .1 .1 .0 .degrees-room),
+      start-2 c .pre .1 .1 .0 .queue-room,
+      at-loop-2 c .loop .inv .queue-len,
     )
-  where
-    at-loop-test : tie.In-loop Inv-loop μ-loop
-    at-loop-test = search
-
-    at-loop : tie.At-loop Inv-loop μ-loop
-    at-loop = let c = at-loop-test in search
-
-    start : tie.Start Inv-loop μ-loop
-    start = let c = at-loop in search
 
 slice-write-queue : tie.Need-slice-write-queue Inv-loop μ-loop
 slice-write-queue c =
     omega (
       arith,
-      taken-fits (start .pre .1 .0) (at-loop .loop .inv) (at-loop-test .loop-test .taken)
-          (start .pre .1 .1 .0 .degrees-room),
-      start .pre .1 .1 .0 .queue-room,
-      at-loop .loop .inv .queue-len,
+      taken-fits (start-2 c .pre .1 .0) (at-loop-2 c .loop .inv) (at-loop-test-2 c .loop-test .taken)
+          (start-2 c .pre .1 .1 .0 .degrees-room),
+      start-2 c .pre .1 .1 .0 .queue-room,
+      at-loop-2 c .loop .inv .queue-len,
     )
-  where
-    at-loop-test : tie.In-loop Inv-loop μ-loop
-    at-loop-test = search
-
-    at-loop : tie.At-loop Inv-loop μ-loop
-    at-loop = let c = at-loop-test in search
-
-    start : tie.Start Inv-loop μ-loop
-    start = let c = at-loop in search
 
 add-tail : tie.Need-add-tail Inv-loop μ-loop
 add-tail c =
     omega (
       arith,
-      taken-fits (start .pre .1 .0) (at-loop .loop .inv) (at-loop-test .loop-test .taken)
-          (start .pre .1 .1 .0 .degrees-room),
-      start .pre .1 .1 .0 .queue-room,
+      taken-fits (start-2 c .pre .1 .0) (at-loop-2 c .loop .inv) (at-loop-test-2 c .loop-test .taken)
+          (start-2 c .pre .1 .1 .0 .degrees-room),
+      start-2 c .pre .1 .1 .0 .queue-room,
     )
-  where
-    at-loop-test : tie.In-loop Inv-loop μ-loop
-    at-loop-test = search
-
-    at-loop : tie.At-loop Inv-loop μ-loop
-    at-loop = let c = at-loop-test in search
-
-    start : tie.Start Inv-loop μ-loop
-    start = let c = at-loop in search
 
 loop-less : tie.Need-loop-less Inv-loop μ-loop
-loop-less c = omega (arith, taking-later (start .pre .1 .0) (at-loop .loop .inv) (at-loop-test .loop-test .taken))
-  where
-    at-loop-test : tie.In-loop Inv-loop μ-loop
-    at-loop-test = search
-
-    at-loop : tie.At-loop Inv-loop μ-loop
-    at-loop = let c = at-loop-test in search
-
-    start : tie.Start Inv-loop μ-loop
-    start = let c = at-loop in search
+loop-less c =
+    omega (arith, taking-later (start-2 c .pre .1 .0) (at-loop-2 c .loop .inv) (at-loop-test-2 c .loop-test .taken))
 
 loop-again : tie.Need-loop-again Inv-loop μ-loop
 loop-again c =
@@ -240,45 +184,51 @@ mul-u c = omega (arith, queue-most (start .pre .1 .1 .1 .queued), start .pre .1 
     start : tie.Start Inv-loop μ-loop
     start = search
 
+module _ (c : tie.After-slice-known3 Inv-loop μ-loop) where
+  abbrev start-3 : tie.Start Inv-loop μ-loop
+  start-3 = search
+
 slice-read-u : tie.Need-slice-read-u Inv-loop μ-loop
-slice-read-u c = omega (arith, queue-most (start .pre .1 .1 .1 .queued), start .pre .1 .1 .0 .queue-room)
-  where
-    start : tie.Start Inv-loop μ-loop
-    start = search
+slice-read-u c = omega (arith, queue-most (start-3 c .pre .1 .1 .1 .queued), start-3 c .pre .1 .1 .0 .queue-room)
 
 cast-u : tie.Need-cast-u Inv-loop μ-loop
 cast-u c =
-    omega (arith, start .pre .1 .1 .1 .queued .vertex (start .args .h) (start .pre .0), start .pre .1 .1 .0 .small)
-  where
-    start : tie.Start Inv-loop μ-loop
-    start = search
+    omega (
+      arith,
+      start-3 c .pre .1 .1 .1 .queued .vertex (start-3 c .args .h) (start-3 c .pre .0),
+      start-3 c .pre .1 .1 .0 .small,
+    )
 
 mul-e : tie.Need-mul-e Inv-loop μ-loop
 mul-e c =
-    omega (arith, start .pre .1 .1 .1 .queued .vertex (start .args .h) (start .pre .0), start .pre .1 .0 .heads-room)
-  where
-    start : tie.Start Inv-loop μ-loop
-    start = search
+    omega (
+      arith,
+      start-3 c .pre .1 .1 .1 .queued .vertex (start-3 c .args .h) (start-3 c .pre .0),
+      start-3 c .pre .1 .0 .heads-room,
+    )
 
 mul-e-2 : tie.Need-mul-e-2 Inv-loop μ-loop
 mul-e-2 c =
-    omega (arith, start .pre .1 .1 .1 .queued .vertex (start .args .h) (start .pre .0), start .pre .1 .0 .heads-room)
-  where
-    start : tie.Start Inv-loop μ-loop
-    start = search
+    omega (
+      arith,
+      start-3 c .pre .1 .1 .1 .queued .vertex (start-3 c .args .h) (start-3 c .pre .0),
+      start-3 c .pre .1 .0 .heads-room,
+    )
+
+module _ (c : tie.After-shared-slice-known4 Inv-loop μ-loop) where
+  abbrev start-4 : tie.Start Inv-loop μ-loop
+  start-4 = search
 
 shared-slice-read-e : tie.Need-shared-slice-read-e Inv-loop μ-loop
 shared-slice-read-e c =
-    omega (arith, start .pre .1 .1 .1 .queued .vertex (start .args .h) (start .pre .0), start .pre .1 .0 .heads-room)
-  where
-    start : tie.Start Inv-loop μ-loop
-    start = search
+    omega (
+      arith,
+      start-4 c .pre .1 .1 .1 .queued .vertex (start-4 c .args .h) (start-4 c .pre .0),
+      start-4 c .pre .1 .0 .heads-room,
+    )
 
 cast-e : tie.Need-cast-e Inv-loop μ-loop
-cast-e c = omega (arith, c .shared-slice-known4 .given (2 * getD (start .args .queue .now) (start .args .h) 0))
-  where
-    start : tie.Start Inv-loop μ-loop
-    start = search
+cast-e c = omega (arith, c .shared-slice-known4 .given (2 * getD (start-4 c .args .queue .now) (start-4 c .args .h) 0))
 
 loop-holds : tie.Need-loop-holds Inv-loop μ-loop
 loop-holds c =

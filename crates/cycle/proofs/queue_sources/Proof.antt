@@ -11,32 +11,21 @@ Inv-loop n degrees queue₀ tail₀ v₀ queue tail v = Sourcing n degrees queue
 abbrev μ-loop : tie.MeasureT-loop
 μ-loop n degrees queue₀ tail₀ v₀ queue tail v = n - v
 
-mul-queue : tie.Need-mul-queue Inv-loop μ-loop
-mul-queue c = omega (arith, start .pre .queue-room, at-loop .loop .inv .low, at-loop .loop .inv .len)
-  where
-    at-loop : tie.At-loop Inv-loop μ-loop
-    at-loop = search
+module _ (c : tie.Then1 Inv-loop μ-loop) where
+  abbrev at-loop : tie.At-loop Inv-loop μ-loop
+  at-loop = search
 
-    start : tie.Start Inv-loop μ-loop
-    start = let c = at-loop in search
+  abbrev start : tie.Start Inv-loop μ-loop
+  start = let c = at-loop in search
+
+mul-queue : tie.Need-mul-queue Inv-loop μ-loop
+mul-queue c = omega (arith, start c .pre .queue-room, at-loop c .loop .inv .low, at-loop c .loop .inv .len)
 
 slice-write-queue : tie.Need-slice-write-queue Inv-loop μ-loop
-slice-write-queue c = omega (arith, start .pre .queue-room, at-loop .loop .inv .low, at-loop .loop .inv .len)
-  where
-    at-loop : tie.At-loop Inv-loop μ-loop
-    at-loop = search
-
-    start : tie.Start Inv-loop μ-loop
-    start = let c = at-loop in search
+slice-write-queue c = omega (arith, start c .pre .queue-room, at-loop c .loop .inv .low, at-loop c .loop .inv .len)
 
 add-tail : tie.Need-add-tail Inv-loop μ-loop
-add-tail c = omega (arith, start .pre .queue-room, at-loop .loop .inv .low, at-loop .loop .inv .len)
-  where
-    at-loop : tie.At-loop Inv-loop μ-loop
-    at-loop = search
-
-    start : tie.Start Inv-loop μ-loop
-    start = let c = at-loop in search
+add-tail c = omega (arith, start c .pre .queue-room, at-loop c .loop .inv .low, at-loop c .loop .inv .len)
 
 loop-again : tie.Need-loop-again Inv-loop μ-loop
 loop-again c =

@@ -64,53 +64,36 @@ returns c =
     marking-found (start .pre .1 .0) (at-loop .loop .inv) (at-loop-test .loop-test .taken)
     (at-edge-to .edge-to .ensures) (c .if1 .taken)
 
+module _ (c : tie.Else1 Inv-loop μ-loop) where
+  abbrev at-loop-test : tie.In-loop Inv-loop μ-loop
+  at-loop-test = search
+
+  abbrev at-loop : tie.At-loop Inv-loop μ-loop
+  at-loop = let c = at-loop-test in search
+
+  abbrev start : tie.Start Inv-loop μ-loop
+  start = let c = at-loop in search
+
 mul-marks : tie.Need-mul-marks Inv-loop μ-loop
 mul-marks c =
     omega (
       arith,
-      start .pre .1 .0 .ends .at _ (at-loop-test .loop-test .taken) .1,
-      start .pre .1 .1 .0 .room,
-      at-loop .loop .inv .len,
+      start c .pre .1 .0 .ends .at _ (at-loop-test c .loop-test .taken) .1,
+      start c .pre .1 .1 .0 .room,
+      at-loop c .loop .inv .len,
     )
-  where
-    at-loop-test : tie.In-loop Inv-loop μ-loop
-    at-loop-test = search
-
-    at-loop : tie.At-loop Inv-loop μ-loop
-    at-loop = let c = at-loop-test in search
-
-    start : tie.Start Inv-loop μ-loop
-    start = let c = at-loop in search
 
 slice-write-marks : tie.Need-slice-write-marks Inv-loop μ-loop
 slice-write-marks c =
     omega (
       arith,
-      start .pre .1 .0 .ends .at _ (at-loop-test .loop-test .taken) .1,
-      start .pre .1 .1 .0 .room,
-      at-loop .loop .inv .len,
+      start c .pre .1 .0 .ends .at _ (at-loop-test c .loop-test .taken) .1,
+      start c .pre .1 .1 .0 .room,
+      at-loop c .loop .inv .len,
     )
-  where
-    at-loop-test : tie.In-loop Inv-loop μ-loop
-    at-loop-test = search
-
-    at-loop : tie.At-loop Inv-loop μ-loop
-    at-loop = let c = at-loop-test in search
-
-    start : tie.Start Inv-loop μ-loop
-    start = let c = at-loop in search
 
 loop-less : tie.Need-loop-less Inv-loop μ-loop
-loop-less c = omega (arith, next-later (start .pre .1 .0) (at-loop .loop .inv) (at-loop-test .loop-test .taken))
-  where
-    at-loop-test : tie.In-loop Inv-loop μ-loop
-    at-loop-test = search
-
-    at-loop : tie.At-loop Inv-loop μ-loop
-    at-loop = let c = at-loop-test in search
-
-    start : tie.Start Inv-loop μ-loop
-    start = let c = at-loop in search
+loop-less c = omega (arith, next-later (start c .pre .1 .0) (at-loop c .loop .inv) (at-loop-test c .loop-test .taken))
 
 loop-again : tie.Need-loop-again Inv-loop μ-loop
 loop-again c =

@@ -12,59 +12,47 @@ Inv-loop start list nodes₀ c₀ i₀ nodes c i = Noting start list nodes₀ no
 abbrev μ-loop : tie.MeasureT-loop
 μ-loop start list nodes₀ c₀ i₀ nodes c i = length list - i
 
+module _ (c : tie.After-shared-slice-known Inv-loop μ-loop) where
+  abbrev at-loop-test : tie.In-loop Inv-loop μ-loop
+  at-loop-test = search
+
+  abbrev at-loop : tie.At-loop Inv-loop μ-loop
+  at-loop = let c = at-loop-test in search
+
+  abbrev start : tie.Start Inv-loop μ-loop
+  start = let c = at-loop in search
+
 slice-write-nodes-2 : tie.Need-slice-write-nodes-2 Inv-loop μ-loop
 slice-write-nodes-2 c =
     noting-room
-    (at-loop .loop .inv)
-    (omega (arith, start .pre, length-set (start .args .nodes .now) 0 (start .args .start)))
-    (at-loop-test .loop-test .taken)
-  where
-    at-loop-test : tie.In-loop Inv-loop μ-loop
-    at-loop-test = search
-
-    at-loop : tie.At-loop Inv-loop μ-loop
-    at-loop = let c = at-loop-test in search
-
-    start : tie.Start Inv-loop μ-loop
-    start = let c = at-loop in search
+    (at-loop c .loop .inv)
+    (omega (arith, start c .pre, length-set (start c .args .nodes .now) 0 (start c .args .start)))
+    (at-loop-test c .loop-test .taken)
 
 loop-again : tie.Need-loop-again Inv-loop μ-loop
 loop-again c =
     noting-more
-    (at-loop .loop .inv)
-    (omega (arith, start .pre, length-set (start .args .nodes .now) 0 (start .args .start)))
-    (at-loop-test .loop-test .taken)
-  where
-    at-loop-test : tie.In-loop Inv-loop μ-loop
-    at-loop-test = search
+    (at-loop c .loop .inv)
+    (omega (arith, start c .pre, length-set (start c .args .nodes .now) 0 (start c .args .start)))
+    (at-loop-test c .loop-test .taken)
 
-    at-loop : tie.At-loop Inv-loop μ-loop
-    at-loop = let c = at-loop-test in search
+module _ (c : tie.After-loop Inv-loop μ-loop) where
+  abbrev at-loop-2 : tie.At-loop Inv-loop μ-loop
+  at-loop-2 = search
 
-    start : tie.Start Inv-loop μ-loop
-    start = let c = at-loop in search
+  abbrev start-2 : tie.Start Inv-loop μ-loop
+  start-2 = let c = at-loop-2 in search
 
 same-length : tie.Need-same-length Inv-loop μ-loop
-same-length c = omega (arith, at-loop .loop .inv .len, length-set (start .args .nodes .now) 0 (start .args .start))
-  where
-    at-loop : tie.At-loop Inv-loop μ-loop
-    at-loop = search
-
-    start : tie.Start Inv-loop μ-loop
-    start = let c = at-loop in search
+same-length c =
+    omega (arith, at-loop-2 c .loop .inv .len, length-set (start-2 c .args .nodes .now) 0 (start-2 c .args .start))
 
 returns : tie.Need-returns Inv-loop μ-loop
 returns c =
     noting-end
-    (at-loop .loop .inv)
-    (omega (arith, start .pre, length-set (start .args .nodes .now) 0 (start .args .start)))
+    (at-loop-2 c .loop .inv)
+    (omega (arith, start-2 c .pre, length-set (start-2 c .args .nodes .now) 0 (start-2 c .args .start)))
     (c .loop-test .left)
-  where
-    at-loop : tie.At-loop Inv-loop μ-loop
-    at-loop = search
-
-    start : tie.Start Inv-loop μ-loop
-    start = let c = at-loop in search
 
 pub path-nodes-spec : {M : Type 1} → statement M
 path-nodes-spec =

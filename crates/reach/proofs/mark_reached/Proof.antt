@@ -13,51 +13,35 @@ Inv-loop es m n heads nexts plain kind s marks₀ queue₀ tail₀ h₀ marks qu
 abbrev μ-loop : tie.MeasureT-loop
 μ-loop es m n heads nexts plain kind s marks₀ queue₀ tail₀ h₀ marks queue tail h = n - h
 
-mul-marks : tie.Need-mul-marks Inv-loop μ-loop
-mul-marks c = omega (arith, start .pre .0, start .pre .1 .1 .marks-room, at-clear-marks .clear-marks .kept .0)
-  where
-    at-clear-marks : tie.After-clear-marks Inv-loop μ-loop
-    at-clear-marks = search
+module _ (c : tie.After-slice-known3 Inv-loop μ-loop) where
+  abbrev at-clear-marks : tie.After-clear-marks Inv-loop μ-loop
+  at-clear-marks = search
 
-    start : tie.Start Inv-loop μ-loop
-    start = let c = at-clear-marks in search
+  abbrev start : tie.Start Inv-loop μ-loop
+  start = let c = at-clear-marks in search
+
+mul-marks : tie.Need-mul-marks Inv-loop μ-loop
+mul-marks c = omega (arith, start c .pre .0, start c .pre .1 .1 .marks-room, at-clear-marks c .clear-marks .kept .0)
 
 slice-write-marks : tie.Need-slice-write-marks Inv-loop μ-loop
-slice-write-marks c = omega (arith, start .pre .0, start .pre .1 .1 .marks-room, at-clear-marks .clear-marks .kept .0)
-  where
-    at-clear-marks : tie.After-clear-marks Inv-loop μ-loop
-    at-clear-marks = search
-
-    start : tie.Start Inv-loop μ-loop
-    start = let c = at-clear-marks in search
+slice-write-marks c =
+    omega (arith, start c .pre .0, start c .pre .1 .1 .marks-room, at-clear-marks c .clear-marks .kept .0)
 
 cast-queue : tie.Need-cast-queue Inv-loop μ-loop
-cast-queue c = omega (arith, start .pre .0, start .pre .1 .1 .small)
-  where
-    start : tie.Start Inv-loop μ-loop
-    start = search
+cast-queue c = omega (arith, start c .pre .0, start c .pre .1 .1 .small)
 
 slice-write-queue : tie.Need-slice-write-queue Inv-loop μ-loop
-slice-write-queue c = omega (arith, start .pre .0, start .pre .1 .1 .queue-room)
-  where
-    start : tie.Start Inv-loop μ-loop
-    start = search
+slice-write-queue c = omega (arith, start c .pre .0, start c .pre .1 .1 .queue-room)
 
 loop-holds : tie.Need-loop-holds Inv-loop μ-loop
 loop-holds c =
     walking-start
-    (at-clear-marks .clear-marks .last .0)
-    (start .args .queue .now)
-    (at-clear-marks .clear-marks .ensures)
-    (start .pre .0)
-    (omega (arith, start .pre .1 .1 .marks-room, at-clear-marks .clear-marks .kept .0))
-    (start .pre .1 .1 .queue-room)
-  where
-    at-clear-marks : tie.After-clear-marks Inv-loop μ-loop
-    at-clear-marks = search
-
-    start : tie.Start Inv-loop μ-loop
-    start = let c = at-clear-marks in search
+    (at-clear-marks c .clear-marks .last .0)
+    (start c .args .queue .now)
+    (at-clear-marks c .clear-marks .ensures)
+    (start c .pre .0)
+    (omega (arith, start c .pre .1 .1 .marks-room, at-clear-marks c .clear-marks .kept .0))
+    (start c .pre .1 .1 .queue-room)
 
 leave-vertex-requires : tie.Need-leave-vertex-requires Inv-loop μ-loop
 leave-vertex-requires c κs = (
@@ -86,26 +70,23 @@ leave-vertex-requires c κs = (
     start : tie.Start Inv-loop μ-loop
     start = let c = at-clear-marks in search
 
+module _ (c : tie.After-slice-known5 Inv-loop μ-loop) where
+  abbrev at-loop-test : tie.In-loop Inv-loop μ-loop
+  at-loop-test = search
+
+  abbrev at-loop : tie.At-loop Inv-loop μ-loop
+  at-loop = let c = at-loop-test in search
+
+  abbrev start-2 : tie.Start Inv-loop μ-loop
+  start-2 = let c = at-loop in search
+
 add-h : tie.Need-add-h Inv-loop μ-loop
-add-h c = omega (arith, found-most (at-loop .loop .inv .found), at-loop-test .loop-test .taken, start .pre .1 .1 .small)
-  where
-    at-loop-test : tie.In-loop Inv-loop μ-loop
-    at-loop-test = search
-
-    at-loop : tie.At-loop Inv-loop μ-loop
-    at-loop = let c = at-loop-test in search
-
-    start : tie.Start Inv-loop μ-loop
-    start = let c = at-loop in search
+add-h c =
+    omega
+    (arith, found-most (at-loop c .loop .inv .found), at-loop-test c .loop-test .taken, start-2 c .pre .1 .1 .small)
 
 loop-less : tie.Need-loop-less Inv-loop μ-loop
-loop-less c = omega (arith, found-most (at-loop .loop .inv .found), at-loop-test .loop-test .taken)
-  where
-    at-loop-test : tie.In-loop Inv-loop μ-loop
-    at-loop-test = search
-
-    at-loop : tie.At-loop Inv-loop μ-loop
-    at-loop = let c = at-loop-test in search
+loop-less c = omega (arith, found-most (at-loop c .loop .inv .found), at-loop-test c .loop-test .taken)
 
 loop-again : tie.Need-loop-again Inv-loop μ-loop
 loop-again c =
@@ -119,37 +100,26 @@ loop-again c =
     (at-leave-vertex .leave-vertex .kept .1 .1 .1 .1 .1 .1 .1 .1 .1 .0)
     (at-leave-vertex .leave-vertex .kept .1 .1 .1 .1 .1 .1 .1 .1 .1 .1 .0)
 
+module _ (c : tie.After-loop Inv-loop μ-loop) where
+  abbrev at-loop-2 : tie.At-loop Inv-loop μ-loop
+  at-loop-2 = search
+
+  abbrev at-clear-marks-2 : tie.After-clear-marks Inv-loop μ-loop
+  at-clear-marks-2 = let c = at-loop-2 in search
+
+  abbrev start-3 : tie.Start Inv-loop μ-loop
+  start-3 = let c = at-clear-marks-2 in search
+
 same-length : tie.Need-same-length Inv-loop μ-loop
 same-length c =
-    at-loop .loop .inv .marks-len ∙ length-set (at-clear-marks .clear-marks .last .0) (start .args .s) 1
-    ∙ at-clear-marks .clear-marks .kept .0
-  where
-    at-loop : tie.At-loop Inv-loop μ-loop
-    at-loop = search
-
-    at-clear-marks : tie.After-clear-marks Inv-loop μ-loop
-    at-clear-marks = let c = at-loop in search
-
-    start : tie.Start Inv-loop μ-loop
-    start = let c = at-clear-marks in search
+    at-loop-2 c .loop .inv .marks-len ∙ length-set (at-clear-marks-2 c .clear-marks .last .0) (start-3 c .args .s) 1
+    ∙ at-clear-marks-2 c .clear-marks .kept .0
 
 same-length-2 : tie.Need-same-length-2 Inv-loop μ-loop
-same-length-2 c = at-loop .loop .inv .queue-len ∙ length-set (start .args .queue .now) 0 (start .args .s)
-  where
-    at-loop : tie.At-loop Inv-loop μ-loop
-    at-loop = search
-
-    start : tie.Start Inv-loop μ-loop
-    start = let c = at-loop in search
+same-length-2 c = at-loop-2 c .loop .inv .queue-len ∙ length-set (start-3 c .args .queue .now) 0 (start-3 c .args .s)
 
 returns : tie.Need-returns Inv-loop μ-loop
-returns c = walking-end (start .pre .1 .0 .ends) (start .pre .0) (at-loop .loop .inv) (c .loop-test .left)
-  where
-    at-loop : tie.At-loop Inv-loop μ-loop
-    at-loop = search
-
-    start : tie.Start Inv-loop μ-loop
-    start = let c = at-loop in search
+returns c = walking-end (start-3 c .pre .1 .0 .ends) (start-3 c .pre .0) (at-loop-2 c .loop .inv) (c .loop-test .left)
 
 pub mark-reached-spec : {M : Type 1} → statement M
 mark-reached-spec =

@@ -34,150 +34,135 @@ mul-u c = omega (arith, found-most (start .pre .1 .1 .1 .1), start .pre .0, star
     start : tie.Start Inv-loop μ-loop
     start = search
 
+module _ (c : tie.After-slice-known3 Inv-loop μ-loop) where
+  abbrev start : tie.Start Inv-loop μ-loop
+  start = search
+
 slice-read-u : tie.Need-slice-read-u Inv-loop μ-loop
-slice-read-u c = omega (arith, found-most (start .pre .1 .1 .1 .1), start .pre .0, start .pre .1 .1 .1 .0 .queue-room)
-  where
-    start : tie.Start Inv-loop μ-loop
-    start = search
+slice-read-u c =
+    omega (arith, found-most (start c .pre .1 .1 .1 .1), start c .pre .0, start c .pre .1 .1 .1 .0 .queue-room)
 
 cast-u : tie.Need-cast-u Inv-loop μ-loop
-cast-u c = omega (arith, start .pre .1 .1 .1 .1 .vertex (start .args .h) (start .pre .0), start .pre .1 .1 .1 .0 .small)
-  where
-    start : tie.Start Inv-loop μ-loop
-    start = search
+cast-u c =
+    omega
+    (arith, start c .pre .1 .1 .1 .1 .vertex (start c .args .h) (start c .pre .0), start c .pre .1 .1 .1 .0 .small)
 
 mul-e : tie.Need-mul-e Inv-loop μ-loop
 mul-e c =
-    omega (arith, start .pre .1 .1 .1 .1 .vertex (start .args .h) (start .pre .0), start .pre .1 .1 .0 .heads-room)
-  where
-    start : tie.Start Inv-loop μ-loop
-    start = search
+    omega
+    (arith, start c .pre .1 .1 .1 .1 .vertex (start c .args .h) (start c .pre .0), start c .pre .1 .1 .0 .heads-room)
 
 add-e : tie.Need-add-e Inv-loop μ-loop
 add-e c =
     omega (
       arith,
-      start .pre .1 .1 .1 .1 .vertex (start .args .h) (start .pre .0),
-      start .pre .1 .1 .0 .heads-room,
-      start .pre .1 .0,
+      start c .pre .1 .1 .1 .1 .vertex (start c .args .h) (start c .pre .0),
+      start c .pre .1 .1 .0 .heads-room,
+      start c .pre .1 .0,
     )
-  where
-    start : tie.Start Inv-loop μ-loop
-    start = search
 
 mul-e-2 : tie.Need-mul-e-2 Inv-loop μ-loop
 mul-e-2 c =
     omega (
       arith,
-      start .pre .1 .1 .1 .1 .vertex (start .args .h) (start .pre .0),
-      start .pre .1 .1 .0 .heads-room,
-      start .pre .1 .0,
+      start c .pre .1 .1 .1 .1 .vertex (start c .args .h) (start c .pre .0),
+      start c .pre .1 .1 .0 .heads-room,
+      start c .pre .1 .0,
     )
-  where
-    start : tie.Start Inv-loop μ-loop
-    start = search
+
+module _ (c : tie.After-shared-slice-known4 Inv-loop μ-loop) where
+  abbrev start-2 : tie.Start Inv-loop μ-loop
+  start-2 = search
 
 shared-slice-read-e : tie.Need-shared-slice-read-e Inv-loop μ-loop
 shared-slice-read-e c =
     omega (
       arith,
-      start .pre .1 .1 .1 .1 .vertex (start .args .h) (start .pre .0),
-      start .pre .1 .1 .0 .heads-room,
-      start .pre .1 .0,
+      start-2 c .pre .1 .1 .1 .1 .vertex (start-2 c .args .h) (start-2 c .pre .0),
+      start-2 c .pre .1 .1 .0 .heads-room,
+      start-2 c .pre .1 .0,
     )
-  where
-    start : tie.Start Inv-loop μ-loop
-    start = search
 
 cast-e : tie.Need-cast-e Inv-loop μ-loop
 cast-e c =
-    omega
-    (arith, c .shared-slice-known4 .given (2 * getD (start .args .queue .now) (start .args .h) 0 + start .args .off))
-  where
-    start : tie.Start Inv-loop μ-loop
-    start = search
+    omega (
+      arith,
+      c .shared-slice-known4 .given
+          (2 * getD (start-2 c .args .queue .now) (start-2 c .args .h) 0 + start-2 c .args .off),
+    )
 
 loop-holds : tie.Need-loop-holds Inv-loop μ-loop
 loop-holds c =
     let start : tie.Start Inv-loop μ-loop = search in
     pushing-start (start .pre .1 .1 .0) (start .pre .1 .0) (start .pre .1 .1 .1 .1) (start .pre .0) refl
 
+module _ (c : tie.In-loop Inv-loop μ-loop) where
+  abbrev start-3 : tie.Start Inv-loop μ-loop
+  start-3 = search
+
 mul-e-3 : tie.Need-mul-e-3 Inv-loop μ-loop
-mul-e-3 c = omega (arith, start .pre .1 .1 .0 .nexts-room, start .pre .1 .0)
-  where
-    start : tie.Start Inv-loop μ-loop
-    start = search
+mul-e-3 c = omega (arith, start-3 c .pre .1 .1 .0 .nexts-room, start-3 c .pre .1 .0)
 
 add-e-2 : tie.Need-add-e-2 Inv-loop μ-loop
-add-e-2 c = omega (arith, start .pre .1 .1 .0 .nexts-room, start .pre .1 .0)
-  where
-    start : tie.Start Inv-loop μ-loop
-    start = search
+add-e-2 c = omega (arith, start-3 c .pre .1 .1 .0 .nexts-room, start-3 c .pre .1 .0)
 
 mul-e-4 : tie.Need-mul-e-4 Inv-loop μ-loop
-mul-e-4 c = omega (arith, start .pre .1 .1 .0 .nexts-room, start .pre .1 .0)
-  where
-    start : tie.Start Inv-loop μ-loop
-    start = search
+mul-e-4 c = omega (arith, start-3 c .pre .1 .1 .0 .nexts-room, start-3 c .pre .1 .0)
+
+module _ (c : tie.After-shared-slice-known5 Inv-loop μ-loop) where
+  abbrev at-loop : tie.At-loop Inv-loop μ-loop
+  at-loop = search
+
+  abbrev start-4 : tie.Start Inv-loop μ-loop
+  start-4 = let c = at-loop in search
+
+  abbrev at-loop-test : tie.In-loop Inv-loop μ-loop
+  at-loop-test = search
 
 shared-slice-read-e-2 : tie.Need-shared-slice-read-e-2 Inv-loop μ-loop
-shared-slice-read-e-2 c = omega (arith, start .pre .1 .1 .0 .nexts-room, start .pre .1 .0)
-  where
-    start : tie.Start Inv-loop μ-loop
-    start = search
+shared-slice-read-e-2 c = omega (arith, start-4 c .pre .1 .1 .0 .nexts-room, start-4 c .pre .1 .0)
 
 cast-e-2 : tie.Need-cast-e-2 Inv-loop μ-loop
-cast-e-2 c = omega (arith, c .shared-slice-known5 .given (2 * at-loop .loop .e + start .args .off))
-  where
-    at-loop : tie.At-loop Inv-loop μ-loop
-    at-loop = search
+cast-e-2 c = omega (arith, c .shared-slice-known5 .given (2 * at-loop c .loop .e + start-4 c .args .off))
 
-    start : tie.Start Inv-loop μ-loop
-    start = let c = at-loop in search
+module _ (c : tie.Then2 Inv-loop μ-loop) where
+  abbrev at-loop-test-2 : tie.In-loop Inv-loop μ-loop
+  at-loop-test-2 = search
+
+  abbrev start-5 : tie.Start Inv-loop μ-loop
+  start-5 = let c = at-loop-test-2 in search
 
 edge-end-requires : tie.Need-edge-end-requires Inv-loop μ-loop
-edge-end-requires c κs = omega (arith, start .pre .1 .1 .0 .room, at-loop-test .loop-test .taken)
-  where
-    at-loop-test : tie.In-loop Inv-loop μ-loop
-    at-loop-test = search
+edge-end-requires c κs = omega (arith, start-5 c .pre .1 .1 .0 .room, at-loop-test-2 c .loop-test .taken)
 
-    start : tie.Start Inv-loop μ-loop
-    start = let c = at-loop-test in search
+module _ (c : tie.After-edge-end Inv-loop μ-loop) where
+  abbrev at-loop-test-3 : tie.In-loop Inv-loop μ-loop
+  at-loop-test-3 = search
+
+  abbrev at-loop-2 : tie.At-loop Inv-loop μ-loop
+  at-loop-2 = let c = at-loop-test-3 in search
+
+  abbrev start-6 : tie.Start Inv-loop μ-loop
+  start-6 = let c = at-loop-2 in search
 
 cast-if3 : tie.Need-cast-if3 Inv-loop μ-loop
 cast-if3 c =
     omega (
       arith,
-      pushing-below (start .pre .1 .1 .0) (start .pre .1 .0) (at-loop .loop .inv) (at-loop-test .loop-test .taken),
-      start .pre .1 .1 .1 .0 .small,
+      pushing-below (start-6 c .pre .1 .1 .0) (start-6 c .pre .1 .0) (at-loop-2 c .loop .inv)
+          (at-loop-test-3 c .loop-test .taken),
+      start-6 c .pre .1 .1 .1 .0 .small,
     )
-  where
-    at-loop-test : tie.In-loop Inv-loop μ-loop
-    at-loop-test = search
-
-    at-loop : tie.At-loop Inv-loop μ-loop
-    at-loop = let c = at-loop-test in search
-
-    start : tie.Start Inv-loop μ-loop
-    start = let c = at-loop in search
 
 mul-if3 : tie.Need-mul-if3 Inv-loop μ-loop
 mul-if3 c =
     omega (
       arith,
-      pushing-below (start .pre .1 .1 .0) (start .pre .1 .0) (at-loop .loop .inv) (at-loop-test .loop-test .taken),
-      at-loop .loop .inv .marks-len,
-      start .pre .1 .1 .1 .0 .marks-room,
+      pushing-below (start-6 c .pre .1 .1 .0) (start-6 c .pre .1 .0) (at-loop-2 c .loop .inv)
+          (at-loop-test-3 c .loop-test .taken),
+      at-loop-2 c .loop .inv .marks-len,
+      start-6 c .pre .1 .1 .1 .0 .marks-room,
     )
-  where
-    at-loop-test : tie.In-loop Inv-loop μ-loop
-    at-loop-test = search
-
-    at-loop : tie.At-loop Inv-loop μ-loop
-    at-loop = let c = at-loop-test in search
-
-    start : tie.Start Inv-loop μ-loop
-    start = let c = at-loop in search
 
 slice-read-if3 : tie.Need-slice-read-if3 Inv-loop μ-loop
 slice-read-if3 c =
@@ -197,252 +182,174 @@ slice-read-if3 c =
     start : tie.Start Inv-loop μ-loop
     start = let c = at-loop in search
 
+module _ (c : tie.Then3 Inv-loop μ-loop) where
+  abbrev at-edge-end : tie.After-edge-end Inv-loop μ-loop
+  at-edge-end = search
+
+  abbrev at-if2 : tie.Then2 Inv-loop μ-loop
+  at-if2 = let c = at-edge-end in search
+
+  abbrev at-may-pass : tie.After-may-pass Inv-loop μ-loop
+  at-may-pass = let c = at-if2 in search
+
+  abbrev at-loop-test-4 : tie.In-loop Inv-loop μ-loop
+  at-loop-test-4 = let c = at-may-pass in search
+
+  abbrev at-loop-3 : tie.At-loop Inv-loop μ-loop
+  at-loop-3 = let c = at-loop-test-4 in search
+
+  abbrev at-if1 : tie.Else1 Inv-loop μ-loop
+  at-if1 = let c = at-loop-3 in search
+
+  abbrev at-takes-end : tie.After-takes-end Inv-loop μ-loop
+  at-takes-end = let c = at-if1 in search
+
+  abbrev start-7 : tie.Start Inv-loop μ-loop
+  start-7 = let c = at-takes-end in search
+
 cast-marks : tie.Need-cast-marks Inv-loop μ-loop
 cast-marks c =
     omega (
       arith,
-      pushing-below (start .pre .1 .1 .0) (start .pre .1 .0) (at-loop .loop .inv) (at-loop-test .loop-test .taken),
-      start .pre .1 .1 .1 .0 .small,
+      pushing-below (start-7 c .pre .1 .1 .0) (start-7 c .pre .1 .0) (at-loop-3 c .loop .inv)
+          (at-loop-test-4 c .loop-test .taken),
+      start-7 c .pre .1 .1 .1 .0 .small,
     )
-  where
-    at-loop-test : tie.In-loop Inv-loop μ-loop
-    at-loop-test = search
-
-    at-loop : tie.At-loop Inv-loop μ-loop
-    at-loop = let c = at-loop-test in search
-
-    start : tie.Start Inv-loop μ-loop
-    start = let c = at-loop in search
 
 mul-marks : tie.Need-mul-marks Inv-loop μ-loop
 mul-marks c =
     omega (
       arith,
-      pushing-below (start .pre .1 .1 .0) (start .pre .1 .0) (at-loop .loop .inv) (at-loop-test .loop-test .taken),
-      at-loop .loop .inv .marks-len,
-      start .pre .1 .1 .1 .0 .marks-room,
+      pushing-below (start-7 c .pre .1 .1 .0) (start-7 c .pre .1 .0) (at-loop-3 c .loop .inv)
+          (at-loop-test-4 c .loop-test .taken),
+      at-loop-3 c .loop .inv .marks-len,
+      start-7 c .pre .1 .1 .1 .0 .marks-room,
     )
-  where
-    at-loop-test : tie.In-loop Inv-loop μ-loop
-    at-loop-test = search
-
-    at-loop : tie.At-loop Inv-loop μ-loop
-    at-loop = let c = at-loop-test in search
-
-    start : tie.Start Inv-loop μ-loop
-    start = let c = at-loop in search
 
 slice-write-marks : tie.Need-slice-write-marks Inv-loop μ-loop
 slice-write-marks c =
     omega (
       arith,
-      pushing-below (start .pre .1 .1 .0) (start .pre .1 .0) (at-loop .loop .inv) (at-loop-test .loop-test .taken),
-      at-loop .loop .inv .marks-len,
-      start .pre .1 .1 .1 .0 .marks-room,
+      pushing-below (start-7 c .pre .1 .1 .0) (start-7 c .pre .1 .0) (at-loop-3 c .loop .inv)
+          (at-loop-test-4 c .loop-test .taken),
+      at-loop-3 c .loop .inv .marks-len,
+      start-7 c .pre .1 .1 .1 .0 .marks-room,
     )
-  where
-    at-loop-test : tie.In-loop Inv-loop μ-loop
-    at-loop-test = search
-
-    at-loop : tie.At-loop Inv-loop μ-loop
-    at-loop = let c = at-loop-test in search
-
-    start : tie.Start Inv-loop μ-loop
-    start = let c = at-loop in search
 
 mul-queue : tie.Need-mul-queue Inv-loop μ-loop
 mul-queue c =
     omega (
       arith,
-      pushing-room (start .pre .1 .1 .0) (start .pre .1 .0) (at-loop .loop .inv) (at-loop-test .loop-test .taken)
-          (start .pre .1 .1 .1 .0) (at-edge-end .edge-end .ensures) (set-not (c .if3 .taken)),
-      at-loop .loop .inv .queue-len,
-      start .pre .1 .1 .1 .0 .queue-room,
+      pushing-room (start-7 c .pre .1 .1 .0) (start-7 c .pre .1 .0) (at-loop-3 c .loop .inv)
+          (at-loop-test-4 c .loop-test .taken) (start-7 c .pre .1 .1 .1 .0) (at-edge-end c .edge-end .ensures)
+          (set-not (c .if3 .taken)),
+      at-loop-3 c .loop .inv .queue-len,
+      start-7 c .pre .1 .1 .1 .0 .queue-room,
     )
-  where
-    at-edge-end : tie.After-edge-end Inv-loop μ-loop
-    at-edge-end = search
-
-    at-loop-test : tie.In-loop Inv-loop μ-loop
-    at-loop-test = let c = at-edge-end in search
-
-    at-loop : tie.At-loop Inv-loop μ-loop
-    at-loop = let c = at-loop-test in search
-
-    start : tie.Start Inv-loop μ-loop
-    start = let c = at-loop in search
 
 slice-write-queue : tie.Need-slice-write-queue Inv-loop μ-loop
 slice-write-queue c =
     omega (
       arith,
-      pushing-room (start .pre .1 .1 .0) (start .pre .1 .0) (at-loop .loop .inv) (at-loop-test .loop-test .taken)
-          (start .pre .1 .1 .1 .0) (at-edge-end .edge-end .ensures) (set-not (c .if3 .taken)),
-      at-loop .loop .inv .queue-len,
-      start .pre .1 .1 .1 .0 .queue-room,
+      pushing-room (start-7 c .pre .1 .1 .0) (start-7 c .pre .1 .0) (at-loop-3 c .loop .inv)
+          (at-loop-test-4 c .loop-test .taken) (start-7 c .pre .1 .1 .1 .0) (at-edge-end c .edge-end .ensures)
+          (set-not (c .if3 .taken)),
+      at-loop-3 c .loop .inv .queue-len,
+      start-7 c .pre .1 .1 .1 .0 .queue-room,
     )
-  where
-    at-edge-end : tie.After-edge-end Inv-loop μ-loop
-    at-edge-end = search
-
-    at-loop-test : tie.In-loop Inv-loop μ-loop
-    at-loop-test = let c = at-edge-end in search
-
-    at-loop : tie.At-loop Inv-loop μ-loop
-    at-loop = let c = at-loop-test in search
-
-    start : tie.Start Inv-loop μ-loop
-    start = let c = at-loop in search
 
 add-tail : tie.Need-add-tail Inv-loop μ-loop
 add-tail c =
     omega (
       arith,
-      pushing-room (start .pre .1 .1 .0) (start .pre .1 .0) (at-loop .loop .inv) (at-loop-test .loop-test .taken)
-          (start .pre .1 .1 .1 .0) (at-edge-end .edge-end .ensures) (set-not (c .if3 .taken)),
-      start .pre .1 .1 .1 .0 .small,
+      pushing-room (start-7 c .pre .1 .1 .0) (start-7 c .pre .1 .0) (at-loop-3 c .loop .inv)
+          (at-loop-test-4 c .loop-test .taken) (start-7 c .pre .1 .1 .1 .0) (at-edge-end c .edge-end .ensures)
+          (set-not (c .if3 .taken)),
+      start-7 c .pre .1 .1 .1 .0 .small,
     )
-  where
-    at-edge-end : tie.After-edge-end Inv-loop μ-loop
-    at-edge-end = search
-
-    at-loop-test : tie.In-loop Inv-loop μ-loop
-    at-loop-test = let c = at-edge-end in search
-
-    at-loop : tie.At-loop Inv-loop μ-loop
-    at-loop = let c = at-loop-test in search
-
-    start : tie.Start Inv-loop μ-loop
-    start = let c = at-loop in search
 
 loop-less : tie.Need-loop-less Inv-loop μ-loop
 loop-less c =
     omega (
       arith,
-      pushing-later (start .pre .1 .1 .0) (start .pre .1 .0) (at-loop .loop .inv) (at-loop-test .loop-test .taken),
+      pushing-later (start-7 c .pre .1 .1 .0) (start-7 c .pre .1 .0) (at-loop-3 c .loop .inv)
+          (at-loop-test-4 c .loop-test .taken),
     )
-  where
-    at-loop-test : tie.In-loop Inv-loop μ-loop
-    at-loop-test = search
-
-    at-loop : tie.At-loop Inv-loop μ-loop
-    at-loop = let c = at-loop-test in search
-
-    start : tie.Start Inv-loop μ-loop
-    start = let c = at-loop in search
 
 loop-again : tie.Need-loop-again Inv-loop μ-loop
 loop-again c =
     pushing-push
-    (start .pre .1 .1 .0)
-    (start .pre .1 .0)
-    (at-loop .loop .inv)
-    (at-loop-test .loop-test .taken)
-    (start .pre .1 .1 .1 .0)
-    (at-edge-end .edge-end .ensures)
+    (start-7 c .pre .1 .1 .0)
+    (start-7 c .pre .1 .0)
+    (at-loop-3 c .loop .inv)
+    (at-loop-test-4 c .loop-test .taken)
+    (start-7 c .pre .1 .1 .1 .0)
+    (at-edge-end c .edge-end .ensures)
     (set-not (c .if3 .taken))
-    (start .pre .0)
-    (sym (at-takes-end .takes-end .ensures) ∙ not-false _ (at-if1 .if1 .left))
-    (sym (at-may-pass .may-pass .ensures) ∙ at-if2 .if2 .taken)
-  where
-    at-edge-end : tie.After-edge-end Inv-loop μ-loop
-    at-edge-end = search
+    (start-7 c .pre .0)
+    (sym (at-takes-end c .takes-end .ensures) ∙ not-false _ (at-if1 c .if1 .left))
+    (sym (at-may-pass c .may-pass .ensures) ∙ at-if2 c .if2 .taken)
 
-    at-if2 : tie.Then2 Inv-loop μ-loop
-    at-if2 = let c = at-edge-end in search
+module _ (c : tie.Else3 Inv-loop μ-loop) where
+  abbrev at-edge-end-2 : tie.After-edge-end Inv-loop μ-loop
+  at-edge-end-2 = search
 
-    at-may-pass : tie.After-may-pass Inv-loop μ-loop
-    at-may-pass = let c = at-if2 in search
+  abbrev at-loop-test-5 : tie.In-loop Inv-loop μ-loop
+  at-loop-test-5 = let c = at-edge-end-2 in search
 
-    at-loop-test : tie.In-loop Inv-loop μ-loop
-    at-loop-test = let c = at-may-pass in search
+  abbrev at-loop-4 : tie.At-loop Inv-loop μ-loop
+  at-loop-4 = let c = at-loop-test-5 in search
 
-    at-loop : tie.At-loop Inv-loop μ-loop
-    at-loop = let c = at-loop-test in search
-
-    at-if1 : tie.Else1 Inv-loop μ-loop
-    at-if1 = let c = at-loop in search
-
-    at-takes-end : tie.After-takes-end Inv-loop μ-loop
-    at-takes-end = let c = at-if1 in search
-
-    start : tie.Start Inv-loop μ-loop
-    start = let c = at-takes-end in search
+  abbrev start-8 : tie.Start Inv-loop μ-loop
+  start-8 = let c = at-loop-4 in search
 
 loop-less-2 : tie.Need-loop-less-2 Inv-loop μ-loop
 loop-less-2 c =
     omega (
       arith,
-      pushing-later (start .pre .1 .1 .0) (start .pre .1 .0) (at-loop .loop .inv) (at-loop-test .loop-test .taken),
+      pushing-later (start-8 c .pre .1 .1 .0) (start-8 c .pre .1 .0) (at-loop-4 c .loop .inv)
+          (at-loop-test-5 c .loop-test .taken),
     )
-  where
-    at-loop-test : tie.In-loop Inv-loop μ-loop
-    at-loop-test = search
-
-    at-loop : tie.At-loop Inv-loop μ-loop
-    at-loop = let c = at-loop-test in search
-
-    start : tie.Start Inv-loop μ-loop
-    start = let c = at-loop in search
 
 loop-again-2 : tie.Need-loop-again-2 Inv-loop μ-loop
 loop-again-2 c =
     pushing-seen
-    (start .pre .1 .1 .0)
-    (start .pre .1 .0)
-    (at-loop .loop .inv)
-    (at-loop-test .loop-test .taken)
-    (at-edge-end .edge-end .ensures)
+    (start-8 c .pre .1 .1 .0)
+    (start-8 c .pre .1 .0)
+    (at-loop-4 c .loop .inv)
+    (at-loop-test-5 c .loop-test .taken)
+    (at-edge-end-2 c .edge-end .ensures)
     (set-is (c .if3 .left))
-  where
-    at-edge-end : tie.After-edge-end Inv-loop μ-loop
-    at-edge-end = search
 
-    at-loop-test : tie.In-loop Inv-loop μ-loop
-    at-loop-test = let c = at-edge-end in search
+module _ (c : tie.Else2 Inv-loop μ-loop) where
+  abbrev at-may-pass-2 : tie.After-may-pass Inv-loop μ-loop
+  at-may-pass-2 = search
 
-    at-loop : tie.At-loop Inv-loop μ-loop
-    at-loop = let c = at-loop-test in search
+  abbrev at-loop-test-6 : tie.In-loop Inv-loop μ-loop
+  at-loop-test-6 = let c = at-may-pass-2 in search
 
-    start : tie.Start Inv-loop μ-loop
-    start = let c = at-loop in search
+  abbrev at-loop-5 : tie.At-loop Inv-loop μ-loop
+  at-loop-5 = let c = at-loop-test-6 in search
+
+  abbrev start-9 : tie.Start Inv-loop μ-loop
+  start-9 = let c = at-loop-5 in search
 
 loop-less-3 : tie.Need-loop-less-3 Inv-loop μ-loop
 loop-less-3 c =
     omega (
       arith,
-      pushing-later (start .pre .1 .1 .0) (start .pre .1 .0) (at-loop .loop .inv) (at-loop-test .loop-test .taken),
+      pushing-later (start-9 c .pre .1 .1 .0) (start-9 c .pre .1 .0) (at-loop-5 c .loop .inv)
+          (at-loop-test-6 c .loop-test .taken),
     )
-  where
-    at-loop-test : tie.In-loop Inv-loop μ-loop
-    at-loop-test = search
-
-    at-loop : tie.At-loop Inv-loop μ-loop
-    at-loop = let c = at-loop-test in search
-
-    start : tie.Start Inv-loop μ-loop
-    start = let c = at-loop in search
 
 loop-again-3 : tie.Need-loop-again-3 Inv-loop μ-loop
 loop-again-3 c =
     pushing-shut
-    (start .pre .1 .1 .0)
-    (start .pre .1 .0)
-    (at-loop .loop .inv)
-    (at-loop-test .loop-test .taken)
-    (sym (at-may-pass .may-pass .ensures) ∙ c .if2 .left)
-  where
-    at-may-pass : tie.After-may-pass Inv-loop μ-loop
-    at-may-pass = search
-
-    at-loop-test : tie.In-loop Inv-loop μ-loop
-    at-loop-test = let c = at-may-pass in search
-
-    at-loop : tie.At-loop Inv-loop μ-loop
-    at-loop = let c = at-loop-test in search
-
-    start : tie.Start Inv-loop μ-loop
-    start = let c = at-loop in search
+    (start-9 c .pre .1 .1 .0)
+    (start-9 c .pre .1 .0)
+    (at-loop-5 c .loop .inv)
+    (at-loop-test-6 c .loop-test .taken)
+    (sym (at-may-pass-2 c .may-pass .ensures) ∙ c .if2 .left)
 
 returns-2 : tie.Need-returns-2 Inv-loop μ-loop
 returns-2 c = pushing-end (start .pre .1 .1 .0) (start .pre .1 .0) (at-loop .loop .inv) (c .loop-test .left)
@@ -460,19 +367,10 @@ returns c =
     pushed-none (start .pre .1 .1 .1 .1) (sym (at-takes-end .takes-end .ensures) ∙ not-true _ (c .if1 .taken))
 
 may-pass-requires : tie.Need-may-pass-requires Inv-loop μ-loop
-may-pass-requires c κs = omega (arith, start .pre .1 .1 .0 .room, at-loop-test .loop-test .taken)
-  where
-    at-loop-test : tie.In-loop Inv-loop μ-loop
-    at-loop-test = search
-
-    start : tie.Start Inv-loop μ-loop
-    start = let c = at-loop-test in search
+may-pass-requires c κs = omega (arith, start-4 c .pre .1 .1 .0 .room, at-loop-test c .loop-test .taken)
 
 sub-edge-end : tie.Need-sub-edge-end Inv-loop μ-loop
-sub-edge-end c = omega (arith, start .pre .1 .0)
-  where
-    start : tie.Start Inv-loop μ-loop
-    start = let c : tie.After-takes-end Inv-loop μ-loop = search in search
+sub-edge-end c = omega (arith, start-5 c .pre .1 .0)
 
 pub push-steps-spec : {M : Type 1} → statement M
 push-steps-spec =

@@ -19,65 +19,50 @@ add-or-update-edge-requires c κs =
     (c .new-to .ensures)
     (start .pre .room)
 
+module _ (c : tie.After-slice-known4) where
+  abbrev at-aoue : tie.After-add-or-update-edge
+  at-aoue = search
+
+  abbrev at-new-to : tie.After-new-to
+  at-new-to = let c = at-aoue in search
+
+  abbrev at-new-from : tie.After-new-from
+  at-new-from = let c = at-new-to in search
+
+  abbrev at-edge-flag : tie.After-edge-flag
+  at-edge-flag = let c = at-new-from in search
+
+  abbrev at-edge-support : tie.After-edge-support
+  at-edge-support = let c = at-edge-flag in search
+
+  abbrev at-place-of : tie.After-place-of
+  at-place-of = let c = at-edge-support in search
+
+  abbrev at-edge-end : tie.After-edge-end
+  at-edge-end = let c = at-place-of in search
+
+  abbrev start : tie.Start
+  start = let c = at-edge-end in search
+
 add-map : tie.Need-add-map
-add-map c = omega (arith, edge-small (start .pre) (at-edge-end .edge-end .ensures) (at-place-of .place-of .ensures))
-  where
-    at-place-of : tie.After-place-of
-    at-place-of = search
-
-    at-edge-end : tie.After-edge-end
-    at-edge-end = let c = at-place-of in search
-
-    start : tie.Start
-    start = let c = at-edge-end in search
+add-map c =
+    omega (arith, edge-small (start c .pre) (at-edge-end c .edge-end .ensures) (at-place-of c .place-of .ensures))
 
 cast-map : tie.Need-cast-map
-cast-map c = omega (arith, edge-small (start .pre) (at-edge-end .edge-end .ensures) (at-place-of .place-of .ensures))
-  where
-    at-place-of : tie.After-place-of
-    at-place-of = search
-
-    at-edge-end : tie.After-edge-end
-    at-edge-end = let c = at-place-of in search
-
-    start : tie.Start
-    start = let c = at-edge-end in search
+cast-map c =
+    omega (arith, edge-small (start c .pre) (at-edge-end c .edge-end .ensures) (at-place-of c .place-of .ensures))
 
 returns : tie.Need-returns
 returns c =
     one-done
-    (start .pre)
-    (at-edge-end .edge-end .ensures)
-    (at-place-of .place-of .ensures)
-    (at-new-from .new-from .ensures)
-    (at-new-to .new-to .ensures)
-    (at-edge-support .edge-support .ensures)
-    (at-edge-flag .edge-flag .ensures)
-    (at-aoue .add-or-update-edge .ensures .1)
-  where
-    at-aoue : tie.After-add-or-update-edge
-    at-aoue = search
-
-    at-new-to : tie.After-new-to
-    at-new-to = let c = at-aoue in search
-
-    at-new-from : tie.After-new-from
-    at-new-from = let c = at-new-to in search
-
-    at-edge-flag : tie.After-edge-flag
-    at-edge-flag = let c = at-new-from in search
-
-    at-edge-support : tie.After-edge-support
-    at-edge-support = let c = at-edge-flag in search
-
-    at-place-of : tie.After-place-of
-    at-place-of = let c = at-edge-support in search
-
-    at-edge-end : tie.After-edge-end
-    at-edge-end = let c = at-place-of in search
-
-    start : tie.Start
-    start = let c = at-edge-end in search
+    (start c .pre)
+    (at-edge-end c .edge-end .ensures)
+    (at-place-of c .place-of .ensures)
+    (at-new-from c .new-from .ensures)
+    (at-new-to c .new-to .ensures)
+    (at-edge-support c .edge-support .ensures)
+    (at-edge-flag c .edge-flag .ensures)
+    (at-aoue c .add-or-update-edge .ensures .1)
 
 pub redirect-edge-spec : {M : Type 1} → statement M
 redirect-edge-spec =

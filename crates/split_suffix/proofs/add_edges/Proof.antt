@@ -22,14 +22,16 @@ Inv-loop es₀ m n heads nexts vs nodes c s bottom map₀ y₀ k₀ i₀ es map 
 abbrev μ-loop : tie.MeasureT-loop
 μ-loop es₀ m n heads nexts vs nodes c s bottom map₀ y₀ k₀ i₀ es map y k i = c - i
 
-vertex-len-requires : tie.Need-vertex-len-requires Inv-loop μ-loop
-vertex-len-requires c κs = omega (arith, start .pre .vs-room, start .pre .prevs .at _ (at-loop-test .loop-test .taken))
-  where
-    at-loop-test : tie.In-loop Inv-loop μ-loop
-    at-loop-test = search
+module _ (c : tie.After-shared-slice-known5 Inv-loop μ-loop) where
+  abbrev at-loop-test : tie.In-loop Inv-loop μ-loop
+  at-loop-test = search
 
-    start : tie.Start Inv-loop μ-loop
-    start = let c = at-loop-test in search
+  abbrev start : tie.Start Inv-loop μ-loop
+  start = let c = at-loop-test in search
+
+vertex-len-requires : tie.Need-vertex-len-requires Inv-loop μ-loop
+vertex-len-requires c κs =
+    omega (arith, start c .pre .vs-room, start c .pre .prevs .at _ (at-loop-test c .loop-test .taken))
 
 split-edges-requires : tie.Need-split-edges-requires Inv-loop μ-loop
 split-edges-requires c κs =
@@ -71,50 +73,39 @@ entry-of-requires c κs =
     start : tie.Start Inv-loop μ-loop
     start = let c = at-loop in search
 
+module _ (c : tie.After-entry-of Inv-loop μ-loop) where
+  abbrev at-split-edges : tie.After-split-edges Inv-loop μ-loop
+  at-split-edges = search
+
+  abbrev at-vertex-len : tie.After-vertex-len Inv-loop μ-loop
+  at-vertex-len = let c = at-split-edges in search
+
+  abbrev at-loop-test-2 : tie.In-loop Inv-loop μ-loop
+  at-loop-test-2 = let c = at-vertex-len in search
+
+  abbrev at-loop : tie.At-loop Inv-loop μ-loop
+  at-loop = let c = at-loop-test-2 in search
+
+  abbrev start-2 : tie.Start Inv-loop μ-loop
+  start-2 = let c = at-loop in search
+
 add-y : tie.Need-add-y Inv-loop μ-loop
 add-y c =
     omega (
       arith,
       c .entry-of .ensures,
-      next-small (start .pre) (at-loop .loop .inv) (at-loop-test .loop-test .taken)
-          (ap (λ (x : ℕ). ltb (start .args .s) x) (at-vertex-len .vertex-len .ensures)),
+      next-small (start-2 c .pre) (at-loop c .loop .inv) (at-loop-test-2 c .loop-test .taken)
+          (ap (λ (x : ℕ). ltb (start-2 c .args .s) x) (at-vertex-len c .vertex-len .ensures)),
     )
-  where
-    at-vertex-len : tie.After-vertex-len Inv-loop μ-loop
-    at-vertex-len = search
-
-    at-loop-test : tie.In-loop Inv-loop μ-loop
-    at-loop-test = let c = at-vertex-len in search
-
-    at-loop : tie.At-loop Inv-loop μ-loop
-    at-loop = let c = at-loop-test in search
-
-    start : tie.Start Inv-loop μ-loop
-    start = let c = at-loop in search
 
 loop-again : tie.Need-loop-again Inv-loop μ-loop
 loop-again c =
     entries
     (c .entry-of .ensures)
-    (adding-more (start .pre) (at-loop .loop .inv) (at-loop-test .loop-test .taken)
-    (ap (λ (x : ℕ). ltb (start .args .s) x) (at-vertex-len .vertex-len .ensures))
-    (at-split-edges .split-edges .ensures) (at-split-edges .split-edges .kept .0)
-    (at-split-edges .split-edges .kept .1 .1 .1 .1 .1 .1 .1 .1 .1 .1 .0))
-  where
-    at-split-edges : tie.After-split-edges Inv-loop μ-loop
-    at-split-edges = search
-
-    at-vertex-len : tie.After-vertex-len Inv-loop μ-loop
-    at-vertex-len = let c = at-split-edges in search
-
-    at-loop-test : tie.In-loop Inv-loop μ-loop
-    at-loop-test = let c = at-vertex-len in search
-
-    at-loop : tie.At-loop Inv-loop μ-loop
-    at-loop = let c = at-loop-test in search
-
-    start : tie.Start Inv-loop μ-loop
-    start = let c = at-loop in search
+    (adding-more (start-2 c .pre) (at-loop c .loop .inv) (at-loop-test-2 c .loop-test .taken)
+    (ap (λ (x : ℕ). ltb (start-2 c .args .s) x) (at-vertex-len c .vertex-len .ensures))
+    (at-split-edges c .split-edges .ensures) (at-split-edges c .split-edges .kept .0)
+    (at-split-edges c .split-edges .kept .1 .1 .1 .1 .1 .1 .1 .1 .1 .1 .0))
 
 loop-holds : tie.Need-loop-holds Inv-loop μ-loop
 loop-holds c =
@@ -123,10 +114,7 @@ loop-holds c =
     adding-start (start .pre) (at-fill .fill .kept .0) (at-fill .fill .ensures)
 
 shared-slice-read-v : tie.Need-shared-slice-read-v Inv-loop μ-loop
-shared-slice-read-v c = omega (arith, start .pre .prevs .room)
-  where
-    start : tie.Start Inv-loop μ-loop
-    start = let c : tie.After-slice-known Inv-loop μ-loop = search in search
+shared-slice-read-v c = omega (arith, start c .pre .prevs .room)
 
 same-length-2 : tie.Need-same-length-2 Inv-loop μ-loop
 same-length-2 c =

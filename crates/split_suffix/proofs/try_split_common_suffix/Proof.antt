@@ -59,51 +59,40 @@ returns c =
     start : tie.Start
     start = let c = at-collect in search
 
+module _ (c : tie.After-slice-known6) where
+  abbrev at-suffix : tie.After-suffix
+  at-suffix = search
+
+  abbrev at-safe-to-split : tie.After-safe-to-split
+  at-safe-to-split = let c = at-suffix in search
+
+  abbrev at-collect : tie.After-collect
+  at-collect = let c = at-safe-to-split in search
+
+  abbrev start : tie.Start
+  start = let c = at-collect in search
+
 slice-read-suffix-start : tie.Need-slice-read-suffix-start
 slice-read-suffix-start c =
     first-room
-    (start .pre .0)
-    (start .pre .1 .0)
-    (start .pre .1 .1 .0)
-    (at-collect .collect .ensures)
-    (at-collect .collect .kept .1 .1 .1 .1 .1 .1 .1 .0)
-    (at-safe-to-split .safe-to-split .ensures)
-    (at-suffix .suffix .given .1)
-  where
-    at-suffix : tie.After-suffix
-    at-suffix = search
-
-    at-safe-to-split : tie.After-safe-to-split
-    at-safe-to-split = let c = at-suffix in search
-
-    at-collect : tie.After-collect
-    at-collect = let c = at-safe-to-split in search
-
-    start : tie.Start
-    start = let c = at-collect in search
+    (start c .pre .0)
+    (start c .pre .1 .0)
+    (start c .pre .1 .1 .0)
+    (at-collect c .collect .ensures)
+    (at-collect c .collect .kept .1 .1 .1 .1 .1 .1 .1 .0)
+    (at-safe-to-split c .safe-to-split .ensures)
+    (at-suffix c .suffix .given .1)
 
 suffix-start-requires : tie.Need-suffix-start-requires
 suffix-start-requires c κs =
     split-ending
-    (start .pre .0)
-    (start .pre .1 .0)
-    (start .pre .1 .1 .0)
-    (at-collect .collect .ensures)
-    (at-collect .collect .kept .1 .1 .1 .1 .1 .1 .1 .0)
-    (at-safe-to-split .safe-to-split .ensures)
-    (at-suffix .suffix .given .1)
-  where
-    at-suffix : tie.After-suffix
-    at-suffix = search
-
-    at-safe-to-split : tie.After-safe-to-split
-    at-safe-to-split = let c = at-suffix in search
-
-    at-collect : tie.After-collect
-    at-collect = let c = at-safe-to-split in search
-
-    start : tie.Start
-    start = let c = at-collect in search
+    (start c .pre .0)
+    (start c .pre .1 .0)
+    (start c .pre .1 .1 .0)
+    (at-collect c .collect .ensures)
+    (at-collect c .collect .kept .1 .1 .1 .1 .1 .1 .1 .0)
+    (at-safe-to-split c .safe-to-split .ensures)
+    (at-suffix c .suffix .given .1)
 
 cast-add-edges : tie.Need-cast-add-edges
 cast-add-edges c =
@@ -193,54 +182,48 @@ remove-vertices-by-id-requires c κs = (
     start : tie.Start
     start = let c = at-collect in search
 
+module _ (c : tie.After-kmer-size) where
+  abbrev at-rvbi : tie.After-remove-vertices-by-id
+  at-rvbi = search
+
+  abbrev at-add-vertices : tie.After-add-vertices
+  at-add-vertices = let c = at-rvbi in search
+
+  abbrev at-add-edges : tie.After-add-edges
+  at-add-edges = let c = at-add-vertices in search
+
+  abbrev at-suffix-start : tie.After-suffix-start
+  at-suffix-start = let c = at-add-edges in search
+
+  abbrev at-suffix-2 : tie.After-suffix
+  at-suffix-2 = let c = at-suffix-start in search
+
+  abbrev at-safe-to-split-2 : tie.After-safe-to-split
+  at-safe-to-split-2 = let c = at-suffix-2 in search
+
+  abbrev at-collect-2 : tie.After-collect
+  at-collect-2 = let c = at-safe-to-split-2 in search
+
+  abbrev start-2 : tie.Start
+  start-2 = let c = at-collect-2 in search
+
 same-length-6 : tie.Need-same-length-6
-same-length-6 c = at-collect .collect .kept .1 .1 .1 .1 .1 .1 .1 .0
-  where
-    at-collect : tie.After-collect
-    at-collect =
-        let c : tie.After-remove-vertices-by-id = search in
-        let c : tie.After-map = search in
-        let c : tie.After-safe-to-split = search in
-        search
+same-length-6 c = at-collect-2 c .collect .kept .1 .1 .1 .1 .1 .1 .1 .0
 
 returns-2 : tie.Need-returns-2
 returns-2 c =
     left-done
-    (start .pre .0)
-    (start .pre .1 .0)
-    (start .pre .1 .1 .0)
-    (at-collect .collect .ensures)
-    (at-collect .collect .kept .1 .1 .1 .1 .1 .1 .1 .0)
-    (at-safe-to-split .safe-to-split .ensures)
-    (at-suffix .suffix .given .1)
-    (at-add-edges .add-edges .ensures)
-    (at-add-vertices .add-vertices .ensures)
-    (at-suffix-start .suffix-start .ensures)
-    (at-rvbi .remove-vertices-by-id .ensures)
-  where
-    at-rvbi : tie.After-remove-vertices-by-id
-    at-rvbi = search
-
-    at-add-vertices : tie.After-add-vertices
-    at-add-vertices = let c = at-rvbi in search
-
-    at-add-edges : tie.After-add-edges
-    at-add-edges = let c = at-add-vertices in search
-
-    at-suffix-start : tie.After-suffix-start
-    at-suffix-start = let c = at-add-edges in search
-
-    at-suffix : tie.After-suffix
-    at-suffix = let c = at-suffix-start in search
-
-    at-safe-to-split : tie.After-safe-to-split
-    at-safe-to-split = let c = at-suffix in search
-
-    at-collect : tie.After-collect
-    at-collect = let c = at-safe-to-split in search
-
-    start : tie.Start
-    start = let c = at-collect in search
+    (start-2 c .pre .0)
+    (start-2 c .pre .1 .0)
+    (start-2 c .pre .1 .1 .0)
+    (at-collect-2 c .collect .ensures)
+    (at-collect-2 c .collect .kept .1 .1 .1 .1 .1 .1 .1 .0)
+    (at-safe-to-split-2 c .safe-to-split .ensures)
+    (at-suffix-2 c .suffix .given .1)
+    (at-add-edges c .add-edges .ensures)
+    (at-add-vertices c .add-vertices .ensures)
+    (at-suffix-start c .suffix-start .ensures)
+    (at-rvbi c .remove-vertices-by-id .ensures)
 
 pub try-split-common-suffix-spec : {M : Type 1} → statement M
 try-split-common-suffix-spec =

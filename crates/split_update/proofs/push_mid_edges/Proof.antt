@@ -53,77 +53,58 @@ put-mid-edge-requires c κs =
     (at-if1 .if1 .taken)
     (start .pre .1)
 
+module _ (c : tie.After-slice-known2 Inv-loop μ-loop) where
+  abbrev at-put-mid-edge : tie.After-put-mid-edge Inv-loop μ-loop
+  at-put-mid-edge = search
+
+  abbrev at-end-flag : tie.After-end-flag Inv-loop μ-loop
+  at-end-flag = let c = at-put-mid-edge in search
+
+  abbrev at-end-support : tie.After-end-support Inv-loop μ-loop
+  at-end-support = let c = at-end-flag in search
+
+  abbrev at-if1 : tie.Then1 Inv-loop μ-loop
+  at-if1 = let c = at-end-support in search
+
+  abbrev at-vertex-len : tie.After-vertex-len Inv-loop μ-loop
+  at-vertex-len = let c = at-if1 in search
+
+  abbrev at-loop-test : tie.In-loop Inv-loop μ-loop
+  at-loop-test = let c = at-vertex-len in search
+
+  abbrev at-loop : tie.At-loop Inv-loop μ-loop
+  at-loop = let c = at-loop-test in search
+
+  abbrev start : tie.Start Inv-loop μ-loop
+  start = let c = at-loop in search
+
 add-at : tie.Need-add-at Inv-loop μ-loop
 add-at c =
     omega (
       arith,
-      pushing-room (at-loop .loop .inv .1) (at-loop-test .loop-test .taken) (at-vertex-len .vertex-len .ensures)
-          (at-if1 .if1 .taken) (start .pre .1),
+      pushing-room (at-loop c .loop .inv .1) (at-loop-test c .loop-test .taken) (at-vertex-len c .vertex-len .ensures)
+          (at-if1 c .if1 .taken) (start c .pre .1),
     )
-  where
-    at-if1 : tie.Then1 Inv-loop μ-loop
-    at-if1 = search
-
-    at-vertex-len : tie.After-vertex-len Inv-loop μ-loop
-    at-vertex-len = let c = at-if1 in search
-
-    at-loop-test : tie.In-loop Inv-loop μ-loop
-    at-loop-test = let c = at-vertex-len in search
-
-    at-loop : tie.At-loop Inv-loop μ-loop
-    at-loop = let c = at-loop-test in search
-
-    start : tie.Start Inv-loop μ-loop
-    start = let c = at-loop in search
 
 add-j : tie.Need-add-j Inv-loop μ-loop
 add-j c =
     omega (
       arith,
-      at-loop .loop .inv .1 .number,
-      start .pre .0 .1 .1 .0,
-      node-counts (start .args .vs .now) (start .args .nodes .now) (start .args .cut) (at-loop .loop .i),
+      at-loop c .loop .inv .1 .number,
+      start c .pre .0 .1 .1 .0,
+      node-counts (start c .args .vs .now) (start c .args .nodes .now) (start c .args .cut) (at-loop c .loop .i),
     )
-  where
-    at-loop : tie.At-loop Inv-loop μ-loop
-    at-loop = search
-
-    start : tie.Start Inv-loop μ-loop
-    start = let c = at-loop in search
 
 loop-again : tie.Need-loop-again Inv-loop μ-loop
 loop-again c = (
   omega arith,
-  pushing-more (at-loop .loop .inv .1) (start .pre .0 .0) (start .pre .0 .1 .0) (at-vertex-len .vertex-len .ensures)
-      (at-if1 .if1 .taken) (start .pre .0 .1 .1 .1 .entered (at-loop .loop .i) (at-loop-test .loop-test .taken))
-      (pushing-room (at-loop .loop .inv .1) (at-loop-test .loop-test .taken) (at-vertex-len .vertex-len .ensures)
-      (at-if1 .if1 .taken) (start .pre .1)) (at-end-support .end-support .ensures) (at-end-flag .end-flag .ensures)
-      (at-put-mid-edge .put-mid-edge .ensures),
+  pushing-more (at-loop c .loop .inv .1) (start c .pre .0 .0) (start c .pre .0 .1 .0)
+      (at-vertex-len c .vertex-len .ensures) (at-if1 c .if1 .taken)
+      (start c .pre .0 .1 .1 .1 .entered (at-loop c .loop .i) (at-loop-test c .loop-test .taken))
+      (pushing-room (at-loop c .loop .inv .1) (at-loop-test c .loop-test .taken) (at-vertex-len c .vertex-len .ensures)
+      (at-if1 c .if1 .taken) (start c .pre .1)) (at-end-support c .end-support .ensures) (at-end-flag c .end-flag .ensures)
+      (at-put-mid-edge c .put-mid-edge .ensures),
 )
-  where
-    at-put-mid-edge : tie.After-put-mid-edge Inv-loop μ-loop
-    at-put-mid-edge = search
-
-    at-end-flag : tie.After-end-flag Inv-loop μ-loop
-    at-end-flag = let c = at-put-mid-edge in search
-
-    at-end-support : tie.After-end-support Inv-loop μ-loop
-    at-end-support = let c = at-end-flag in search
-
-    at-if1 : tie.Then1 Inv-loop μ-loop
-    at-if1 = let c = at-end-support in search
-
-    at-vertex-len : tie.After-vertex-len Inv-loop μ-loop
-    at-vertex-len = let c = at-if1 in search
-
-    at-loop-test : tie.In-loop Inv-loop μ-loop
-    at-loop-test = let c = at-vertex-len in search
-
-    at-loop : tie.At-loop Inv-loop μ-loop
-    at-loop = let c = at-loop-test in search
-
-    start : tie.Start Inv-loop μ-loop
-    start = let c = at-loop in search
 
 returns : tie.Need-returns Inv-loop μ-loop
 returns c =

@@ -130,66 +130,59 @@ build-index-requires c κs =
     at-loop : tie.At-loop Inv-loop μ-loop
     at-loop = let c = at-first-split in search
 
+module _ (c : tie.After-struct-known Inv-loop μ-loop) where
+  abbrev at-if1 : tie.Else1 Inv-loop μ-loop
+  at-if1 = search
+
+  abbrev at-first-split : tie.After-first-split Inv-loop μ-loop
+  at-first-split = let c = at-if1 in search
+
+  abbrev at-loop : tie.At-loop Inv-loop μ-loop
+  at-loop = let c = at-first-split in search
+
+  abbrev start : tie.Start Inv-loop μ-loop
+  start = let c = at-loop in let c : tie.After-slice-known2 Inv-loop μ-loop = search in search
+
+  abbrev at-build-index : tie.After-build-index Inv-loop μ-loop
+  at-build-index = search
+
 add-t40 : tie.Need-add-t40 Inv-loop μ-loop
 add-t40 c =
     omega (
       arith,
-      doing-countable (at-loop .loop .inv .0) (at-first-split .first-split .ensures)
-          (not-false _ (at-if1 .if1 .left)) (start .pre .1 .0),
+      doing-countable (at-loop c .loop .inv .0) (at-first-split c .first-split .ensures)
+          (not-false _ (at-if1 c .if1 .left)) (start c .pre .1 .0),
     )
-  where
-    at-if1 : tie.Else1 Inv-loop μ-loop
-    at-if1 = search
-
-    at-first-split : tie.After-first-split Inv-loop μ-loop
-    at-first-split = let c = at-if1 in search
-
-    at-loop : tie.At-loop Inv-loop μ-loop
-    at-loop = let c = at-first-split in search
-
-    start : tie.Start Inv-loop μ-loop
-    start = let c = at-loop in let c : tie.After-slice-known2 Inv-loop μ-loop = search in search
 
 loop-less : tie.Need-loop-less Inv-loop μ-loop
 loop-less c =
     omega (
       arith,
-      doing-less (at-loop .loop .inv .0) (at-first-split .first-split .ensures) (not-false _ (at-if1 .if1 .left)),
-      at-build-index .build-index .kept,
+      doing-less (at-loop c .loop .inv .0) (at-first-split c .first-split .ensures) (not-false _ (at-if1 c .if1 .left)),
+      at-build-index c .build-index .kept,
     )
-  where
-    at-build-index : tie.After-build-index Inv-loop μ-loop
-    at-build-index = search
-
-    at-if1 : tie.Else1 Inv-loop μ-loop
-    at-if1 = let c = at-build-index in search
-
-    at-first-split : tie.After-first-split Inv-loop μ-loop
-    at-first-split = let c = at-if1 in search
-
-    at-loop : tie.At-loop Inv-loop μ-loop
-    at-loop = let c = at-first-split in search
 
 loop-again : tie.Need-loop-again Inv-loop μ-loop
 loop-again c = (
-  doing-more (at-loop .loop .inv .0) (at-first-split .first-split .ensures) (not-false _ (at-if1 .if1 .left))
-      (at-build-index .build-index .ensures) (at-first-split .first-split .kept .1 .0)
-      (at-first-split .first-split .kept .1 .1 .0) (at-build-index .build-index .kept .1 .1 .1 .0)
-      (at-build-index .build-index .kept .1 .1 .1 .1 .0) (at-first-split .first-split .kept .1 .1 .1 .1 .1 .1 .0)
-      (at-first-split .first-split .kept .1 .1 .1 .1 .1 .1 .1 .0),
+  doing-more (at-loop c .loop .inv .0) (at-first-split c .first-split .ensures) (not-false _ (at-if1 c .if1 .left))
+      (at-build-index c .build-index .ensures) (at-first-split c .first-split .kept .1 .0)
+      (at-first-split c .first-split .kept .1 .1 .0) (at-build-index c .build-index .kept .1 .1 .1 .0)
+      (at-build-index c .build-index .kept .1 .1 .1 .1 .0) (at-first-split c .first-split .kept .1 .1 .1 .1 .1 .1 .0)
+      (at-first-split c .first-split .kept .1 .1 .1 .1 .1 .1 .1 .0),
   (
-    ((at-first-split .first-split .kept .1 .0) ∙ at-loop .loop .inv .1 .0),
+    ((at-first-split c .first-split .kept .1 .0) ∙ at-loop c .loop .inv .1 .0),
     (
-      ((at-first-split .first-split .kept .1 .1 .0) ∙ at-loop .loop .inv .1 .1 .0),
+      ((at-first-split c .first-split .kept .1 .1 .0) ∙ at-loop c .loop .inv .1 .1 .0),
       (
-        ((at-build-index .build-index .kept .1 .1 .1 .0) ∙ at-loop .loop .inv .1 .1 .1 .0),
+        ((at-build-index c .build-index .kept .1 .1 .1 .0) ∙ at-loop c .loop .inv .1 .1 .1 .0),
         (
-          ((at-build-index .build-index .kept .1 .1 .1 .1 .0) ∙ at-loop .loop .inv .1 .1 .1 .1 .0),
+          ((at-build-index c .build-index .kept .1 .1 .1 .1 .0) ∙ at-loop c .loop .inv .1 .1 .1 .1 .0),
           (
-            ((at-first-split .first-split .kept .1 .1 .1 .1 .1 .1 .0) ∙ at-loop .loop .inv .1 .1 .1 .1 .1 .0),
+            ((at-first-split c .first-split .kept .1 .1 .1 .1 .1 .1 .0) ∙ at-loop c .loop .inv .1 .1 .1 .1 .1 .0),
             (
-              ((at-first-split .first-split .kept .1 .1 .1 .1 .1 .1 .1 .0) ∙ at-loop .loop .inv .1 .1 .1 .1 .1 .1 .0),
-              ((at-first-split .first-split .kept .1 .1 .1 .1 .1 .1 .1 .1 .0) ∙ at-loop .loop .inv .1 .1 .1 .1 .1 .1 .1),
+              ((at-first-split c .first-split .kept .1 .1 .1 .1 .1 .1 .1 .0) ∙ at-loop c .loop .inv .1 .1 .1 .1 .1 .1 .0),
+              ((at-first-split c .first-split .kept .1 .1 .1 .1 .1 .1 .1 .1 .0)
+                  ∙ at-loop c .loop .inv .1 .1 .1 .1 .1 .1 .1),
             ),
           ),
         ),
@@ -197,30 +190,16 @@ loop-again c = (
     ),
   ),
 )
-  where
-    at-build-index : tie.After-build-index Inv-loop μ-loop
-    at-build-index = search
 
-    at-if1 : tie.Else1 Inv-loop μ-loop
-    at-if1 = let c = at-build-index in search
-
-    at-first-split : tie.After-first-split Inv-loop μ-loop
-    at-first-split = let c = at-if1 in search
-
-    at-loop : tie.At-loop Inv-loop μ-loop
-    at-loop = let c = at-first-split in search
+module _ (c : tie.Then1 Inv-loop μ-loop) where
+  abbrev at-loop-2 : tie.At-loop Inv-loop μ-loop
+  at-loop-2 = let c : tie.After-first-split Inv-loop μ-loop = search in search
 
 same-length-3 : tie.Need-same-length-3 Inv-loop μ-loop
-same-length-3 c = at-loop .loop .inv .1 .1 .1 .0
-  where
-    at-loop : tie.At-loop Inv-loop μ-loop
-    at-loop = let c : tie.After-first-split Inv-loop μ-loop = search in search
+same-length-3 c = at-loop-2 c .loop .inv .1 .1 .1 .0
 
 same-length-4 : tie.Need-same-length-4 Inv-loop μ-loop
-same-length-4 c = at-loop .loop .inv .1 .1 .1 .1 .0
-  where
-    at-loop : tie.At-loop Inv-loop μ-loop
-    at-loop = let c : tie.After-first-split Inv-loop μ-loop = search in search
+same-length-4 c = at-loop-2 c .loop .inv .1 .1 .1 .1 .0
 
 pub split-until-complete-spec : {M : Type 1} → statement M
 split-until-complete-spec =

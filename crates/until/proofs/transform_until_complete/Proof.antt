@@ -48,11 +48,12 @@ same-length-3 c =
     let at-loop : tie.At-loop Inv-loop μ-loop = search in
     at-first-at .first-at .kept .1 .1 .1 .1 .1 .0 ∙ at-loop .loop .inv .1 .1 .1 .0
 
+module _ (c : tie.Then1 Inv-loop μ-loop) where
+  abbrev at-loop : tie.At-loop Inv-loop μ-loop
+  at-loop = let c : tie.After-first-at Inv-loop μ-loop = search in search
+
 same-length-5 : tie.Need-same-length-5 Inv-loop μ-loop
-same-length-5 c = at-loop .loop .inv .1 .1 .1 .1 .1 .0
-  where
-    at-loop : tie.At-loop Inv-loop μ-loop
-    at-loop = let c : tie.After-first-at Inv-loop μ-loop = search in search
+same-length-5 c = at-loop c .loop .inv .1 .1 .1 .1 .1 .0
 
 same-length-6 : tie.Need-same-length-6 Inv-loop μ-loop
 same-length-6 c =
@@ -99,64 +100,58 @@ build-index-requires c κs =
     start : tie.Start Inv-loop μ-loop
     start = let c = at-loop in search
 
+module _ (c : tie.After-struct-known Inv-loop μ-loop) where
+  abbrev at-build-index : tie.After-build-index Inv-loop μ-loop
+  at-build-index = search
+
+  abbrev at-if1 : tie.Else1 Inv-loop μ-loop
+  at-if1 = let c = at-build-index in search
+
+  abbrev at-first-at : tie.After-first-at Inv-loop μ-loop
+  at-first-at = let c = at-if1 in search
+
+  abbrev at-loop-2 : tie.At-loop Inv-loop μ-loop
+  at-loop-2 = let c = at-first-at in search
+
+  abbrev start : tie.Start Inv-loop μ-loop
+  start = let c = at-loop-2 in search
+
 add-t37 : tie.Need-add-t37 Inv-loop μ-loop
 add-t37 c =
     omega (
       arith,
-      doing-countable (at-loop .loop .inv .0) (at-first-at .first-at .ensures (kindOf (start .args .kind)) (kind-number _ (start .pre .0)))
-          (not-false _ (at-if1 .if1 .left))
-          (start .pre .1 .1),
+      doing-countable (at-loop-2 c .loop .inv .0)
+          (at-first-at c .first-at .ensures (kindOf (start c .args .kind)) (kind-number _ (start c .pre .0)))
+          (not-false _ (at-if1 c .if1 .left)) (start c .pre .1 .1),
     )
-  where
-    at-if1 : tie.Else1 Inv-loop μ-loop
-    at-if1 = search
-
-    at-first-at : tie.After-first-at Inv-loop μ-loop
-    at-first-at = let c = at-if1 in search
-
-    at-loop : tie.At-loop Inv-loop μ-loop
-    at-loop = let c = at-first-at in search
-
-    start : tie.Start Inv-loop μ-loop
-    start = let c = at-loop in search
 
 loop-less : tie.Need-loop-less Inv-loop μ-loop
-loop-less c = doing-less (at-loop .loop .inv .0) (at-first-at .first-at .ensures (kindOf (start .args .kind))
-    (kind-number _ (start .pre .0))) (not-false _ (at-if1 .if1 .left))
-  where
-    at-if1 : tie.Else1 Inv-loop μ-loop
-    at-if1 = search
-
-    at-first-at : tie.After-first-at Inv-loop μ-loop
-    at-first-at = let c = at-if1 in search
-
-    at-loop : tie.At-loop Inv-loop μ-loop
-    at-loop = let c = at-first-at in search
-
-    start : tie.Start Inv-loop μ-loop
-    start = let c = at-loop in search
+loop-less c = doing-less (at-loop-2 c .loop .inv .0) (at-first-at c .first-at .ensures (kindOf (start c .args .kind))
+    (kind-number _ (start c .pre .0))) (not-false _ (at-if1 c .if1 .left))
 
 loop-again : tie.Need-loop-again Inv-loop μ-loop
 loop-again c = (
-  doing-more (at-loop .loop .inv .0) (at-first-at .first-at .ensures (kindOf (start .args .kind)) (kind-number _ (start .pre .0)))
-      (not-false _ (at-if1 .if1 .left))
-      (at-build-index .build-index .ensures) (at-first-at .first-at .kept .1 .1 .1 .0)
-      (at-first-at .first-at .kept .1 .1 .1 .1 .0) (at-first-at .first-at .kept .1 .1 .1 .1 .1 .0)
-      (at-build-index .build-index .kept .1 .1 .1 .0) (at-build-index .build-index .kept .1 .1 .1 .1 .0)
-      (at-first-at .first-at .kept .1 .1 .1 .1 .1 .1 .1 .1 .0) (at-first-at .first-at .kept .1 .1 .1 .1 .1 .1 .1 .1 .1 .0),
+  doing-more (at-loop-2 c .loop .inv .0)
+      (at-first-at c .first-at .ensures (kindOf (start c .args .kind)) (kind-number _ (start c .pre .0)))
+      (not-false _ (at-if1 c .if1 .left)) (at-build-index c .build-index .ensures)
+      (at-first-at c .first-at .kept .1 .1 .1 .0) (at-first-at c .first-at .kept .1 .1 .1 .1 .0)
+      (at-first-at c .first-at .kept .1 .1 .1 .1 .1 .0) (at-build-index c .build-index .kept .1 .1 .1 .0)
+      (at-build-index c .build-index .kept .1 .1 .1 .1 .0) (at-first-at c .first-at .kept .1 .1 .1 .1 .1 .1 .1 .1 .0)
+      (at-first-at c .first-at .kept .1 .1 .1 .1 .1 .1 .1 .1 .1 .0),
   (
-    ((at-first-at .first-at .kept .1 .1 .1 .0) ∙ at-loop .loop .inv .1 .0),
+    ((at-first-at c .first-at .kept .1 .1 .1 .0) ∙ at-loop-2 c .loop .inv .1 .0),
     (
-      ((at-first-at .first-at .kept .1 .1 .1 .1 .0) ∙ at-loop .loop .inv .1 .1 .0),
+      ((at-first-at c .first-at .kept .1 .1 .1 .1 .0) ∙ at-loop-2 c .loop .inv .1 .1 .0),
       (
-        ((at-first-at .first-at .kept .1 .1 .1 .1 .1 .0) ∙ at-loop .loop .inv .1 .1 .1 .0),
+        ((at-first-at c .first-at .kept .1 .1 .1 .1 .1 .0) ∙ at-loop-2 c .loop .inv .1 .1 .1 .0),
         (
-          ((at-build-index .build-index .kept .1 .1 .1 .0) ∙ at-loop .loop .inv .1 .1 .1 .1 .0),
+          ((at-build-index c .build-index .kept .1 .1 .1 .0) ∙ at-loop-2 c .loop .inv .1 .1 .1 .1 .0),
           (
-            ((at-build-index .build-index .kept .1 .1 .1 .1 .0) ∙ at-loop .loop .inv .1 .1 .1 .1 .1 .0),
+            ((at-build-index c .build-index .kept .1 .1 .1 .1 .0) ∙ at-loop-2 c .loop .inv .1 .1 .1 .1 .1 .0),
             (
-              ((at-first-at .first-at .kept .1 .1 .1 .1 .1 .1 .1 .1 .0) ∙ at-loop .loop .inv .1 .1 .1 .1 .1 .1 .0),
-              ((at-first-at .first-at .kept .1 .1 .1 .1 .1 .1 .1 .1 .1 .0) ∙ at-loop .loop .inv .1 .1 .1 .1 .1 .1 .1),
+              ((at-first-at c .first-at .kept .1 .1 .1 .1 .1 .1 .1 .1 .0) ∙ at-loop-2 c .loop .inv .1 .1 .1 .1 .1 .1 .0),
+              ((at-first-at c .first-at .kept .1 .1 .1 .1 .1 .1 .1 .1 .1 .0)
+                  ∙ at-loop-2 c .loop .inv .1 .1 .1 .1 .1 .1 .1),
             ),
           ),
         ),
@@ -164,21 +159,6 @@ loop-again c = (
     ),
   ),
 )
-  where
-    at-build-index : tie.After-build-index Inv-loop μ-loop
-    at-build-index = search
-
-    at-if1 : tie.Else1 Inv-loop μ-loop
-    at-if1 = let c = at-build-index in search
-
-    at-first-at : tie.After-first-at Inv-loop μ-loop
-    at-first-at = let c = at-if1 in search
-
-    at-loop : tie.At-loop Inv-loop μ-loop
-    at-loop = let c = at-first-at in search
-
-    start : tie.Start Inv-loop μ-loop
-    start = let c = at-loop in search
 
 loop-holds : tie.Need-loop-holds Inv-loop μ-loop
 loop-holds c =
@@ -186,10 +166,7 @@ loop-holds c =
     (doing-start (start .pre .1 .0), (refl, (refl, (refl, (refl, (refl, (refl, refl)))))))
 
 same-length-4 : tie.Need-same-length-4 Inv-loop μ-loop
-same-length-4 c = at-loop .loop .inv .1 .1 .1 .1 .0
-  where
-    at-loop : tie.At-loop Inv-loop μ-loop
-    at-loop = let c : tie.After-first-at Inv-loop μ-loop = search in search
+same-length-4 c = at-loop c .loop .inv .1 .1 .1 .1 .0
 
 first-at-requires : tie.Need-first-at-requires Inv-loop μ-loop
 first-at-requires c κs =
