@@ -13,7 +13,7 @@ use Rattle.defs.specs.Lists.{elemOf}
 use Rattle.defs.specs.SeqGraph.{Graph, nodeCount, compactVertices}
 use Rattle.defs.specs.Cleanup.{forward, backward, either, reached, removeVerticesNotConnectedToRef, removePathsNotConnectedToRef}
 use Rattle.store.specs.Store.{isSet, EndsBelow}
-use Rattle.compact.specs.Compact.{unmarked, Compactable}
+use Rattle.compact.specs.Compact.{unmarked}
 use Rattle.compact.proofs.CompactLaws.{restrict-same, order-in}
 use Rattle.refs.specs.Refs.{FirstSource}
 use Rattle.refs.specs.declared.OptionVertex.{OptionVertex}

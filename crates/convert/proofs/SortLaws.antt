@@ -7,7 +7,6 @@ use Prim.Native.Nat.{ℕ, zero, suc, _+_, _≤_, _<_}
 use native.Mathlib.Omega.{arith}
 use lib.Dec.{eqb}
 use lib.ListN.{length}
-use borrow.Author.Tests.{eq-eqb}
 use Rattle.defs.specs.Lists.{sameList}
 use Rattle.defs.specs.SeqGraph.{Edge, Graph, vertexSequence}
 use Rattle.defs.specs.Assembly.{bytesBefore, edgeBefore, insertEdge, sortEdges}

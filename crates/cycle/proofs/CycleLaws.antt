@@ -1,21 +1,20 @@
 -- The definition's cycle: there is one exactly when there is a closed walk, and none exactly when a rank rises along each edge.
 -- Assumes nothing.
-use Prim.Native.Nat.{ℕ, zero, suc, _≤_, _<_}
+use Prim.Native.Nat.{ℕ, zero, suc, _<_}
 use native.Mathlib.Omega.{arith}
-use mathlib.Core.Path.{_≡_, refl, sym}
+use mathlib.Core.Path.{_≡_, refl}
 use mathlib.Core.Logic.{_⊎_, ⊎-elim}
-use mathlib.Core.Bool.{Bool, true, false, _||_}
-use mathlib.Core.List.{List, [], _∷_, List·Memᴰ, List·Memᴰ·head, List·Memᴰ·tail, List·Memᴰ·not-nil, List·Memᴰ·cases-cons, Memᴰ·map, Memᴰ·of-map}
+use mathlib.Core.Bool.{true, false}
+use mathlib.Core.List.{List, [], _∷_, List·Memᴰ, List·Memᴰ·tail, List·Memᴰ·not-nil, List·Memᴰ·cases-cons}
 use lib.ListN.{length}
-use borrow.Author.Tests.{eqb-true, eq-eqb}
-use Rattle.defs.specs.Lists.{keepIf, anyOf, elemOf, upFrom}
-use Rattle.defs.specs.SeqGraph.{Edge, Graph, nodeCount, edgesFrom, outgoingNodes}
-use Rattle.defs.specs.Cleanup.{forward, grow, reached}
+use Rattle.defs.specs.Lists.{anyOf, elemOf, upFrom}
+use Rattle.defs.specs.SeqGraph.{Graph, nodeCount, outgoingNodes}
+use Rattle.defs.specs.Cleanup.{forward, reached}
 use Rattle.defs.specs.Refusals.{hasCycle}
 use Rattle.defs.specs.Strings.{HasEdge}
 use Rattle.laws.proofs.Walks.{byTest}
-use Rattle.laws.proofs.ListLaws.{clash, and-split, and-true, mem-keepIf}
-use Rattle.laws.proofs.Edges.{elemOf-true, elemOf-mem, of-edgesFrom, in-edgesFrom}
+use Rattle.laws.proofs.ListLaws.{clash}
+use Rattle.laws.proofs.Edges.{elemOf-true, elemOf-mem}
 use Rattle.laws.proofs.Counts.{Distinct}
 use Rattle.laws.proofs.Nets.{Ranks, Bounded}
 use Rattle.laws.proofs.Cycles.{Walk, one, more, Closed, anyOf-true, anyOf-mem, mem-upFrom, distinct-length, ranked-open, rounds, ranked-or-closed}

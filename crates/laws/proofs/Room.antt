@@ -1,8 +1,8 @@
 -- The room of document 01's limits: every graph of simplification and of cleanup has at most 10,240 vertices and 16,384 edges.
 -- Assumes nothing.
-use Prim.Native.Nat.{ℕ, zero, suc, _≤_, _<_}
+use Prim.Native.Nat.{ℕ, suc, _≤_, _<_}
 use native.Mathlib.Omega.{arith}
-use mathlib.Core.Path.{_≡_, refl, ap, _∙_}
+use mathlib.Core.Path.{_≡_, ap, _∙_}
 use mathlib.Core.Bool.{Bool, true}
 use mathlib.Core.Option.{Option, none, some}
 use mathlib.Core.List.{List, [], _∷_, List·Memᴰ·not-nil, List·Memᴰ·eq-of-singleton}
@@ -19,7 +19,7 @@ use Rattle.laws.proofs.ListLaws.{keepAt-yes, keepAt-no}
 use Rattle.laws.proofs.Counts.{total, heft, bit-le}
 use Rattle.laws.proofs.Fuel.{Good}
 use Rattle.laws.proofs.Whole.{byList}
-use Rattle.laws.proofs.Branching.{sumTo, sum-le, sinks, ends, branching, branching-is, branching-restrict, surplus-branching, sum-ones}
+use Rattle.laws.proofs.Branching.{sum-le, sinks, ends, branching, branching-is, branching-restrict, surplus-branching, sum-ones}
 use Rattle.laws.proofs.Measures.{weight, load, bytes-is, weight-is, Tame}
 use Rattle.laws.proofs.Bound.{begun, zip-paid, simplify-tame, simplify-fits, Small, Fits, small-fits}
 use Rattle.laws.proofs.Cleaned.{restrict-good, orphans-keep, connected-keeps, sink-nil, sink-one, sink-more}

@@ -3,13 +3,12 @@ use mathlib.Core.Path.{_≡_, refl, sym, ap, _∙_, subst}
 use mathlib.Core.Bool.{Bool, true, false, _&&_, _||_, false≢true, true≢false}
 use mathlib.Core.Option.{Option, none, some}
 use mathlib.Core.List.{List, [], _∷_, map}
-use Prim.Native.Nat.{ℕ, zero, suc, _+_, _*_, _-_, _≤_, _<_}
+use Prim.Native.Nat.{ℕ, _+_, _*_, _-_, _≤_, _<_}
 use native.Mathlib.Omega.{arith}
-use native.Mathlib.Nat.{add-zero}
 use lib.ListN.{length, getD}
 use lib.Dec.{eqb, ltb, leb}
 use borrow.Author.Tests.{le-ltb, ltb-true, eqb-true, le-leb, lt-leb}
-use Rattle.defs.specs.Lists.{tab, tabFrom, given, headOr, allOf}
+use Rattle.defs.specs.Lists.{headOr, allOf}
 use Rattle.defs.specs.SeqGraph.{Graph, Change, outgoingNodes, outDegree, inDegree, applyChange}
 use Rattle.defs.specs.Rewrites.{nonEmpty, isDiamond, bottomOf, sharedPrefix, sharedSuffix, mergesDiamond, diamondChange, tryMergeDiamond}
 use Rattle.defs.specs.Rewrites.{isTails, mergesTails, tailsChange, tryMergeTails, splitAndUpdate}

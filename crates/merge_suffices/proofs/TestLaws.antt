@@ -1,19 +1,19 @@
 -- The tests over the index and the pool are the definition's. Assumes nothing.
 use mathlib.Core.Path.{_≡_, refl, sym, ap, _∙_}
 use mathlib.Core.Bool.{Bool, true, false, _&&_}
-use mathlib.Core.List.{List, [], _∷_, List·Memᴰ, List·Memᴰ·head, List·Memᴰ·tail}
+use mathlib.Core.List.{List}
 use Prim.Native.Nat.{ℕ, zero, suc, _+_, _*_, _-_, _≤_, _<_}
 use native.Mathlib.Omega.{arith}
 use lib.ListN.{length, getD, drop}
 use lib.Seq.{getD-take, getD-drop}
 use lib.Dec.{eqb, ltb}
-use borrow.Author.Tests.{eq-eqb, lt-ltb}
-use Rattle.defs.specs.Lists.{tab, tabFrom, allOf, headOr, sameList}
+use borrow.Author.Tests.{lt-ltb}
+use Rattle.defs.specs.Lists.{allOf, sameList}
 use Rattle.defs.specs.SeqGraph.{Graph, vertexSequence, outDegree, inDegree}
 use Rattle.defs.specs.Rewrites.{isMerge}
 use Rattle.laws.proofs.Walks.{byTest}
 use Rattle.laws.proofs.ListLaws.{sameList-eq, sameList-refl, allOf-same}
-use Rattle.tabs.proofs.Tabs.{length-tab, getD-tab, and-then, and-else}
+use Rattle.tabs.proofs.Tabs.{length-tab, and-then, and-else}
 use Rattle.tabs.proofs.ListTabs.{of-mem-tab, head-tab}
 use Rattle.store.specs.Store.{part, seqIn, graphIn, numsIn}
 use Rattle.store.proofs.VertexLaws.{part-long, seq-at}

@@ -10,7 +10,7 @@ use lib.Seq.{take-add, drop-drop, getD-set-same, getD-set-other}
 use borrow.Author.Tests.{eq-eqb, ne-eqb}
 use Rattle.defs.specs.Lists.{bit, elemOf}
 use Rattle.store.specs.Store.{part, seqIn}
-use Rattle.compact.specs.Compact.{Marked, Compactable}
+use Rattle.compact.specs.Compact.{Marked}
 use Rattle.pool.specs.Pool.{Apart, Moved}
 use Rattle.pool.proofs.PoolLaws.{part-same}
 use Rattle.merge_suffices.specs.Merge.{Writable, Written}

@@ -1,21 +1,17 @@
 -- The steps of a walk over the edges in slices. Assumes nothing.
 use mathlib.Core.Path.{_≡_, refl, sym, ap, _∙_}
 use mathlib.Core.Logic.{_⊎_, ⊎-elim}
-use mathlib.Core.Bool.{Bool, true, false, not, _||_}
-use mathlib.Core.List.{List, [], _∷_, List·Memᴰ·head}
+use mathlib.Core.Bool.{Bool, true, false}
+use mathlib.Core.List.{List}
 use Prim.Native.Nat.{ℕ, zero, suc, _+_, _*_, _-_, _≤_, _<_}
-use native.Mathlib.Nat.{add-zero}
 use native.Mathlib.Omega.{arith}
 use lib.Dec.{eqb}
 use lib.ListN.{getD}
 use borrow.Author.Tests.{eqb-true, eq-eqb}
-use Rattle.defs.specs.Lists.{keepIf, anyOf, elemOf, upFrom}
-use Rattle.defs.specs.SeqGraph.{Edge, Graph, nodeCount}
-use Rattle.defs.specs.Cleanup.{forward, backward, either, grow, reached}
-use Rattle.laws.proofs.ListLaws.{and-split, and-true, mem-keepIf, or-cases, not-not, or-left, or-right}
-use Rattle.laws.proofs.Edges.{elemOf-true, elemOf-mem}
-use Rattle.laws.proofs.Cycles.{anyOf-mem, mem-upFrom}
-use Rattle.laws.proofs.Reach.{Hop, Way}
+use Rattle.defs.specs.SeqGraph.{Edge}
+use Rattle.defs.specs.Cleanup.{forward, backward, either}
+use Rattle.laws.proofs.ListLaws.{and-split, and-true, or-cases, not-not, or-left, or-right}
+use Rattle.laws.proofs.Reach.{Hop}
 use Rattle.tabs.proofs.ListTabs.{mem-tab, of-mem-tab}
 use Rattle.store.specs.Store.{edgeIn}
 use Rattle.index.specs.Index.{endOf, endAt}

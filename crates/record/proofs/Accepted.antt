@@ -2,8 +2,8 @@
 -- Assumes nothing.
 use Prim.Native.Nat.{ℕ, zero, suc, _≤_}
 use mathlib.Core.Path.{_≡_, refl, sym, ap, _∙_}
-use mathlib.Core.Bool.{Bool, true, false, not, _&&_}
-use mathlib.Core.List.{List, [], _∷_}
+use mathlib.Core.Bool.{true, false, not, _&&_}
+use mathlib.Core.List.{List}
 use native.Mathlib.Omega.{arith}
 use lib.Dec.{eqb, ltb, leb}
 use lib.ListN.{length, take}
@@ -11,13 +11,13 @@ use borrow.Author.Tests.{ltb-false, leb-true, leb-false, eqb-true, eq-eqb, not-f
 use Rattle.defs.specs.Lists.{sameList}
 use Rattle.defs.specs.Record.{mark, kindOf, statusOf, kOf, verticesOf, edgesOf, bytesOf, u32At, edgeAt, flagAt}
 use Rattle.defs.specs.Refusals.{Takes, kmerOnly, sequenceOnly, bothKinds, refusalOf, recordCauses, takesKind, otherLength, wrongMark, pastLimit, badEdge}
-use Rattle.laws.proofs.ListLaws.{clash, or-false, sameList-eq}
+use Rattle.laws.proofs.ListLaws.{or-false, sameList-eq}
 use Rattle.kmer.specs.declared.KmerSize.{KmerSize}
 use Rattle.record.specs.Layout.{otherKmerLength, GoodEdge, WellFormed, layoutOf}
 use Rattle.record.specs.declared.Layout.{Layout}
 use Rattle.record.specs.declared.Layout.the-variants.{Formed, Refused}
 use Rattle.record.proofs.TurnLaws.{any-false}
-use Rattle.record.proofs.Tests.{same-cons, no-cause, any-bad-is, offsets-agree, lengths-offset, edges-offset, bytes-offset}
+use Rattle.record.proofs.Tests.{no-cause, any-bad-is, offsets-agree, lengths-offset, edges-offset, bytes-offset}
 use Rattle.record.proofs.Tests.{whole-is, sum-is, kmers-are}
 
 kind-most : (t : Takes) (n : ℕ) → takesKind t n ≡ true → n ≤ 1

@@ -4,7 +4,6 @@ use mathlib.Core.Bool.{Bool, true, false}
 use mathlib.Core.Option.{Option, none, some}
 use mathlib.Core.List.{List, _++_, map, List·Memᴰ}
 use Prim.Native.Nat.{ℕ, _+_, _*_, _-_, _≤_, _<_}
-use native.Mathlib.Nat.{add-zero}
 use native.Mathlib.Omega.{arith}
 use lib.ListN.{length, getD}
 use borrow.Author.Tests.{eqb-true}
@@ -21,7 +20,7 @@ use Rattle.laws.proofs.SplitsCounts as Q
 use Rattle.laws.proofs.Fuel.{Good}
 use Rattle.laws.proofs.Measures.{load, Tame, split-tame}
 use Rattle.tabs.proofs.Tabs.{length-tab}
-use Rattle.store.specs.Store.{part, edgeIn, edgesIn, seqsIn, graphIn, numsIn, Within}
+use Rattle.store.specs.Store.{part, edgeIn, edgesIn, seqsIn, graphIn, numsIn}
 use Rattle.compact.specs.Compact.{Compactable, Below, Removed}
 use Rattle.compact.specs.declared.Counts.{Counts}
 use Rattle.compact.proofs.CompactLaws.{order-in, mem-ends}

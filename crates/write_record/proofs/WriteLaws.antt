@@ -6,7 +6,7 @@ use native.Mathlib.Nat.{add-zero, zero-add}
 use native.Mathlib.Numerals.{add-one}
 use native.Mathlib.Omega.{arith}
 use lib.ListN.{length, getD, set, take, drop, length-append, length-drop}
-use lib.Seq.{sets, sets-eq, length-sets, take-suc, getD-drop, length-take-le}
+use lib.Seq.{sets, sets-eq, length-sets, take-suc, getD-drop}
 use borrow.Author.Tests.{eq-eqb, ne-eqb}
 use Rattle.defs.specs.Lists.{bit, concat, tab, tabFrom, sum}
 use Rattle.defs.specs.SeqGraph.{Edge, nodeCount}
