@@ -28,7 +28,7 @@ use Rattle.doubled.specs.Doubled.{Markable}
 use Rattle.cycle.specs.Peel.{Peelable, HasCycle}
 use Rattle.sound.proofs.Accepted.{refused-early, refused-6, refused-7, accepted, edges-read, read-bytes, read-good}
 use Rattle.sound.proofs.Measured.{read-light}
-use Rattle.accept.specs.Accept.{RoomFor, Roomy, readNumber, ReadAs}
+use Rattle.accept.specs.Accept.{RoomFor, RoomToRead, readNumber, ReadAs}
 use Rattle.accept.specs.declared.Read.{Read}
 use Rattle.accept.specs.declared.Read.the-variants.{Graph, Refused}
 
@@ -82,7 +82,7 @@ module _ (bs : List ℕ) {heads nexts : List ℕ} where
       (sym (refused-early sequenceOnly bs (sym (refused-number sequenceOnly bs e f)) (byOrder 1 n (λ b. b) (λ b. absurd (some (omega arith)))))) some
 
   module _ (layout : refusalOf (take 5 (recordCauses sequenceOnly bs)) ≡ 0) {es vs p nodes mp : List ℕ} (R :
-      Room es vs p heads nexts nodes mp) (Y : Roomy bs heads nexts) where
+      Room es vs p heads nexts nodes mp) (Y : RoomToRead bs heads nexts) where
     formed : WellFormed bs
     formed = well-formed sequenceOnly bs layout
 

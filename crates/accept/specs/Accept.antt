@@ -18,7 +18,7 @@ pub record RoomFor (bs heads nexts : List ℕ) : Type 0 where
   pub edges : edgesOf bs + bytesOf bs / 4 + vertexRoom heads ≤ edgeRoom nexts
 
 -- there is room if the record's layout is that of a sequence graph
-pub record Roomy (bs heads nexts : List ℕ) : Type 0 where
+pub record RoomToRead (bs heads nexts : List ℕ) : Type 0 where
   pub room : WellFormed bs → kindOf bs ≡ 1 → RoomFor bs heads nexts
 
 -- the number of the refusal; 0 where there is a graph

@@ -1,6 +1,6 @@
 // Reading a record of kind 1: the number of its refusal, 1 to 7, or the graph in the slices.
 ghost use Rattle.memory.specs.Memory.{Room};
-ghost use Rattle.accept.specs.Accept.{Roomy, ReadAs};
+ghost use Rattle.accept.specs.Accept.{RoomToRead, ReadAs};
 use memory::Held;
 use record::Layout;
 use record::Takes;
@@ -21,7 +21,7 @@ pub fn read_sequence_graph(
     nodes: &mut [u32],
     map: &mut [u32],
 ) -> Read
-    requires { ⌜ Room (now es) (now vs) (now p) (now heads) (now nexts) (now nodes) (now map) × Roomy (now rec) (now heads) (now nexts) ⌝ }
+    requires { ⌜ Room (now es) (now vs) (now p) (now heads) (now nexts) (now nodes) (now map) × RoomToRead (now rec) (now heads) (now nexts) ⌝ }
     ensures { λ r. ⌜ ReadAs (now (rec .entry)) (now (heads .entry)) (now (nexts .entry)) r (now (es .exit)) (now (vs .exit)) (now (p .exit)) ⌝ }
 {
     let k = match record::check_layout(rec, Takes::SequenceOnly) {

@@ -10,7 +10,7 @@ use Rattle.record.proofs.Sequences.{length-is}
 use Rattle.memory.specs.Memory.{Room, Holds, Scratch, Countable}
 use Rattle.memory.specs.declared.Held.{Held}
 use Rattle.memory.proofs.RoomLaws.{room-kept}
-use Rattle.accept.specs.Accept.{Roomy}
+use Rattle.accept.specs.Accept.{RoomToRead}
 use Rattle.calls.specs.Sending.{Sendable}
 use Rattle.calls.proofs.SendLaws.{held-sendable}
 use Rattle.arrays.specs.Sized.{LentGraph, LentMarks, Lent, SizedGraph, SizedMarks, Sized}
@@ -101,7 +101,7 @@ module _ {bs es vs p heads nexts nodes mp : List ℕ} where
 -- ---- what is lent is enough
 
 module _ {bs es vs p heads nexts nodes mp : List ℕ} (Z : LentGraph bs es vs p heads nexts nodes mp) where
-  pub lent-read : Room es vs p heads nexts nodes mp × Roomy bs heads nexts
+  pub lent-read : Room es vs p heads nexts nodes mp × RoomToRead bs heads nexts
   lent-read = (Z .room, Z .roomy)
 
   -- the record of what is held can be written where it fits

@@ -4,12 +4,12 @@ use mathlib.Core.List.{List}
 use Prim.Native.Nat.{ℕ, _+_, _*_, _≤_}
 use lib.ListN.{length}
 use Rattle.memory.specs.Memory.{vertexRoom, edgeRoom, Room, Scratch}
-use Rattle.accept.specs.Accept.{Roomy}
+use Rattle.accept.specs.Accept.{RoomToRead}
 
 -- Slices lent for the record bs: room to read it and for every rewrite of its graph; and no more vertices and edges than an answer may have.
 pub record LentGraph (bs es vs p heads nexts nodes mp : List ℕ) : Type 0 where
   pub room : Room es vs p heads nexts nodes mp
-  pub roomy : Roomy bs heads nexts
+  pub roomy : RoomToRead bs heads nexts
   pub vertices-most : vertexRoom heads ≤ 10240
   pub edges-most : edgeRoom nexts ≤ 16384
 

@@ -10,14 +10,14 @@ use Rattle.defs.specs.Calls.{Response, refused, accepted, numberOf, lengthOf, f
 use Rattle.defs.specs.Simplify.{Simplified, endNumber}
 use Rattle.defs.specs.Cleanup.{Cleaned, statusNumber}
 use Rattle.defs.specs.Refusals.{Cause}
-use Rattle.calls.specs.Answers.{tallyOf, Counts, Tallies, TalliesSimplify, TalliesCleanup}
+use Rattle.calls.specs.Answers.{tallyOf, CountsCall, Tallies, TalliesSimplify, TalliesCleanup}
 use Rattle.calls.specs.declared.Tally.{Tally}
 use Rattle.calls.specs.declared.Sent.{Sent}
 use Rattle.calls.proofs.ResponseLaws.{by-response}
 
 module _ {t r : Tally} where
   pub counts-refused : {number rewrites : ℕ} → (number ≡ 0 → ⊥) → r .answered ≡ t .answered → r .refused ≡ saturatingAdd (t .refused) 1
-      → r .rewrites ≡ t .rewrites → Counts number rewrites t r
+      → r .rewrites ≡ t .rewrites → CountsCall number rewrites t r
   unfolding tallied
   counts-refused o a b c = record {
     refuses = λ _ n w. λ i. record { answered = a i; refused = b i; rewrites = c i };
@@ -25,7 +25,7 @@ module _ {t r : Tally} where
   }
 
   pub counts-answered : {number rewrites : ℕ} → number ≡ 0 → r .answered ≡ saturatingAdd (t .answered) 1 → r .refused ≡ t .refused
-      → r .rewrites ≡ saturatingAdd (t .rewrites) rewrites → Counts number rewrites t r
+      → r .rewrites ≡ saturatingAdd (t .rewrites) rewrites → CountsCall number rewrites t r
   unfolding tallied
   counts-answered z a b c = record {
     refuses = λ o. absurd (o z);
@@ -43,7 +43,7 @@ module _ {x : Response} where
   field-accepted v e q = q ∙ sym (ap (λ (y : Response). fieldOf y v) e)
 
 -- the tally by the response
-module _ {number : ℕ} {t r : Tally} {rewrites : ℕ} (T : Counts number rewrites t r) {x : Response} (q : number ≡ numberOf x) where
+module _ {number : ℕ} {t r : Tally} {rewrites : ℕ} (T : CountsCall number rewrites t r) {x : Response} (q : number ≡ numberOf x) where
   tally-refused : {n : ℕ} (w : ℕ) → x ≡ refused n → (n ≡ 0 → ⊥) → tallyOf r ≡ tallied x w (tallyOf t)
   unfolding numberOf
   tally-refused {n} w e o = T .refuses (λ z. o (sym (q ∙ ap numberOf e) ∙ z)) n w ∙ ap (λ (y : Response). tallied y w (tallyOf t)) (sym e)
@@ -69,7 +69,7 @@ unfolding lengthOf
 length-refused e = sym (ap lengthOf e)
 
 module _ (s : Sent) {t r : Tally} where
-  pub tallies-is : Counts (s .number) 0 t r → Tallies s t record { number = s .number; length = s .length; tally = r }
+  pub tallies-is : CountsCall (s .number) 0 t r → Tallies s t record { number = s .number; length = s .length; tally = r }
   unfolding D.answer
   tallies-is T = record {
     is = λ causes room result q l. λ i. record {
@@ -79,7 +79,7 @@ module _ (s : Sent) {t r : Tally} where
     };
   }
 
-module _ (s : Sent) {t r : Tally} {rewrites : ℕ} (T : Counts (s .number) rewrites t r) where
+module _ (s : Sent) {t r : Tally} {rewrites : ℕ} (T : CountsCall (s .number) rewrites t r) where
   module _ (o : s .number ≡ 0 → ⊥) where
     pub simplify-refused-is : (rounds end : ℕ) → TalliesSimplify s rewrites rounds end t record {
       number = s .number;

@@ -6,15 +6,15 @@ use mathlib.Core.List.{List, [], _∷_, _++_, List·Memᴰ, List·Memᴰ·not-ni
 use Prim.Native.Nat.{ℕ, zero, suc, _<_}
 use native.Mathlib.Omega.{arith}
 use Rattle.defs.specs.Refusals.{Cause, refusalOf, Takes, recordCauses, recordRefusal}
-use Rattle.sound.proofs.Causes.{Numbered, refusal-later, refusal-earlier}
+use Rattle.sound.proofs.Causes.{CausesNumbered, refusal-later, refusal-earlier}
 
-numbered-more : (n : ℕ) (b : Bool) (cs : List Cause) → 0 < n → Numbered cs → Numbered (record { number = n; present = b } ∷ cs)
+numbered-more : (n : ℕ) (b : Bool) (cs : List Cause) → 0 < n → CausesNumbered cs → CausesNumbered (record { number = n; present = b } ∷ cs)
 numbered-more n b cs l N = record {
   at = λ c m. ⊎-elim (λ (e : c ≡ record { number = n; present = b }). rw e l) (λ (k : List·Memᴰ c cs).
       N .at c k) (List·Memᴰ·cases-cons m);
 }
 
-record-numbered : (t : Takes) (bs : List ℕ) → Numbered (recordCauses t bs)
+record-numbered : (t : Takes) (bs : List ℕ) → CausesNumbered (recordCauses t bs)
 unfolding recordCauses
 record-numbered t bs =
     numbered-more 1 _ _ (omega arith)

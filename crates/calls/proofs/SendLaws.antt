@@ -13,7 +13,7 @@ use Rattle.pool.specs.Pool.{bytesIn}
 use Rattle.accept.specs.declared.Read.{Read}
 use Rattle.accept.specs.declared.Read.the-variants as read
 use Rattle.accept.proofs.AcceptLaws.{number-graph, number-refused}
-use Rattle.write_record.specs.Written.{Measured, Writable, Written}
+use Rattle.write_record.specs.Written.{Measured, RecordWritable, RecordWritten}
 use Rattle.calls.specs.Sending.{Sendable, Sends, SendsGraph}
 use Rattle.calls.proofs.ResponseLaws.{fits-short, fits-enough, respond-refused, respond-fits}
 use Rattle.store.specs.Store.{Within}
@@ -65,14 +65,14 @@ module _ {status : ℕ} {h : Held} {es vs p : List ℕ} (S : Sendable status h e
   unfolding numberOf lengthOf writtenOf
   send-short l = as-fits (fits-short (length out) result (omega (arith, long))) refl refl refl
 
-  pub send-writable : size ≤ length out → Writable status h es vs p out
+  pub send-writable : size ≤ length out → RecordWritable status h es vs p out
   send-writable l = S .writable out (omega (arith, q))
 
-  pub send-written : size ≤ length out → {r : ℕ} {out′ : List ℕ} → Written status h es vs p out r out′ → Sends result out record { number = 0; length = r } out′
+  pub send-written : size ≤ length out → {r : ℕ} {out′ : List ℕ} → RecordWritten status h es vs p out r out′ → Sends result out record { number = 0; length = r } out′
   unfolding numberOf lengthOf writtenOf
   send-written l W = as-fits (fits-enough (length out) result (omega (arith, long))) refl (W .long) (W .is)
 
-  pub send-small : {r : ℕ} {out′ : List ℕ} → Written status h es vs p out r out′ → r < 4294967296
+  pub send-small : {r : ℕ} {out′ : List ℕ} → RecordWritten status h es vs p out r out′ → r < 4294967296
   send-small W = omega (arith, W .long, long, q, S .measured .small)
 
 -- a number where a cause is present, else the record where it fits

@@ -27,7 +27,7 @@ abbrev pub cleanupAnswerOf : CleanupAnswer → D.CleanupAnswer
 cleanupAnswerOf r = record { number = r .number; length = r .length; status = r .status; tally = tallyOf (r .tally) }
 
 -- the tally behind a call that was refused by a number, or answered
-pub record Counts (number rewrites : ℕ) (t r : Tally) : Type 0 where
+pub record CountsCall (number rewrites : ℕ) (t r : Tally) : Type 0 where
   pub refuses : (number ≡ 0 → ⊥) → (n w : ℕ) → tallyOf r ≡ tallied (refused n) w (tallyOf t)
   pub answers : number ≡ 0 → (bytes : List ℕ) → tallyOf r ≡ tallied (accepted bytes) rewrites (tallyOf t)
 

@@ -13,14 +13,14 @@ use Rattle.memory.specs.declared.Held.{Held}
 use Rattle.accept.specs.Accept.{readNumber}
 use Rattle.accept.specs.declared.Read.{Read}
 use Rattle.accept.specs.declared.Read.the-variants as read
-use Rattle.write_record.specs.Written.{Measured, Writable}
+use Rattle.write_record.specs.Written.{Measured, RecordWritable}
 use Rattle.calls.specs.declared.Sent.{Sent}
 
 -- a held graph whose record can be written wherever there is room
 pub record Sendable (status : ℕ) (h : Held) (es vs p : List ℕ) : Type 0 where
   pub measured : Measured h vs
   pub within : Within (length p) (h .n) vs
-  pub writable : (out : List ℕ) → 32 + 2 * h .n + 9 * h .m + bytesIn (h .n) vs ≤ length out → Writable status h es vs p out
+  pub writable : (out : List ℕ) → 32 + 2 * h .n + 9 * h .m + bytesIn (h .n) vs ≤ length out → RecordWritable status h es vs p out
 
 -- 11 where the output is shorter than the result, and all as it was; else the result is written
 pub record Sends (result out : List ℕ) (r : Sent) (out′ : List ℕ) : Type 0 where

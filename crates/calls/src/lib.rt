@@ -4,7 +4,7 @@ ghost use mathlib.Core.Path.{_≡_};
 ghost use lib.ListN.{length};
 ghost use Rattle.defs.specs.Record.{sequenceGraph, encode};
 ghost use Rattle.memory.specs.Memory.{graphOf};
-ghost use Rattle.calls.specs.Answers.{Counts, Tallies, TalliesSimplify, TalliesCleanup};
+ghost use Rattle.calls.specs.Answers.{CountsCall, Tallies, TalliesSimplify, TalliesCleanup};
 ghost use Rattle.calls.specs.Sending.{Sendable, Sends, GraphSendable, SendsGraph};
 use accept::Read;
 use memory::Held;
@@ -50,7 +50,7 @@ pub struct Sent {
 
 // One call more: refused by a number, or, with number 0, answered with so many rewrites.
 fn count_call(number: u32, rewrites: u32, t: Tally) -> Tally
-    ensures { λ r. ⌜ Counts number rewrites t r ⌝ }
+    ensures { λ r. ⌜ CountsCall number rewrites t r ⌝ }
 {
     if number != 0 {
         return Tally {

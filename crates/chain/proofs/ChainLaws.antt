@@ -18,35 +18,35 @@ use Rattle.laws.proofs.Walks.{byTest}
 use Rattle.tabs.proofs.Tabs.{tab-zero}
 use Rattle.tabs.proofs.ListTabs.{keepIf-append}
 use Rattle.store.specs.Store.{graphIn, numsIn}
-use Rattle.index.specs.Index.{endOf, edgesAt, atFrom, Index, pairAt, Indexed}
+use Rattle.index.specs.Index.{edgeEnd, incidentEdges, atFrom, Index, pairAt, Indexed}
 use Rattle.index.proofs.IndexLaws.{out-degree-is, in-degree-is, outgoing-is, incoming-is, nums-push, at-none, at-first, pair-first}
 use Rattle.refs.specs.Refs.{RefNode}
 use Rattle.chain.specs.Chain.{ChainStart, GoesOn, Traced, Starts}
 
 -- one edge at v: it is the head
 pub one-head : {m n : ℕ} {es heads nexts : List ℕ} (off : ℕ) → off ≤ 1 → Indexed m n es heads nexts → (v : ℕ) → v < n → true
-    ≡ eqb (length (edgesAt (endOf off es) m v)) 1 → pairAt off heads v < m
+    ≡ eqb (length (incidentEdges (edgeEnd off es) m v)) 1 → pairAt off heads v < m
 one-head {m} {n} {es} {heads} {nexts} off b I v h t = Rattle.laws.proofs.ListLaws.byOrder m (pairAt off heads v)
-    (λ c. absurd (omega (arith, eqb-true (length (edgesAt (endOf off es) m v)) 1 (sym t), ap length (at-none (I .index off b) h (pairAt off heads v) refl c))))
+    (λ c. absurd (omega (arith, eqb-true (length (incidentEdges (edgeEnd off es) m v)) 1 (sym t), ap length (at-none (I .index off b) h (pairAt off heads v) refl c))))
     (λ c. c)
 
 pub one-out : {m n : ℕ} {es heads nexts : List ℕ} → Indexed m n es heads nexts → (v : ℕ) → v < n → true
-    ≡ eqb (length (edgesAt (endOf 0 es) m v)) 1 → getD heads (2 * v) 0 < m
+    ≡ eqb (length (incidentEdges (edgeEnd 0 es) m v)) 1 → getD heads (2 * v) 0 < m
 one-out {m} {n} {es} {heads} I v h t = omega (arith, one-head 0 (omega arith) I v h t, pair-first heads v)
 
 module _ {m n : ℕ} {es heads nexts : List ℕ} (I : Indexed m n es heads nexts) (v : ℕ) (h : v < n) where
   start-of : (k : ℕ) (vs p : List ℕ) → isLinearChainStart (graphIn k n m es vs p) v
-      ≡ eqb (length (edgesAt (endOf 0 es) m v)) 1 && (not (eqb (length (edgesAt (endOf 1 es) m v)) 1)
-      || ltb 1 (length (edgesAt (endOf 0 es) m (headOr 0 (incomingNodes (graphIn k n m es vs p) v)))))
+      ≡ eqb (length (incidentEdges (edgeEnd 0 es) m v)) 1 && (not (eqb (length (incidentEdges (edgeEnd 1 es) m v)) 1)
+      || ltb 1 (length (incidentEdges (edgeEnd 0 es) m (headOr 0 (incomingNodes (graphIn k n m es vs p) v)))))
   unfolding isLinearChainStart
   start-of k vs p = λ i. eqb (out-degree-is k n m es vs p v i) 1
       && (not (eqb (in-degree-is k n m es vs p v i) 1) || ltb 1
       (out-degree-is k n m es vs p (headOr 0 (incomingNodes (graphIn k n m es vs p) v)) i))
 
-  pub start-no : false ≡ eqb (length (edgesAt (endOf 0 es) m v)) 1 → ChainStart m n es v false
+  pub start-no : false ≡ eqb (length (incidentEdges (edgeEnd 0 es) m v)) 1 → ChainStart m n es v false
   start-no t = record { is = λ k vs p. sym (start-of k vs p ∙ rw (← t)) }
 
-  pub start-yes : true ≡ eqb (length (edgesAt (endOf 0 es) m v)) 1 → false ≡ eqb (length (edgesAt (endOf 1 es) m v)) 1 → ChainStart m n es v true
+  pub start-yes : true ≡ eqb (length (incidentEdges (edgeEnd 0 es) m v)) 1 → false ≡ eqb (length (incidentEdges (edgeEnd 1 es) m v)) 1 → ChainStart m n es v true
   start-yes t s = record { is = λ k vs p. sym (start-of k vs p ∙ rw (← t, ← s)) }
 
   head-in : (k : ℕ) (vs p : List ℕ) (u : ℕ) → pairAt 1 heads v < m → u ≡ getD es (4 * pairAt 1 heads v) 0
@@ -55,14 +55,14 @@ module _ {m n : ℕ} {es heads nexts : List ℕ} (I : Indexed m n es heads nexts
   head-in k vs p u b q = ap (headOr 0) (incoming-is k n m es vs p v
       ∙ ap (map (λ (e : ℕ). getD es (4 * e) 0)) (at-first (I .index 1 (omega arith)) h (pairAt 1 heads v) refl b)) ∙ sym q
 
-  pub start-by : {r : Bool} (u : ℕ) → true ≡ eqb (length (edgesAt (endOf 0 es) m v)) 1 → true ≡ eqb (length (edgesAt (endOf 1 es) m v)) 1
+  pub start-by : {r : Bool} (u : ℕ) → true ≡ eqb (length (incidentEdges (edgeEnd 0 es) m v)) 1 → true ≡ eqb (length (incidentEdges (edgeEnd 1 es) m v)) 1
       → u ≡ getD es (4 * pairAt 1 heads v) 0
-      → r ≡ ltb 1 (length (edgesAt (endOf 0 es) m u)) → ChainStart m n es v r
+      → r ≡ ltb 1 (length (incidentEdges (edgeEnd 0 es) m u)) → ChainStart m n es v r
   start-by u t s q e = record { is = λ k vs p. e ∙ sym (start-of k vs p ∙ rw (← t, ← s, head-in k vs p u (one-head 1 (omega arith) I v h s) q)) }
 
 module _ (m n : ℕ) (es : List ℕ) (last next : ℕ) where
   goes-of : (k : ℕ) (vs p : List ℕ) → chainGoesOn (graphIn k n m es vs p) last next
-      ≡ eqb (length (edgesAt (endOf 0 es) m last)) 1 && (eqb (length (edgesAt (endOf 1 es) m next)) 1
+      ≡ eqb (length (incidentEdges (edgeEnd 0 es) m last)) 1 && (eqb (length (incidentEdges (edgeEnd 1 es) m next)) 1
       && (not (eqb last next) && Bool·beq (isReferenceNode (graphIn k n m es vs p) last)
       (isReferenceNode (graphIn k n m es vs p) next)))
   unfolding chainGoesOn
@@ -70,17 +70,17 @@ module _ (m n : ℕ) (es : List ℕ) (last next : ℕ) where
       && (eqb (in-degree-is k n m es vs p next i) 1 && (not (eqb last next)
       && Bool·beq (isReferenceNode (graphIn k n m es vs p) last) (isReferenceNode (graphIn k n m es vs p) next)))
 
-  pub goes-no₁ : false ≡ eqb (length (edgesAt (endOf 0 es) m last)) 1 → GoesOn m n es last next false
+  pub goes-no₁ : false ≡ eqb (length (incidentEdges (edgeEnd 0 es) m last)) 1 → GoesOn m n es last next false
   goes-no₁ t = record { is = λ k vs p. sym (goes-of k vs p ∙ rw (← t)) }
 
-  pub goes-no₂ : true ≡ eqb (length (edgesAt (endOf 0 es) m last)) 1 → false ≡ eqb (length (edgesAt (endOf 1 es) m next)) 1 → GoesOn m n es last next false
+  pub goes-no₂ : true ≡ eqb (length (incidentEdges (edgeEnd 0 es) m last)) 1 → false ≡ eqb (length (incidentEdges (edgeEnd 1 es) m next)) 1 → GoesOn m n es last next false
   goes-no₂ t s = record { is = λ k vs p. sym (goes-of k vs p ∙ rw (← t, ← s)) }
 
-  pub goes-no₃ : true ≡ eqb (length (edgesAt (endOf 0 es) m last)) 1 → true ≡ eqb (length (edgesAt (endOf 1 es) m next)) 1 → last ≡ next
+  pub goes-no₃ : true ≡ eqb (length (incidentEdges (edgeEnd 0 es) m last)) 1 → true ≡ eqb (length (incidentEdges (edgeEnd 1 es) m next)) 1 → last ≡ next
       → GoesOn m n es last next false
   goes-no₃ t s q = record { is = λ k vs p. sym (goes-of k vs p ∙ rw (← t, ← s, eq-eqb last next q)) }
 
-  pub goes-by : {a b r : Bool} → true ≡ eqb (length (edgesAt (endOf 0 es) m last)) 1 → true ≡ eqb (length (edgesAt (endOf 1 es) m next)) 1 → (last ≡ next → ⊥)
+  pub goes-by : {a b r : Bool} → true ≡ eqb (length (incidentEdges (edgeEnd 0 es) m last)) 1 → true ≡ eqb (length (incidentEdges (edgeEnd 1 es) m next)) 1 → (last ≡ next → ⊥)
       → RefNode m n es last a → RefNode m n es next b → r ≡ Bool·beq a b → GoesOn m n es last next r
   goes-by t s o A B q = record {
     is = λ k vs p. q ∙ (λ i. Bool·beq (A .is k vs p i) (B .is k vs p i))
@@ -137,7 +137,7 @@ module _ {m n : ℕ} {es heads nexts : List ℕ} (I : Indexed m n es heads nexts
         ≡ headOr 0 (outgoingNodes (graphIn k n m es vs p) last)
     unfolding headOr
     head-out k vs p next d q = q ∙ sym (ap (headOr 0) (outgoing-is k n m es vs p last
-        ∙ ap (map (endOf 1 es)) (at-first (I .index 0 (omega arith)) (T .last-below) (pairAt 0 heads last) refl d)))
+        ∙ ap (map (edgeEnd 1 es)) (at-first (I .index 0 (omega arith)) (T .last-below) (pairAt 0 heads last) refl d)))
 
     place : (e : ℕ) → e ≡ getD heads (2 * last) 0 → getD es (4 * e + 1) 0 ≡ getD es (4 * pairAt 0 heads last + 1) 0
     place e z = ap (λ (x : ℕ). getD es (4 * x + 1) 0) (z ∙ pair-first heads last)
@@ -152,7 +152,7 @@ module _ {m n : ℕ} {es heads nexts : List ℕ} (I : Indexed m n es heads nexts
           ∙ trace-stop (n - (c + 1)) (graphIn k n m es vs p) last (f k vs p)) ∙ append-nil _);
     }
 
-    pub tracing-none : false ≡ eqb (length (edgesAt (endOf 0 es) m last)) 1 → Traced m n es start c out
+    pub tracing-none : false ≡ eqb (length (incidentEdges (edgeEnd 0 es) m last)) 1 → Traced m n es start c out
     tracing-none t = ended (λ k vs p. sym (goes-no₁ m n es last (headOr 0 (outgoingNodes (graphIn k n m es vs p) last)) t .is k vs p))
 
     pub tracing-stop : {next e : ℕ} {r : Bool} → e < m → e ≡ getD heads (2 * last) 0 → next ≡ getD es (4 * e + 1) 0

@@ -16,13 +16,13 @@ use Rattle.memory.specs.Memory.{graphOf, workOf, vertexRoom, Room, Holds, Simpl
 use Rattle.memory.specs.declared.Held.{Held}
 use Rattle.memory.specs.declared.Work.{Work}
 use Rattle.memory.proofs.RoomLaws.{held-vertices, held-edges, held-ends, room-kept, holds-kept}
-use Rattle.zips.specs.Zips as Y
-use Rattle.zips.specs.Zips.{ZippedAll}
+use Rattle.zip_linear_chains.specs.Zips as Y
+use Rattle.zip_linear_chains.specs.Zips.{ZippedAll}
 use Rattle.rounds.specs.Rounds.{Full}
 use Rattle.rounds.specs.declared.Simplified.{Simplified}
 use Rattle.reach.specs.Reach.{Walkable}
 use Rattle.orphans.specs.Orphans.{Reduced}
-use Rattle.choice.specs.Choice.{fresh, Zippable, Lean, HoldsLean, Cleanable, Before}
+use Rattle.choice.specs.Choice.{fresh, Zippable, Lean, HoldsLean, Cleanable, BeforeChoice}
 use Rattle.choice.proofs.LeanLaws.{lean-fit, lean-tame, lean-as, lean-kept, lean-connected, lean-simplified, lean-rewrites}
 
 -- ---- held graphs
@@ -75,7 +75,7 @@ module _ {h : Held} {es vs p heads nexts nodes mp starts : List ℕ} (Q : Zippab
   zippable-indexable = held-indexable (Q .room) (Q .holds)
 
   pub zippable-ready : {heads₁ nexts₁ : List ℕ} → Indexed (h .m) (h .n) es heads₁ nexts₁ → length heads₁ ≡ length heads → length nexts₁
-      ≡ length nexts → Y.Ready (fresh h) es vs p heads₁ nexts₁ nodes mp
+      ≡ length nexts → Y.ReadyToZip (fresh h) es vs p heads₁ nexts₁ nodes mp
   zippable-ready I d e = record {
     room = room-kept (Q .room) refl refl refl d e refl refl;
     holds = holds-kept (Q .holds) d e;
@@ -216,7 +216,7 @@ module _ {h : Held} {es vs p heads nexts : List ℕ} (H : HoldsLean h es vs p he
     }
 
     pub before-all : {w : Work} → w ≡ record { held = s .held; rewrites = z .rewrites + s .rewrites } → length heads₂ ≡ length heads
-        → length nexts₂ ≡ length nexts → Before h es vs p heads nexts w es₃ vs₃ p₃
+        → length nexts₂ ≡ length nexts → BeforeChoice h es vs p heads nexts w es₃ vs₃ p₃
     before-all q d e = rw q record {
       is = before-is;
       holds = holds-lean-kept (full-lean F (lean-kept (cut-lean .lean) d e)) (sym d) (sym e);

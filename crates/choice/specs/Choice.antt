@@ -44,7 +44,7 @@ pub record Cleanable (h : Held) (es vs p heads nexts nodes mp starts tried sig :
   pub countable : Countable 501 0 heads
 
 -- the graph of the choice and the rewrites
-pub record Before (h : Held) (es vs p heads nexts : List ℕ) (r : Work) (es′ vs′ p′ : List ℕ) : Type 0 where
+pub record BeforeChoice (h : Held) (es vs p heads nexts : List ℕ) (r : Work) (es′ vs′ p′ : List ℕ) : Type 0 where
   pub is : workOf r es′ vs′ p′ ≡ beforeChoice (graphOf h es vs p)
   pub holds : HoldsLean (r .held) es′ vs′ p′ heads nexts
   pub most : r .rewrites ≤ 203 * vertexRoom heads

@@ -5,10 +5,10 @@ ghost use Rattle.defs.specs.SeqGraph.{Graph};
 ghost use Rattle.defs.specs.Cleanup.{removeSingletonOrphanVertices, removeVerticesNotConnectedToRef};
 ghost use Rattle.compact.specs.Compact.{Compactable};
 ghost use Rattle.index.specs.Index.{Indexed};
-ghost use Rattle.zips.specs.Zips.{ZippedAll};
+ghost use Rattle.zip_linear_chains.specs.Zips.{ZippedAll};
 ghost use Rattle.reach.specs.Reach.{Walkable};
 ghost use Rattle.orphans.specs.Orphans.{Reduced};
-ghost use Rattle.choice.specs.Choice.{fresh, Zippable, Cleanable, Before};
+ghost use Rattle.choice.specs.Choice.{fresh, Zippable, Cleanable, BeforeChoice};
 use memory::Held;
 use memory::Work;
 
@@ -33,7 +33,7 @@ fn zip_all(
         held: held,
         rewrites: 0,
     };
-    zips::zip_linear_chains(work, es, vs, p, heads, nexts, nodes, map, starts)
+    zip_linear_chains::zip_linear_chains(work, es, vs, p, heads, nexts, nodes, map, starts)
 }
 
 // Lone vertices go, then what is not connected to the reference.
@@ -73,7 +73,7 @@ pub fn before_choice(
     sig: &mut [u32],
 ) -> Work
     requires { ⌜ Cleanable held (now es) (now vs) (now p) (now heads) (now nexts) (now nodes) (now map) (now starts) (now tried) (now sig) ⌝ }
-    ensures { λ r. ⌜ Before held (now (es .entry)) (now (vs .entry)) (now (p .entry)) (now (heads .entry)) (now (nexts .entry)) r
+    ensures { λ r. ⌜ BeforeChoice held (now (es .entry)) (now (vs .entry)) (now (p .entry)) (now (heads .entry)) (now (nexts .entry)) r
         (now (es .exit)) (now (vs .exit)) (now (p .exit)) ⌝ }
 {
     let z = zip_all(held, es, vs, p, heads, nexts, nodes, map, starts);

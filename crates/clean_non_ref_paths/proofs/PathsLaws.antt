@@ -12,19 +12,19 @@ use Rattle.defs.specs.Calls.{numberOf, cleanNonRefPathsResponse, cleanNonRefPat
 use Rattle.reread.specs.Reread.{ReacceptedAs}
 use Rattle.reread.proofs.Graphs.{input-reaccepted}
 use Rattle.reread.proofs.Read.{Bytes, record-most, sequence-input}
-use Rattle.cleanable.proofs.CleanInput.{clean-input}
+use Rattle.cleanup_room.proofs.CleanInput.{clean-input}
 use Rattle.calls.specs.Answers.{tallyOf, answerOf, Tallies}
 use Rattle.calls.specs.Sending.{Responds}
 use Rattle.calls.specs.declared.Tally.{Tally}
 use Rattle.calls.specs.declared.Sent.{Sent}
 use Rattle.calls.specs.declared.Answer.{Answer}
 use Rattle.calls.proofs.ResponseLaws.{answered, room-enough}
-use Rattle.reading_calls.specs.Reading.{responseOf}
+use Rattle.reading_calls.specs.Reading.{readingResponse}
 use Rattle.reading_calls.specs.declared.ReadingCall.the-variants.{CleanNonRefPaths}
 use Rattle.clean_non_ref_paths.specs.CleansPaths.{CleansPaths}
 
 module _ (bs list : List ℕ) {out : List ℕ} {t : Tally} {s : Sent} {a : Answer} {out′ : List ℕ} (small : Bytes bs)
-    (S : Responds (responseOf CleanNonRefPaths list bs (length out)) out s out′) (T : Tallies s t a) where
+    (S : Responds (readingResponse CleanNonRefPaths list bs (length out)) out s out′) (T : Tallies s t a) where
   abbrev causes : List Cause
   causes = recordCauses sequenceOnly bs
 
@@ -32,14 +32,14 @@ module _ (bs list : List ℕ) {out : List ℕ} {t : Tally} {s : Sent} {a : Answe
   result = encode sequenceGraph 0 (cleanNonRefPaths (decode bs))
 
   answer-is : answerOf a ≡ cleanNonRefPathsAnswer bs (length out) (tallyOf t)
-  unfolding cleanNonRefPathsAnswer cleanNonRefPathsResponse responseOf
+  unfolding cleanNonRefPathsAnswer cleanNonRefPathsResponse readingResponse
   answer-is = T .is causes (length out) result (S .number) (S .size)
 
   again : recordRefusal sequenceOnly bs ≡ 0 → ReacceptedAs (cleanNonRefPaths (decode bs)) result
   again ok = input-reaccepted (cleanNonRefPaths (decode bs)) (clean-input (decode bs) (sequence-input bs small ok)) 0 (omega arith)
 
   pub cleans-paths : CleansPaths bs out t a out′
-  unfolding cleanNonRefPathsAnswer cleanNonRefPathsResponse responseOf recordRefusal D.answer
+  unfolding cleanNonRefPathsAnswer cleanNonRefPathsResponse readingResponse recordRefusal D.answer
   cleans-paths = record {
     answer = answer-is;
     written = S .written;

@@ -21,7 +21,7 @@ use Rattle.calls.specs.declared.CleanupAnswer.{CleanupAnswer}
 use Rattle.calls.proofs.ResponseLaws.{answered, room-enough, field-answered}
 use Rattle.rewriting.specs.Rewriting.{resultOf}
 use Rattle.rewriting.specs.declared.RewritingCall.the-variants.{CleanupSeqGraph}
-use Rattle.rewriting_calls.specs.Answered.{Answered}
+use Rattle.rewriting_calls.specs.Answered.{RewritingAnswered}
 use Rattle.rewriting_calls.specs.declared.RewritingAnswer.{RewritingAnswer}
 use Rattle.cleanup_seq_graph.specs.Cleans.{SpellsChosen, Cleans}
 
@@ -37,7 +37,7 @@ status-one justReference e = refl
 status-one someVariation e = absurd (omega (arith, e))
 
 module _ {bs out : List ℕ} {t : Tally} {r : RewritingAnswer} {a : CleanupAnswer} {out′ : List ℕ} (small : Bytes bs)
-    (A : Answered CleanupSeqGraph bs out r out′) (T : TalliesCleanup (r .sent) (r .status) (r .rewrites) t a) where
+    (A : RewritingAnswered CleanupSeqGraph bs out r out′) (T : TalliesCleanup (r .sent) (r .status) (r .rewrites) t a) where
   abbrev z : Cleaned
   z = cleanupSeqGraph (decode bs)
 

@@ -20,7 +20,7 @@ use Rattle.record.specs.Layout.{WellFormed}
 use Rattle.record.proofs.Accepted.{well-formed}
 use Rattle.record.proofs.Fields.{support-is}
 use Rattle.record.proofs.Sequences.{length-sequence}
-use Rattle.codec.specs.Encodable.{Encodable, WithinEdge, Within}
+use Rattle.codec.specs.Encodable.{Encodable, WithinEdge, WithinAnswer}
 use Rattle.codec.proofs.Encoded.{k-read, vertices-read, edges-read, sequence-read, edge-read}
 use Rattle.codec.proofs.Decoded.{header-back, lengths-back, edges-back, bytes-back, bytes-count, in-parts}
 
@@ -77,7 +77,7 @@ most-bytes [] h = omega arith
 most-bytes (v ∷ vs) h =
     omega (arith, h v (List·Memᴰ·head refl), most-bytes vs (λ s m. h s (List·Memᴰ·tail m)))
 
-pub within-encodable : (g : Graph) → Within g → Encodable g
+pub within-encodable : (g : Graph) → WithinAnswer g → Encodable g
 unfolding nodeCount
 within-encodable g w = record {
   k = omega (arith, w .k);
@@ -146,7 +146,7 @@ module _ (bs : List ℕ) (small : (i : ℕ) → getD bs i 0 < 256) (ok : WellFor
         support = omega (arith, support-is bs i, support-small (edgeStart bs i + 4));
       }
 
-  decoded-within : Within (decode bs)
+  decoded-within : WithinAnswer (decode bs)
   unfolding decode nodeCount
   decoded-within = record {
     k = ok .k-most;

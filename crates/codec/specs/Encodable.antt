@@ -26,7 +26,7 @@ pub record WithinEdge (g : Graph) (e : Edge) : Type 0 where
   pub to : e .to < nodeCount g
   pub support : e .support < 4294967296
 
-pub record Within (g : Graph) : Type 0 where
+pub record WithinAnswer (g : Graph) : Type 0 where
   pub k : g .k ≤ 128
   pub vertices : nodeCount g ≤ 10240
   pub edges : length (g .edges) ≤ 16384

@@ -27,18 +27,18 @@ use Rattle.compact.specs.Compact.{BothSet, Marked, Renumbered, VertsClos
 
 -- ---- marks
 
-pub record Marking (n g : ℕ) (gone mp₀ mp : List ℕ) (i : ℕ) : Type 0 where
+pub record MarkingGone (n g : ℕ) (gone mp₀ mp : List ℕ) (i : ℕ) : Type 0 where
   pub high : i ≤ g
   pub len : length mp ≡ length mp₀
   pub is : Marked (numsIn i gone) n mp
 
 module _ {n g : ℕ} {gone mp₀ : List ℕ} where
-  pub marking-start : (mp : List ℕ) → length mp ≡ length mp₀ → ((k : ℕ) → k < n → getD mp k 0 ≡ 0) → Marking n g gone mp₀ mp 0
+  pub marking-start : (mp : List ℕ) → length mp ≡ length mp₀ → ((k : ℕ) → k < n → getD mp k 0 ≡ 0) → MarkingGone n g gone mp₀ mp 0
   unfolding elemOf bit
   marking-start mp l h = record { high = omega arith; len = l; is = record { at = λ v b. h v b ∙ sym (ap (λ (x : List ℕ). bit (elemOf v x)) (tab-zero _)) } }
 
-  pub marking-more : {mp : List ℕ} {i : ℕ} → Marking n g gone mp₀ mp i → i < g → getD gone i 0 < n → n ≤ length mp
-      → Marking n g gone mp₀ (set mp (getD gone i 0) 1) (i + 1)
+  pub marking-more : {mp : List ℕ} {i : ℕ} → MarkingGone n g gone mp₀ mp i → i < g → getD gone i 0 < n → n ≤ length mp
+      → MarkingGone n g gone mp₀ (set mp (getD gone i 0) 1) (i + 1)
   unfolding bit
   marking-more {mp} {i} M h b r = record {
     high = omega arith;
@@ -60,7 +60,7 @@ module _ {n g : ℕ} {gone mp₀ : List ℕ} where
       or-false true = refl
       or-false false = refl
 
-  pub marking-end : {mp : List ℕ} {i : ℕ} → Marking n g gone mp₀ mp i → g ≤ i → Marked (numsIn g gone) n mp
+  pub marking-end : {mp : List ℕ} {i : ℕ} → MarkingGone n g gone mp₀ mp i → g ≤ i → Marked (numsIn g gone) n mp
   marking-end {mp} {i} M h = let e : i ≡ g = omega arith in rw e at (M .is)
 
 -- ---- numbers

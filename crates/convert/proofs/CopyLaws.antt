@@ -46,18 +46,18 @@ module _ {n : ℕ} {order place₀ : List ℕ} (N : Permutation n order) {place 
 
 -- ---- edges
 
-pub record Copying (m : ℕ) (es order out₀ out : List ℕ) (i : ℕ) : Type 0 where
+pub record CopyingEdges (m : ℕ) (es order out₀ out : List ℕ) (i : ℕ) : Type 0 where
   pub high : i ≤ m
   pub len : length out ≡ length out₀
   pub done : (j : ℕ) → j < i → edgeIn out j ≡ edgeIn es (getD order j 0)
 
-pub copying-start : {m : ℕ} {es order out : List ℕ} → Copying m es order out out 0
+pub copying-start : {m : ℕ} {es order out : List ℕ} → CopyingEdges m es order out out 0
 copying-start = record { high = omega arith; len = refl; done = λ j b. absurd (omega arith) }
 
-module _ {m : ℕ} {es order out₀ out : List ℕ} {i : ℕ} (C : Copying m es order out₀ out i) where
+module _ {m : ℕ} {es order out₀ out : List ℕ} {i : ℕ} (C : CopyingEdges m es order out₀ out i) where
   pub copying-more : {a b s r : ℕ} {out′ : List ℕ} → 4 * m ≤ length out₀ → i < m → a ≡ getD es (4 * getD order i 0) 0 → b
       ≡ getD es (4 * getD order i 0 + 1) 0 → s ≡ getD es (4 * getD order i 0 + 2) 0 → r ≡ getD es (4 * getD order i 0 + 3) 0
-      → out′ ≡ putEdge out i a b s r → Copying m es order out₀ out′ (i + 1)
+      → out′ ≡ putEdge out i a b s r → CopyingEdges m es order out₀ out′ (i + 1)
   copying-more {a} {b} {s} {r} {out′} room h qa qb qs qr e = record {
     high = omega arith;
     len = ap length e ∙ length-put out i a b s r ∙ C .len;

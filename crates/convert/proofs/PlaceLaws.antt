@@ -18,7 +18,7 @@ use Rattle.kmer_order.proofs.BytesOrder.{before-same}
 use Rattle.edge_order.specs.Order.{fromPlace, toPlace, EdgeOrder}
 use Rattle.edge_order.proofs.PlaceOrder.{not-earlier}
 use Rattle.convert.specs.Convert.{Separate, Places}
-use Rattle.convert.proofs.SortLaws.{Sorted, Once, edge-no, edge-same, sorted-unique, of-sort, mem-sort, sorted-sort, once-sort}
+use Rattle.convert.proofs.SortLaws.{Sorted, EachOnce, edge-no, edge-same, sorted-unique, of-sort, mem-sort, sorted-sort, once-sort}
 
 -- ---- the order of the places is that of the k-mers
 
@@ -83,7 +83,7 @@ module _ {m n : ℕ} {es vs p order place : List ℕ} (S : Separate m n es vs p)
       sorted-from f (suc s) c (λ i j a b d. h i j (omega arith) b (omega arith)),
     )
 
-    once-from : (f : ℕ → Edge) (s c : ℕ) → ((i j : ℕ) → s ≤ i → i < j → j < s + c → f i ≡ f j → ⊥) → Once (tabFrom s c f)
+    once-from : (f : ℕ → Edge) (s c : ℕ) → ((i j : ℕ) → s ≤ i → i < j → j < s + c → f i ≡ f j → ⊥) → EachOnce (tabFrom s c f)
     unfolding tabFrom
     once-from f s zero h = tt
     once-from f s (suc c) h = (

@@ -80,14 +80,14 @@ module _ (g : Graph) where
   Sorted (x ∷ xs) = ((y : Edge) → List·Memᴰ y xs → edgeBefore g y x ≡ false) × Sorted xs
 
 -- no member twice
-abbrev pub Once : List Edge → Type 0
-Once [] = Unit {0}
-Once (x ∷ xs) = (List·Memᴰ x xs → ⊥) × Once xs
+abbrev pub EachOnce : List Edge → Type 0
+EachOnce [] = Unit {0}
+EachOnce (x ∷ xs) = (List·Memᴰ x xs → ⊥) × EachOnce xs
 
 -- ---- one list is as good as another
 
 module _ (g : Graph) where
-  pub sorted-unique : (A B : List Edge) → Sorted g A → Sorted g B → Once A → Once B
+  pub sorted-unique : (A B : List Edge) → Sorted g A → Sorted g B → EachOnce A → EachOnce B
       → ((x : Edge) → List·Memᴰ x A → List·Memᴰ x B) → ((x : Edge) → List·Memᴰ x B → List·Memᴰ x A)
       → ((x y : Edge) → List·Memᴰ x A → List·Memᴰ y A → edgeBefore g x y ≡ false → edgeBefore g y x ≡ false → x ≡ y) → A ≡ B
   sorted-unique [] [] sa sb oa ob f b anti = refl
@@ -144,7 +144,7 @@ module _ (g : Graph) where
       (λ t. rw (insert-yes d e l t) (λ y m. ⊎-elim (λ (q : y ≡ d). rw q (edge-asym g e d t)) (λ k. s .0 y k) (of-insert d l y m), sorted-insert d l (s .1)))
       (λ t. rw (insert-no d e l t) (λ y m. ⊎-elim (λ (q : y ≡ e). rw q t) (λ k. edge-trans g d e y t (s .0 y k)) (List·Memᴰ·cases-cons m), s))
 
-  once-insert : (d : Edge) (l : List Edge) → (List·Memᴰ d l → ⊥) → Once l → Once (insertEdge g d l)
+  once-insert : (d : Edge) (l : List Edge) → (List·Memᴰ d l → ⊥) → EachOnce l → EachOnce (insertEdge g d l)
   unfolding insertEdge
   once-insert d [] n o = (λ m. List·Memᴰ·not-nil m, tt)
   once-insert d (e ∷ l) n o = byTest (edgeBefore g e d)
@@ -169,7 +169,7 @@ module _ (g : Graph) where
   sorted-sort [] = tt
   sorted-sort (x ∷ l) = sorted-insert x (sortEdges g l) (sorted-sort l)
 
-  pub once-sort : (l : List Edge) → Once l → Once (sortEdges g l)
+  pub once-sort : (l : List Edge) → EachOnce l → EachOnce (sortEdges g l)
   unfolding sortEdges
   once-sort [] o = tt
   once-sort (x ∷ l) o = once-insert x (sortEdges g l) (λ m. o .0 (of-sort l x m)) (once-sort l (o .1))

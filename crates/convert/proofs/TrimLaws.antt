@@ -15,7 +15,7 @@ use Rattle.defs.specs.Assembly.{additionalSequence}
 use Rattle.tabs.proofs.Tabs.{tab-ext, getD-tab}
 use Rattle.store.specs.Store.{part, seqIn, seqsIn, graphIn, putVertex, Within}
 use Rattle.store.proofs.VertexLaws.{part-long, put-start, put-len, put-rest, length-put-vertex}
-use Rattle.index.specs.Index.{endOf, edgesAt, atFrom, pairAt, Indexed}
+use Rattle.index.specs.Index.{edgeEnd, incidentEdges, atFrom, pairAt, Indexed}
 use Rattle.index.proofs.IndexLaws.{in-degree-is, at-none, at-first}
 use Rattle.convert.specs.Convert.{Trimmable, Trimmed}
 
@@ -34,14 +34,14 @@ last-part p a l h b = sym (ap (λ (x : ℕ). drop (x - 1) (part p a l)) (part-lo
 -- ---- the loop: the vertices before v are done
 
 -- a vertex has its place: the k-mer's, or its last byte's
-pub record Placed (m : ℕ) (es vs₀ vs : List ℕ) (u : ℕ) : Type 0 where
-  pub start : getD vs (2 * u) 0 ≡ cond (eqb (length (edgesAt (endOf 1 es) m u)) 0) (getD vs₀ (2 * u) 0) (getD vs₀ (2 * u) 0 + (getD vs₀ (2 * u + 1) 0 - 1))
-  pub len : getD vs (2 * u + 1) 0 ≡ cond (eqb (length (edgesAt (endOf 1 es) m u)) 0) (getD vs₀ (2 * u + 1) 0) 1
+pub record TrimmedPlace (m : ℕ) (es vs₀ vs : List ℕ) (u : ℕ) : Type 0 where
+  pub start : getD vs (2 * u) 0 ≡ cond (eqb (length (incidentEdges (edgeEnd 1 es) m u)) 0) (getD vs₀ (2 * u) 0) (getD vs₀ (2 * u) 0 + (getD vs₀ (2 * u + 1) 0 - 1))
+  pub len : getD vs (2 * u + 1) 0 ≡ cond (eqb (length (incidentEdges (edgeEnd 1 es) m u)) 0) (getD vs₀ (2 * u + 1) 0) 1
 
 pub record Trimming (m n : ℕ) (es vs₀ vs : List ℕ) (v : ℕ) : Type 0 where
   pub high : v ≤ n
   pub size : length vs ≡ length vs₀
-  pub done : (u : ℕ) → u < v → Placed m es vs₀ vs u
+  pub done : (u : ℕ) → u < v → TrimmedPlace m es vs₀ vs u
   pub start-rest : (u : ℕ) → v ≤ u → getD vs (2 * u) 0 ≡ getD vs₀ (2 * u) 0
   pub len-rest : (u : ℕ) → v ≤ u → getD vs (2 * u + 1) 0 ≡ getD vs₀ (2 * u + 1) 0
 
@@ -50,11 +50,11 @@ trimming-start = record { high = omega arith; size = refl; done = λ u b. absurd
 
 module _ {m n : ℕ} {es heads nexts vs₀ : List ℕ} (T : Trimmable n vs₀) (I : Indexed m n es heads nexts) {vs : List ℕ} {v : ℕ} (W :
     Trimming m n es vs₀ vs v) (h : v < n) where
-  none-in : m ≤ getD heads (2 * v + 1) 0 → eqb (length (edgesAt (endOf 1 es) m v)) 0 ≡ true
+  none-in : m ≤ getD heads (2 * v + 1) 0 → eqb (length (incidentEdges (edgeEnd 1 es) m v)) 0 ≡ true
   none-in b = eq-eqb _ 0 (ap length (at-none (I .index 1 (omega arith)) h (getD heads (2 * v + 1) 0) refl b))
 
-  some-in : getD heads (2 * v + 1) 0 < m → eqb (length (edgesAt (endOf 1 es) m v)) 0 ≡ false
-  some-in b = ne-eqb _ 0 (λ (z : length (edgesAt (endOf 1 es) m v) ≡ 0).
+  some-in : getD heads (2 * v + 1) 0 < m → eqb (length (incidentEdges (edgeEnd 1 es) m v)) 0 ≡ false
+  some-in b = ne-eqb _ 0 (λ (z : length (incidentEdges (edgeEnd 1 es) m v) ≡ 0).
       omega (arith, ap length (at-first (I .index 1 (omega arith)) h (getD heads (2 * v + 1) 0) refl b)))
 
   pub trimming-kept : m ≤ getD heads (2 * v + 1) 0 → Trimming m n es vs₀ vs (v + 1)
@@ -117,15 +117,15 @@ placed-within false s l s′ l′ used w o a b = omega arith
 pub trimming-end : {m n : ℕ} {es vs₀ vs : List ℕ} {v : ℕ} → Trimmable n vs₀ → Trimming m n es vs₀ vs v → n ≤ v → Trimmed m n es vs₀ vs
 trimming-end {m} {n} {es} {vs₀} {vs} {v} T W h = record {
   is = λ k p w. tab-ext n (seqIn vs p) (additionalSequence (graphIn k n m es vs₀ p)) (λ u b. let P = W .done u (omega arith) in
-      placed-seq (eqb (length (edgesAt (endOf 1 es) m u)) 0) vs₀ vs p u (w .at u b) (T .whole u b) (P .start) (P .len) ∙ sym (additional k p u b));
+      placed-seq (eqb (length (incidentEdges (edgeEnd 1 es) m u)) 0) vs₀ vs p u (w .at u b) (T .whole u b) (P .start) (P .len) ∙ sym (additional k p u b));
   within = λ used w. record {
     at = λ u b. let P = W .done u (omega arith) in placed-within
-        (eqb (length (edgesAt (endOf 1 es) m u)) 0) _ _ _ _ used (w .at u b) (T .whole u b) (P .start) (P .len);
+        (eqb (length (incidentEdges (edgeEnd 1 es) m u)) 0) _ _ _ _ used (w .at u b) (T .whole u b) (P .start) (P .len);
   };
 }
   where
     additional : (k : ℕ) (p : List ℕ) (u : ℕ) → u < n → additionalSequence (graphIn k n m es vs₀ p) u
-        ≡ cond (eqb (length (edgesAt (endOf 1 es) m u)) 0) (seqIn vs₀ p u) (drop (length (seqIn vs₀ p u) - 1) (seqIn vs₀ p u))
+        ≡ cond (eqb (length (incidentEdges (edgeEnd 1 es) m u)) 0) (seqIn vs₀ p u) (drop (length (seqIn vs₀ p u) - 1) (seqIn vs₀ p u))
     additional k p u b = unfold additionalSequence vertexSequence in
         (λ i. cond (eqb (in-degree-is k n m es vs₀ p u i) 0) (getD-tab n (seqIn vs₀ p) u [] b i)
         (drop (length (getD-tab n (seqIn vs₀ p) u [] b i) - 1) (getD-tab n (seqIn vs₀ p) u [] b i)))

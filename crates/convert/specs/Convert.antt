@@ -30,7 +30,7 @@ pub record Places (n : ℕ) (order place : List ℕ) : Type 0 where
   pub at : (i : ℕ) → i < n → getD place (getD order i 0) 0 ≡ i
 
 -- m edges in some order, and room for as many
-pub record Copyable (m : ℕ) (es order out : List ℕ) : Type 0 where
+pub record EdgesCopyable (m : ℕ) (es order out : List ℕ) : Type 0 where
   pub es-room : 4 * m ≤ length es
   pub numbers : Permutation m order
   pub out-room : 4 * m ≤ length out

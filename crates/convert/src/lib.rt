@@ -7,7 +7,7 @@ ghost use Rattle.index.specs.Index.{Indexed};
 ghost use Rattle.defs.specs.Lists.{tab};
 ghost use Rattle.store.specs.Store.{edgeIn, edgesIn};
 ghost use Rattle.sort.specs.Sort.{Permutation};
-ghost use Rattle.convert.specs.Convert.{Trimmable, Trimmed, Places, Copyable, Convertible, EdgesSorted};
+ghost use Rattle.convert.specs.Convert.{Trimmable, Trimmed, Places, EdgesCopyable, Convertible, EdgesSorted};
 
 // The vertices get their additional sequences, which are parts of their k-mers.
 pub fn additional_sequences(
@@ -48,7 +48,7 @@ fn put_places(order: &[u32], n: usize, place: &mut [u32])
 
 // Copies the m edges in the order of their numbers.
 fn copy_edges(es: &[u32], order: &[u32], m: usize, out: &mut [u32])
-    requires { ⌜ Copyable m (now es) (now order) (now out) ⌝ }
+    requires { ⌜ EdgesCopyable m (now es) (now order) (now out) ⌝ }
     ensures { λ _. ⌜ edgesIn m (now (out .exit)) ≡ tab m (λ (i : ℕ). edgeIn (now (es .entry)) (getD (now (order .entry)) i 0)) ⌝ }
 {
     let mut i = 0;

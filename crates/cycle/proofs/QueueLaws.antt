@@ -17,7 +17,7 @@ use Rattle.defs.specs.Lists.{tab, rank}
 use Rattle.tabs.proofs.Tabs.{length-tab, set-more, and-no-left, and-no-right}
 use Rattle.tabs.proofs.ListTabs.{of-mem-tab}
 use Rattle.store.specs.Store.{EndsBelow}
-use Rattle.index.specs.Index.{endOf}
+use Rattle.index.specs.Index.{edgeEnd}
 use Rattle.index.proofs.IndexLaws.{end-below}
 use Rattle.cycle.specs.Peel.{stands, entering, Queued}
 use Rattle.tabs.proofs.Ranks.{rank-same, rank-less, rank-none, distinct-tab}
@@ -74,31 +74,31 @@ stands-turn h m p e l = byOrder p h
 -- ---- an edge that enters v
 
 module _ (es : List ℕ) (place : ℕ → ℕ) (h c v e : ℕ) where
-  pub entering-yes : endOf 1 es e ≡ v → stands h c (place (endOf 0 es e)) e ≡ true → entering es place h c v e ≡ true
+  pub entering-yes : edgeEnd 1 es e ≡ v → stands h c (place (edgeEnd 0 es e)) e ≡ true → entering es place h c v e ≡ true
   unfolding entering
   entering-yes q t = and-true _ _ (eq-eqb _ _ q) t
 
-  pub of-entering : entering es place h c v e ≡ true → (endOf 1 es e ≡ v) × (stands h c (place (endOf 0 es e)) e ≡ true)
+  pub of-entering : entering es place h c v e ≡ true → (edgeEnd 1 es e ≡ v) × (stands h c (place (edgeEnd 0 es e)) e ≡ true)
   unfolding entering
   of-entering t = let s = and-split _ _ t in (eqb-true _ _ (s .0), s .1)
 
-  pub entering-no : stands h c (place (endOf 0 es e)) e ≡ false → entering es place h c v e ≡ false
+  pub entering-no : stands h c (place (edgeEnd 0 es e)) e ≡ false → entering es place h c v e ≡ false
   unfolding entering
-  entering-no f = and-no-right (eqb (endOf 1 es e) v) f
+  entering-no f = and-no-right (eqb (edgeEnd 1 es e) v) f
 
-  entering-other : (endOf 1 es e ≡ v → ⊥) → entering es place h c v e ≡ false
+  entering-other : (edgeEnd 1 es e ≡ v → ⊥) → entering es place h c v e ≡ false
   unfolding entering
   entering-other ne = and-no-left _ (ne-eqb _ _ ne)
 
   -- no edge into v stands
-  not-entering : endOf 1 es e ≡ v → entering es place h c v e ≡ false → stands h c (place (endOf 0 es e)) e ≡ false
+  not-entering : edgeEnd 1 es e ≡ v → entering es place h c v e ≡ false → stands h c (place (edgeEnd 0 es e)) e ≡ false
   unfolding entering
-  not-entering q f = rw (eq-eqb (endOf 1 es e) v q) at f
+  not-entering q f = rw (eq-eqb (edgeEnd 1 es e) v q) at f
 
-entering-same : (es : List ℕ) (place place′ : ℕ → ℕ) (h c h′ c′ v e : ℕ) → stands h c (place (endOf 0 es e)) e ≡ stands h′ c′ (place′ (endOf 0 es e)) e
+entering-same : (es : List ℕ) (place place′ : ℕ → ℕ) (h c h′ c′ v e : ℕ) → stands h c (place (edgeEnd 0 es e)) e ≡ stands h′ c′ (place′ (edgeEnd 0 es e)) e
     → entering es place h c v e ≡ entering es place′ h′ c′ v e
 unfolding entering
-entering-same es place place′ h c h′ c′ v e q = ap (λ (b : Bool). eqb (endOf 1 es e) v && b) q
+entering-same es place place′ h c h′ c′ v e q = ap (λ (b : Bool). eqb (edgeEnd 1 es e) v && b) q
 
 -- ---- a place more
 
@@ -137,7 +137,7 @@ module _ {m n : ℕ} {es degrees queue : List ℕ} {place : ℕ → ℕ} {h c ta
         length-tab tail (λ (i : ℕ). getD queue i 0),
       )
 
-  pub queued-as : {h′ c′ : ℕ} → h′ ≤ tail → ((e : ℕ) → e < m → stands h c (place (endOf 0 es e)) e ≡ stands h′ c′ (place (endOf 0 es e)) e)
+  pub queued-as : {h′ c′ : ℕ} → h′ ≤ tail → ((e : ℕ) → e < m → stands h c (place (edgeEnd 0 es e)) e ≡ stands h′ c′ (place (edgeEnd 0 es e)) e)
       → Queued m n es degrees queue place h′ c′ tail
   queued-as {h′} {c′} l same = record {
     high = l;
@@ -179,34 +179,34 @@ module _ {m n : ℕ} {es degrees queue : List ℕ} {place : ℕ → ℕ} {h c ta
       | no ne ↦ omega (arith, at-other place v tail x ne, Q .out x k (omega (arith, at-other place v tail x ne)))
     ]
 
-    stands-pushed : (e : ℕ) → e < m → stands h c (place (endOf 0 es e)) e ≡ stands h c (placeAt place v tail (endOf 0 es e)) e
-    stands-pushed e k = elim (ℕ-discrete (endOf 0 es e) v) [
-      | yes q ↦ stands-later h c (place (endOf 0 es e)) e (omega (arith, ap place q, Q .out v b new, fits, Q .high)) ∙ sym (elim (ℕ-discrete tail h) [
-        | yes t ↦ stands-same h c (placeAt place v tail (endOf 0 es e)) e (ap (placeAt place v tail) q ∙ at-same place v tail ∙ t) (omega (arith, first t))
-        | no ne ↦ stands-later h c (placeAt place v tail (endOf 0 es e)) e (omega (arith, ap (placeAt place v tail) q, at-same place v tail, Q .high))
+    stands-pushed : (e : ℕ) → e < m → stands h c (place (edgeEnd 0 es e)) e ≡ stands h c (placeAt place v tail (edgeEnd 0 es e)) e
+    stands-pushed e k = elim (ℕ-discrete (edgeEnd 0 es e) v) [
+      | yes q ↦ stands-later h c (place (edgeEnd 0 es e)) e (omega (arith, ap place q, Q .out v b new, fits, Q .high)) ∙ sym (elim (ℕ-discrete tail h) [
+        | yes t ↦ stands-same h c (placeAt place v tail (edgeEnd 0 es e)) e (ap (placeAt place v tail) q ∙ at-same place v tail ∙ t) (omega (arith, first t))
+        | no ne ↦ stands-later h c (placeAt place v tail (edgeEnd 0 es e)) e (omega (arith, ap (placeAt place v tail) q, at-same place v tail, Q .high))
       ])
-      | no ne ↦ ap (λ (p : ℕ). stands h c p e) (sym (at-other place v tail (endOf 0 es e) ne))
+      | no ne ↦ ap (λ (p : ℕ). stands h c p e) (sym (at-other place v tail (edgeEnd 0 es e) ne))
     ]
 
     push-done : (x : ℕ) → x < n → placeAt place v tail x < tail + 1 → getD degrees x 0 ≡ 0
     push-done x k l = elim (ℕ-discrete x v) [ yes q ↦ rw q none | no ne ↦ Q .done x k (still x k ne l) ]
 
     -- an edge into v comes from a vertex that has lost its edges
-    push-before : (e : ℕ) → e < m → endOf 1 es e ≡ v → place (endOf 0 es e) < tail
+    push-before : (e : ℕ) → e < m → edgeEnd 1 es e ≡ v → place (edgeEnd 0 es e) < tail
     push-before e k q =
-        stands-no h c (place (endOf 0 es e)) e (not-entering es place h c v e q (rank-none (entering es place h c v) m e (sym (Q .count v b) ∙ none) k))
+        stands-no h c (place (edgeEnd 0 es e)) e (not-entering es place h c v e q (rank-none (entering es place h c v) m e (sym (Q .count v b) ∙ none) k))
         (λ l. omega (arith, Q .high))
         (λ z l. byOrder tail h (λ o. absurd (omega (arith, first (omega (arith, Q .high))))) (λ o. omega arith))
 
-    push-order : (e : ℕ) → e < m → placeAt place v tail (endOf 1 es e) < tail + 1 → placeAt place v tail (endOf 0 es e) < placeAt place v tail (endOf 1 es e)
-    push-order e k l = elim (ℕ-discrete (endOf 1 es e) v) [
+    push-order : (e : ℕ) → e < m → placeAt place v tail (edgeEnd 1 es e) < tail + 1 → placeAt place v tail (edgeEnd 0 es e) < placeAt place v tail (edgeEnd 1 es e)
+    push-order e k l = elim (ℕ-discrete (edgeEnd 1 es e) v) [
       | yes q ↦ (let o = push-before e k q in
-          let f = at-other place v tail (endOf 0 es e) (λ z. omega (arith, ap place z)) in
+          let f = at-other place v tail (edgeEnd 0 es e) (λ z. omega (arith, ap place z)) in
           omega (arith, ap (placeAt place v tail) q, at-same place v tail))
-      | no ne ↦ (let s = still (endOf 1 es e) (end-below 1 E e k (omega arith)) ne l in
+      | no ne ↦ (let s = still (edgeEnd 1 es e) (end-below 1 E e k (omega arith)) ne l in
           let o = Q .order e k s in
-          let f = at-other place v tail (endOf 0 es e) (λ z. omega (arith, ap place z)) in
-          omega (arith, at-other place v tail (endOf 1 es e) ne))
+          let f = at-other place v tail (edgeEnd 0 es e) (λ z. omega (arith, ap place z)) in
+          omega (arith, at-other place v tail (edgeEnd 1 es e) ne))
     ]
 
     pub queued-push : Queued m n es degrees (set queue tail v) (placeAt place v tail) h c (tail + 1)
@@ -223,35 +223,35 @@ module _ {m n : ℕ} {es degrees queue : List ℕ} {place : ℕ → ℕ} {h c ta
     }
 
   -- ---- the edge d from the vertex at h goes
-  module _ {d c′ : ℕ} (below : endOf 1 es d < n) (k : d < m) (at-h : place (endOf 0 es d) ≡ h) (l : c ≤ d) (l′ : d < c′) (room : n ≤ length degrees)
-      (same : (e : ℕ) → e < m → (e ≡ d → ⊥) → stands h c (place (endOf 0 es e)) e ≡ stands h c′ (place (endOf 0 es e)) e) where
-    one-less : rank (entering es place h c (endOf 1 es d)) m ≡ suc (rank (entering es place h c′ (endOf 1 es d)) m)
-    one-less = rank-less (entering es place h c (endOf 1 es d)) (entering es place h c′ (endOf 1 es d)) m d k
-        (entering-yes es place h c (endOf 1 es d) d refl (stands-same h c (place (endOf 0 es d)) d at-h l))
-        (entering-no es place h c′ (endOf 1 es d) d (stands-passed h c′ (place (endOf 0 es d)) d at-h l′))
-        (λ e j ne. entering-same es place place h c h c′ (endOf 1 es d) e (same e j ne))
+  module _ {d c′ : ℕ} (below : edgeEnd 1 es d < n) (k : d < m) (at-h : place (edgeEnd 0 es d) ≡ h) (l : c ≤ d) (l′ : d < c′) (room : n ≤ length degrees)
+      (same : (e : ℕ) → e < m → (e ≡ d → ⊥) → stands h c (place (edgeEnd 0 es e)) e ≡ stands h c′ (place (edgeEnd 0 es e)) e) where
+    one-less : rank (entering es place h c (edgeEnd 1 es d)) m ≡ suc (rank (entering es place h c′ (edgeEnd 1 es d)) m)
+    one-less = rank-less (entering es place h c (edgeEnd 1 es d)) (entering es place h c′ (edgeEnd 1 es d)) m d k
+        (entering-yes es place h c (edgeEnd 1 es d) d refl (stands-same h c (place (edgeEnd 0 es d)) d at-h l))
+        (entering-no es place h c′ (edgeEnd 1 es d) d (stands-passed h c′ (place (edgeEnd 0 es d)) d at-h l′))
+        (λ e j ne. entering-same es place place h c h c′ (edgeEnd 1 es d) e (same e j ne))
 
     -- the vertex that it enters was not queued
-    pub entered-some : 0 < getD degrees (endOf 1 es d) 0
-    entered-some = omega (arith, Q .count (endOf 1 es d) below, one-less)
+    pub entered-some : 0 < getD degrees (edgeEnd 1 es d) 0
+    entered-some = omega (arith, Q .count (edgeEnd 1 es d) below, one-less)
 
-    pub entered-out : tail ≤ place (endOf 1 es d)
-    entered-out = byOrder tail (place (endOf 1 es d)) (λ o. o) (λ o. absurd (omega (arith, Q .done (endOf 1 es d) below o, entered-some)))
+    pub entered-out : tail ≤ place (edgeEnd 1 es d)
+    entered-out = byOrder tail (place (edgeEnd 1 es d)) (λ o. o) (λ o. absurd (omega (arith, Q .done (edgeEnd 1 es d) below o, entered-some)))
 
-    take-count : (v : ℕ) → v < n → getD (set degrees (endOf 1 es d) (getD degrees (endOf 1 es d) 0 - 1)) v 0 ≡ rank (entering es place h c′ v) m
-    take-count v b = elim (ℕ-discrete v (endOf 1 es d)) [
-      | yes q ↦ rw q (getD-set-same degrees (endOf 1 es d) _ 0 (omega arith) ∙ omega (arith, Q .count (endOf 1 es d) below, one-less))
-      | no ne ↦ getD-set-other degrees (endOf 1 es d) v _ 0 ne ∙ Q .count v b ∙ rank-same (entering es place h c v) (entering es place h c′ v) m (other v ne)
+    take-count : (v : ℕ) → v < n → getD (set degrees (edgeEnd 1 es d) (getD degrees (edgeEnd 1 es d) 0 - 1)) v 0 ≡ rank (entering es place h c′ v) m
+    take-count v b = elim (ℕ-discrete v (edgeEnd 1 es d)) [
+      | yes q ↦ rw q (getD-set-same degrees (edgeEnd 1 es d) _ 0 (omega arith) ∙ omega (arith, Q .count (edgeEnd 1 es d) below, one-less))
+      | no ne ↦ getD-set-other degrees (edgeEnd 1 es d) v _ 0 ne ∙ Q .count v b ∙ rank-same (entering es place h c v) (entering es place h c′ v) m (other v ne)
     ]
       where
-        other : (v : ℕ) → (v ≡ endOf 1 es d → ⊥) → (e : ℕ) → e < m → entering es place h c v e ≡ entering es place h c′ v e
+        other : (v : ℕ) → (v ≡ edgeEnd 1 es d → ⊥) → (e : ℕ) → e < m → entering es place h c v e ≡ entering es place h c′ v e
         other v ne e j = elim (ℕ-discrete e d) [
-          | yes q ↦ (let o : endOf 1 es e ≡ v → ⊥ = λ z. ne (sym z ∙ ap (endOf 1 es) q) in entering-other es place h c v e o
+          | yes q ↦ (let o : edgeEnd 1 es e ≡ v → ⊥ = λ z. ne (sym z ∙ ap (edgeEnd 1 es) q) in entering-other es place h c v e o
               ∙ sym (entering-other es place h c′ v e o))
           | no nd ↦ entering-same es place place h c h c′ v e (same e j nd)
         ]
 
-    pub queued-take : Queued m n es (set degrees (endOf 1 es d) (getD degrees (endOf 1 es d) 0 - 1)) queue place h c′ tail
+    pub queued-take : Queued m n es (set degrees (edgeEnd 1 es d) (getD degrees (edgeEnd 1 es d) 0 - 1)) queue place h c′ tail
     queued-take = record {
       high = Q .high;
       vertex = Q .vertex;
@@ -259,6 +259,6 @@ module _ {m n : ℕ} {es degrees queue : List ℕ} {place : ℕ → ℕ} {h c ta
       found = Q .found;
       out = Q .out;
       count = take-count;
-      done = λ v b o. getD-set-other degrees (endOf 1 es d) v _ 0 (λ z. omega (arith, entered-out, ap place z)) ∙ Q .done v b o;
+      done = λ v b o. getD-set-other degrees (edgeEnd 1 es d) v _ 0 (λ z. omega (arith, entered-out, ap place z)) ∙ Q .done v b o;
       order = Q .order;
     }

@@ -3,11 +3,11 @@
 ghost use Prim.Native.Nat.{_+_, _<_, _≤_};
 ghost use lib.ListN.{length};
 ghost use Rattle.index.specs.Index.{Indexed};
-ghost use Rattle.cycle.specs.Peel.{Peelable, Counted, Sourced, Peeling, HasCycle};
+ghost use Rattle.cycle.specs.Peel.{Peelable, DegreesCounted, Sourced, Peeling, HasCycle};
 
 fn count_entering(es: &[u32], m: usize, n: usize, heads: &[u32], nexts: &[u32], degrees: &mut [u32])
     requires { ⌜ Indexed m n (now es) (now heads) (now nexts) × ((m < 4294967296) × (n ≤ length (now degrees))) ⌝ }
-    ensures { λ _. ⌜ Counted m n (now (es .entry)) (now (degrees .exit)) ⌝ }
+    ensures { λ _. ⌜ DegreesCounted m n (now (es .entry)) (now (degrees .exit)) ⌝ }
 {
     let mut v = 0;
     while v < n {

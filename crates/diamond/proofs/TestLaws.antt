@@ -15,7 +15,7 @@ use Rattle.laws.proofs.Walks.{byTest}
 use Rattle.laws.proofs.ListLaws.{allOf-same, all-yes, all-no}
 use Rattle.tabs.proofs.Tabs.{length-tab, and-then, and-else}
 use Rattle.store.specs.Store.{numsIn, graphIn}
-use Rattle.index.specs.Index.{endOf, edgesAt, Indexed}
+use Rattle.index.specs.Index.{edgeEnd, incidentEdges, Indexed}
 use Rattle.index.proofs.AdjLaws.{Testing, testing-start, testing-more}
 use Rattle.index.proofs.IndexLaws.{out-degree-is, in-degree-is, outgoing-is, pair-first}
 use Rattle.diamond.specs.Diamond.{inCount, isMiddle, isTail, Diamond, Tails}
@@ -54,7 +54,7 @@ module _ (k n m : ℕ) (es vs p : List ℕ) where
     in-degree-is k n m es vs p v,
     out-degree-is k n m es vs p v,
     outgoing-is k n m es vs p v,
-    allOf-map (eqb b) (endOf 1 es) (edgesAt (endOf 0 es) m v),
+    allOf-map (eqb b) (edgeEnd 1 es) (incidentEdges (edgeEnd 0 es) m v),
   ) refl
 
   tail-is : (v : ℕ) → isTail m es v ≡ (eqb (outDegree (graphIn k n m es vs p) v) 0 && eqb (inDegree (graphIn k n m es vs p) v) 1)
@@ -101,14 +101,14 @@ mid-all d o r s x y e h f l q = q ∙ and-then _ (lt-ltb 0 o (omega arith)) ∙ 
 
 module _ {m n : ℕ} {es heads nexts : List ℕ} (I : Indexed m n es heads nexts) (v b : ℕ) where
   abbrev enters : ℕ → Bool
-  enters e = eqb b (endOf 1 es e)
+  enters e = eqb b (edgeEnd 1 es e)
 
-  pub enter-start : v < n → Testing (endOf 0 es) m v enters (getD heads (2 * v) 0)
-  enter-start h = subst (Testing (endOf 0 es) m v enters) (sym (pair-first heads v))
+  pub enter-start : v < n → Testing (edgeEnd 0 es) m v enters (getD heads (2 * v) 0)
+  enter-start h = subst (Testing (edgeEnd 0 es) m v enters) (sym (pair-first heads v))
       (testing-start (I .index 0 (omega arith)) enters h)
 
-  pub enter-more : (e : ℕ) → Testing (endOf 0 es) m v enters e → e < m → b ≡ endOf 1 es e → Testing (endOf 0 es) m v enters (getD nexts (2 * e) 0)
-  enter-more e T h q = subst (Testing (endOf 0 es) m v enters) (sym (pair-first nexts e))
+  pub enter-more : (e : ℕ) → Testing (edgeEnd 0 es) m v enters e → e < m → b ≡ edgeEnd 1 es e → Testing (edgeEnd 0 es) m v enters (getD nexts (2 * e) 0)
+  enter-more e T h q = subst (Testing (edgeEnd 0 es) m v enters) (sym (pair-first nexts e))
       (testing-more (I .index 0 (omega arith)) enters T h (eq-eqb _ _ q))
 
   pub enter-on : (e : ℕ) → e < m → e < getD nexts (2 * e) 0

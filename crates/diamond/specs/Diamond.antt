@@ -8,18 +8,18 @@ use lib.Dec.{eqb, ltb}
 use Rattle.defs.specs.Lists.{allOf}
 use Rattle.defs.specs.Rewrites.{isDiamond, isTails}
 use Rattle.store.specs.Store.{graphIn, numsIn}
-use Rattle.index.specs.Index.{endOf, edgesAt}
+use Rattle.index.specs.Index.{edgeEnd, incidentEdges}
 
 -- every edge from v enters b
 abbrev pub allEnter : ℕ → List ℕ → ℕ → ℕ → Bool
-allEnter m es v b = allOf (λ (e : ℕ). eqb b (endOf 1 es e)) (edgesAt (endOf 0 es) m v)
+allEnter m es v b = allOf (λ (e : ℕ). eqb b (edgeEnd 1 es e)) (incidentEdges (edgeEnd 0 es) m v)
 
 -- how many edges leave and enter v
 abbrev pub outCount : ℕ → List ℕ → ℕ → ℕ
-outCount m es v = length (edgesAt (endOf 0 es) m v)
+outCount m es v = length (incidentEdges (edgeEnd 0 es) m v)
 
 abbrev pub inCount : ℕ → List ℕ → ℕ → ℕ
-inCount m es v = length (edgesAt (endOf 1 es) m v)
+inCount m es v = length (incidentEdges (edgeEnd 1 es) m v)
 
 -- v is a middle above b, or a tail
 abbrev pub isMiddle : ℕ → List ℕ → ℕ → ℕ → Bool

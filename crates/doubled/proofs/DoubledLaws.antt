@@ -15,7 +15,7 @@ use Rattle.defs.specs.Lists.{tabFrom, anyOf}
 use Rattle.defs.specs.SeqGraph.{Edge, hasEnds}
 use Rattle.defs.specs.Refusals.{doubledEdge}
 use Rattle.store.specs.Store.{edgeIn, edgesIn, EndsBelow}
-use Rattle.index.specs.Index.{endOf, pairAt, Index, Indexed}
+use Rattle.index.specs.Index.{edgeEnd, pairAt, Index, Indexed}
 use Rattle.index.proofs.IndexLaws.{pair-first, end-first}
 use Rattle.doubled.specs.Doubled.{Twins, Markable, Stale, DoubledFrom}
 
@@ -25,23 +25,23 @@ use Rattle.doubled.specs.Doubled.{Twins, Markable, Stale, DoubledFrom}
 pub record Seen (es : List ℕ) (v t e : ℕ) : Type 0 where
   pub by : ℕ
   pub low : by < e
-  pub from : endOf 0 es by ≡ v
-  pub to : endOf 1 es by ≡ t
+  pub from : edgeEnd 0 es by ≡ v
+  pub to : edgeEnd 1 es by ≡ t
 
-pub record Marking (m n : ℕ) (es : List ℕ) (v : ℕ) (marks₀ marks : List ℕ) (e : ℕ) : Type 0 where
+pub record MarkingTargets (m n : ℕ) (es : List ℕ) (v : ℕ) (marks₀ marks : List ℕ) (e : ℕ) : Type 0 where
   pub high : e ≤ m
-  pub hit : e < m → endOf 0 es e ≡ v
+  pub hit : e < m → edgeEnd 0 es e ≡ v
   pub len : length marks ≡ length marks₀
   pub stale : Stale n (v + 1) marks
   pub seen : (t : ℕ) → t < n → getD marks t 0 ≡ v + 1 → Seen es v t e
-  pub noted : (j : ℕ) → j < e → endOf 0 es j ≡ v → getD marks (endOf 1 es j) 0 ≡ v + 1
-  pub single : (i j : ℕ) → i < j → j < e → endOf 0 es i ≡ v → endOf 0 es j ≡ v → endOf 1 es i ≡ endOf 1 es j → ⊥
+  pub noted : (j : ℕ) → j < e → edgeEnd 0 es j ≡ v → getD marks (edgeEnd 1 es j) 0 ≡ v + 1
+  pub single : (i j : ℕ) → i < j → j < e → edgeEnd 0 es i ≡ v → edgeEnd 0 es j ≡ v → edgeEnd 1 es i ≡ edgeEnd 1 es j → ⊥
 
 module _ {m n : ℕ} {es heads nexts : List ℕ} (X : Indexed m n es heads nexts) where
-  out : Index (endOf 0 es) m n (pairAt 0 heads) (pairAt 0 nexts)
+  out : Index (edgeEnd 0 es) m n (pairAt 0 heads) (pairAt 0 nexts)
   out = X .index 0 (omega arith)
 
-  pub marking-start : {v : ℕ} {marks₀ : List ℕ} {e : ℕ} → e ≡ getD heads (2 * v) 0 → v < n → Stale n v marks₀ → Marking m n es v marks₀ marks₀ e
+  pub marking-start : {v : ℕ} {marks₀ : List ℕ} {e : ℕ} → e ≡ getD heads (2 * v) 0 → v < n → Stale n v marks₀ → MarkingTargets m n es v marks₀ marks₀ e
   marking-start {v} q h S = let N = out .heads v h in rw (q ∙ pair-first heads v) (record {
     high = N .high;
     hit = N .hit;
@@ -52,57 +52,57 @@ module _ {m n : ℕ} {es heads nexts : List ℕ} (X : Indexed m n es heads nexts
     single = λ i j a b p q s. N .skip j (omega arith) b q;
   })
 
-  module _ {v : ℕ} {marks₀ marks : List ℕ} {e : ℕ} (M : Marking m n es v marks₀ marks e) (h : e < m) where
-    entered : endOf 1 es e < n
+  module _ {v : ℕ} {marks₀ marks : List ℕ} {e : ℕ} (M : MarkingTargets m n es v marks₀ marks e) (h : e < m) where
+    entered : edgeEnd 1 es e < n
     entered = X .ends .at e h .1
 
-    pub marking-found : {to : ℕ} → to ≡ endOf 1 es e → getD marks to 0 ≡ v + 1 → DoubledFrom m n es v true marks
-    marking-found w q = let s = M .seen (endOf 1 es e) entered (ap (λ (x : ℕ). getD marks x 0) (sym w) ∙ q) in record {
+    pub marking-found : {to : ℕ} → to ≡ edgeEnd 1 es e → getD marks to 0 ≡ v + 1 → DoubledFrom m n es v true marks
+    marking-found w q = let s = M .seen (edgeEnd 1 es e) entered (ap (λ (x : ℕ). getD marks x 0) (sym w) ∙ q) in record {
       yes = λ t. record { first = s .by; second = e; order = s .low; below = h; from-first = s .from; from-second = M .hit h; to-same = s .to };
       no = λ t. clash refl t;
       stale = M .stale;
     }
 
     -- an edge of v before the next one
-    passed : {Y : Type 0} (j : ℕ) → j < pairAt 0 nexts e → endOf 0 es j ≡ v → (j < e → Y) → (j ≡ e → Y) → Y
+    passed : {Y : Type 0} (j : ℕ) → j < pairAt 0 nexts e → edgeEnd 0 es j ≡ v → (j < e → Y) → (j ≡ e → Y) → Y
     passed j b q old new = elim (ℕ-discrete j e) [
       | yes p ↦ new p
       | no ne ↦ byOrder e j (λ l. absurd ((out .nexts e h) .skip j (omega arith) b (q ∙ sym (M .hit h)))) old
     ]
 
-    module _ {to : ℕ} (is-to : to ≡ endOf 1 es e) (fresh : getD marks to 0 ≡ v + 1 → ⊥) (room : n ≤ length marks₀) where
-      stored : getD (set marks (endOf 1 es e) (v + 1)) (endOf 1 es e) 0 ≡ v + 1
-      stored = getD-set-same marks (endOf 1 es e) (v + 1) 0 (omega (arith, entered, M .len))
+    module _ {to : ℕ} (is-to : to ≡ edgeEnd 1 es e) (fresh : getD marks to 0 ≡ v + 1 → ⊥) (room : n ≤ length marks₀) where
+      stored : getD (set marks (edgeEnd 1 es e) (v + 1)) (edgeEnd 1 es e) 0 ≡ v + 1
+      stored = getD-set-same marks (edgeEnd 1 es e) (v + 1) 0 (omega (arith, entered, M .len))
 
-      marks-stale : (t : ℕ) → t < n → getD (set marks (endOf 1 es e) (v + 1)) t 0 ≤ v + 1
-      marks-stale t b = elim (ℕ-discrete t (endOf 1 es e)) [
+      marks-stale : (t : ℕ) → t < n → getD (set marks (edgeEnd 1 es e) (v + 1)) t 0 ≤ v + 1
+      marks-stale t b = elim (ℕ-discrete t (edgeEnd 1 es e)) [
         | yes p ↦ rw p (omega (arith, stored))
-        | no ne ↦ rw (getD-set-other marks (endOf 1 es e) t (v + 1) 0 ne) (M .stale .at t b)
+        | no ne ↦ rw (getD-set-other marks (edgeEnd 1 es e) t (v + 1) 0 ne) (M .stale .at t b)
       ]
 
-      marks-seen : (t : ℕ) → t < n → getD (set marks (endOf 1 es e) (v + 1)) t 0 ≡ v + 1 → Seen es v t (pairAt 0 nexts e)
-      marks-seen t b q = let low = (out .nexts e h) .low in elim (ℕ-discrete t (endOf 1 es e)) [
+      marks-seen : (t : ℕ) → t < n → getD (set marks (edgeEnd 1 es e) (v + 1)) t 0 ≡ v + 1 → Seen es v t (pairAt 0 nexts e)
+      marks-seen t b q = let low = (out .nexts e h) .low in elim (ℕ-discrete t (edgeEnd 1 es e)) [
         | yes p ↦ record { by = e; low = omega arith; from = M .hit h; to = sym p }
-        | no ne ↦ (let s = M .seen t b (sym (getD-set-other marks (endOf 1 es e) t (v + 1) 0 ne) ∙ q) in
+        | no ne ↦ (let s = M .seen t b (sym (getD-set-other marks (edgeEnd 1 es e) t (v + 1) 0 ne) ∙ q) in
             record { by = s .by; low = omega (arith, s .low); from = s .from; to = s .to })
       ]
 
-      marks-noted : (j : ℕ) → j < pairAt 0 nexts e → endOf 0 es j ≡ v → getD (set marks (endOf 1 es e) (v + 1)) (endOf 1 es j) 0 ≡ v + 1
-      marks-noted j b q = elim (ℕ-discrete (endOf 1 es j) (endOf 1 es e)) [
-        | yes p ↦ ap (λ (x : ℕ). getD (set marks (endOf 1 es e) (v + 1)) x 0) p ∙ stored
-        | no ne ↦ getD-set-other marks (endOf 1 es e) (endOf 1 es j) (v + 1) 0 ne ∙ passed j b q (λ l. M .noted j l q) (λ p. absurd (ne (ap (endOf 1 es) p)))
+      marks-noted : (j : ℕ) → j < pairAt 0 nexts e → edgeEnd 0 es j ≡ v → getD (set marks (edgeEnd 1 es e) (v + 1)) (edgeEnd 1 es j) 0 ≡ v + 1
+      marks-noted j b q = elim (ℕ-discrete (edgeEnd 1 es j) (edgeEnd 1 es e)) [
+        | yes p ↦ ap (λ (x : ℕ). getD (set marks (edgeEnd 1 es e) (v + 1)) x 0) p ∙ stored
+        | no ne ↦ getD-set-other marks (edgeEnd 1 es e) (edgeEnd 1 es j) (v + 1) 0 ne ∙ passed j b q (λ l. M .noted j l q) (λ p. absurd (ne (ap (edgeEnd 1 es) p)))
       ]
 
-      marks-single : (i j : ℕ) → i < j → j < pairAt 0 nexts e → endOf 0 es i ≡ v → endOf 0 es j ≡ v → endOf 1 es i ≡ endOf 1 es j → ⊥
+      marks-single : (i j : ℕ) → i < j → j < pairAt 0 nexts e → edgeEnd 0 es i ≡ v → edgeEnd 0 es j ≡ v → edgeEnd 1 es i ≡ edgeEnd 1 es j → ⊥
       marks-single i j a b p q s = passed j b q
           (λ l. M .single i j a l p q s)
-          (λ (w : j ≡ e). fresh (ap (λ (x : ℕ). getD marks x 0) (is-to ∙ sym (s ∙ ap (endOf 1 es) w)) ∙ M .noted i (omega arith) p))
+          (λ (w : j ≡ e). fresh (ap (λ (x : ℕ). getD marks x 0) (is-to ∙ sym (s ∙ ap (edgeEnd 1 es) w)) ∙ M .noted i (omega arith) p))
 
-      pub marking-more : {e′ : ℕ} → e′ ≡ getD nexts (2 * e) 0 → Marking m n es v marks₀ (set marks to (v + 1)) e′
+      pub marking-more : {e′ : ℕ} → e′ ≡ getD nexts (2 * e) 0 → MarkingTargets m n es v marks₀ (set marks to (v + 1)) e′
       marking-more q = rw (is-to, q ∙ pair-first nexts e) (record {
         high = (out .nexts e h) .high;
         hit = λ b. (out .nexts e h) .hit b ∙ M .hit h;
-        len = length-set marks (endOf 1 es e) (v + 1) ∙ M .len;
+        len = length-set marks (edgeEnd 1 es e) (v + 1) ∙ M .len;
         stale = record { at = marks-stale };
         seen = marks-seen;
         noted = marks-noted;
@@ -113,7 +113,7 @@ module _ {m n : ℕ} {es heads nexts : List ℕ} (X : Indexed m n es heads nexts
     pub next-later : e < getD nexts (2 * e) 0
     next-later = omega (arith, (out .nexts e h) .low, pair-first nexts e)
 
-  pub marking-end : {v : ℕ} {marks₀ marks : List ℕ} {e : ℕ} → Marking m n es v marks₀ marks e → m ≤ e → DoubledFrom m n es v false marks
+  pub marking-end : {v : ℕ} {marks₀ marks : List ℕ} {e : ℕ} → MarkingTargets m n es v marks₀ marks e → m ≤ e → DoubledFrom m n es v false marks
   marking-end M l = record {
     yes = λ t. clash t refl;
     no = λ t T. M .single (T .first) (T .second) (T .order) (omega (arith, T .below)) (T .from-first) (T .from-second) (T .to-same);
@@ -166,24 +166,24 @@ twinless {m} {n} {es} E o = sym (single-from (edgeIn es) 0 m (λ i j a b c.
     none : (i j : ℕ) → i < j → j < m → hasEnds (getD es (4 * i) 0) (getD es (4 * i + 1) 0) (edgeIn es j) ≡ true → ⊥
     none i j b c t =
         let q = joins-ends (getD es (4 * i) 0) (getD es (4 * i + 1) 0) (edgeIn es j) t in
-        o (endOf 0 es i) (omega (arith, end-first es i, E .at i (omega arith) .0))
+        o (edgeEnd 0 es i) (omega (arith, end-first es i, E .at i (omega arith) .0))
         record { first = i; second = j; order = b; below = c; from-first = refl; from-second = end-first es j ∙ q .0 ∙ sym (end-first es i); to-same = sym (q .1) }
 
 -- ---- the scan over the vertices
 
-pub record Scanning (m n : ℕ) (es marks₀ marks : List ℕ) (v : ℕ) : Type 0 where
+pub record ScanningEdges (m n : ℕ) (es marks₀ marks : List ℕ) (v : ℕ) : Type 0 where
   pub high : v ≤ n
   pub len : length marks ≡ length marks₀
   pub stale : Stale n v marks
   pub none : (u : ℕ) → u < v → Twins m es u → ⊥
 
 pub scanning-start : {m n : ℕ} {es marks₀ marks : List ℕ} → length marks ≡ length marks₀ → ((k : ℕ) → k < n → getD marks k 0 ≡ 0)
-    → Scanning m n es marks₀ marks 0
+    → ScanningEdges m n es marks₀ marks 0
 scanning-start l z = record { high = omega arith; len = l; stale = record { at = λ t b. omega (arith, z t b) }; none = λ u b. absurd (omega arith) }
 
-pub scanning-more : {m n : ℕ} {es marks₀ marks marks′ : List ℕ} {v : ℕ} {r : Bool} → Scanning m n es marks₀ marks v → v < n → length marks′
+pub scanning-more : {m n : ℕ} {es marks₀ marks marks′ : List ℕ} {v : ℕ} {r : Bool} → ScanningEdges m n es marks₀ marks v → v < n → length marks′
     ≡ length marks → DoubledFrom m n es v r marks′ → r ≡ false
-    → Scanning m n es marks₀ marks′ (v + 1)
+    → ScanningEdges m n es marks₀ marks′ (v + 1)
 scanning-more {v = v} S h l D f = record {
   high = omega arith;
   len = l ∙ S .len;

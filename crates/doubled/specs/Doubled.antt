@@ -4,7 +4,7 @@ use mathlib.Core.Bool.{Bool, true, false}
 use mathlib.Core.List.{List}
 use Prim.Native.Nat.{ℕ, _+_, _≤_, _<_}
 use lib.ListN.{length, getD}
-use Rattle.index.specs.Index.{endOf}
+use Rattle.index.specs.Index.{edgeEnd}
 
 -- two of the m edges leave v and enter the same vertex
 pub record Twins (m : ℕ) (es : List ℕ) (v : ℕ) : Type 0 where
@@ -12,9 +12,9 @@ pub record Twins (m : ℕ) (es : List ℕ) (v : ℕ) : Type 0 where
   pub second : ℕ
   pub order : first < second
   pub below : second < m
-  pub from-first : endOf 0 es first ≡ v
-  pub from-second : endOf 0 es second ≡ v
-  pub to-same : endOf 1 es first ≡ endOf 1 es second
+  pub from-first : edgeEnd 0 es first ≡ v
+  pub from-second : edgeEnd 0 es second ≡ v
+  pub to-same : edgeEnd 1 es first ≡ edgeEnd 1 es second
 
 -- a mark for each of n vertices; the marks are their numbers plus 1
 pub record Markable (n : ℕ) (marks : List ℕ) : Type 0 where

@@ -33,10 +33,10 @@ use Rattle.calls.specs.declared.Sent.{Sent}
 use Rattle.calls.proofs.ResponseLaws.{answered, room-enough}
 use Rattle.calls.proofs.CauseLaws.{behind-refused, behind-present, behind-absent}
 use Rattle.read_kmers.proofs.KmerLaws.{kmer-bytes-least, kmer-bytes-most}
-use Rattle.from_kmers.specs.Conversion.{Roomy, ConvertedAs}
+use Rattle.from_kmers.specs.Conversion.{RoomToConvert, ConvertedAs}
 use Rattle.accept.specs.declared.Read.{Read}
 use Rattle.from_kmers.proofs.ConversionLaws.{none-early, none-late}
-use Rattle.from_assembly_graph.specs.Converts.{Converts, Sized}
+use Rattle.from_assembly_graph.specs.Converts.{Converts, SizedToConvert}
 
 -- ---- the converted graph is within the limits of input
 
@@ -158,8 +158,8 @@ small bs l = record {
 }
 
 module _ {bs es vs p heads nexts order scratch place sorted : List ℕ} where
-  roomy : {v e b o : ℕ} → Enough v e b o bs → Sized v e b o es vs p heads nexts order scratch place sorted
-      → Roomy bs es vs p heads nexts order scratch place sorted
+  roomy : {v e b o : ℕ} → Enough v e b o bs → SizedToConvert v e b o es vs p heads nexts order scratch place sorted
+      → RoomToConvert bs es vs p heads nexts order scratch place sorted
   roomy S Z = record {
     reading = record {
       room = λ W z. record {
@@ -178,10 +178,10 @@ module _ {bs es vs p heads nexts order scratch place sorted : List ℕ} where
     sorted-room = λ W. omega (arith, S .edges W, Z .sorted-is);
   }
 
-  pub large-roomy : Sized 2048 4096 262144 4096 es vs p heads nexts order scratch place sorted
-      → Roomy bs es vs p heads nexts order scratch place sorted
+  pub large-roomy : SizedToConvert 2048 4096 262144 4096 es vs p heads nexts order scratch place sorted
+      → RoomToConvert bs es vs p heads nexts order scratch place sorted
   large-roomy = roomy (large bs)
 
-  pub small-roomy : length bs ≤ 4096 → Sized 1016 451 4064 1016 es vs p heads nexts order scratch place sorted
-      → Roomy bs es vs p heads nexts order scratch place sorted
+  pub small-roomy : length bs ≤ 4096 → SizedToConvert 1016 451 4064 1016 es vs p heads nexts order scratch place sorted
+      → RoomToConvert bs es vs p heads nexts order scratch place sorted
   small-roomy l = roomy (small bs l)

@@ -21,7 +21,7 @@ pub record Converts (bs out : List ℕ) (t : Tally) (r : Answer) (out′ : List 
 
 -- the lengths of arrays for v vertices, e edges, once in the record's order and once sorted, and b bytes of k-mers; o numbers of vertices, then
 -- of edges, stand in an array
-pub record Sized (v e b o : ℕ) (es vs p heads nexts order scratch place sorted : List ℕ) : Type 0 where
+pub record SizedToConvert (v e b o : ℕ) (es vs p heads nexts order scratch place sorted : List ℕ) : Type 0 where
   pub es-is : length es ≡ 4 * e
   pub vs-is : length vs ≡ 2 * v
   pub p-is : length p ≡ b

@@ -3,7 +3,7 @@ ghost use Prim.Native.Nat.{_≤_};
 ghost use lib.ListN.{length};
 ghost use Rattle.defs.specs.Calls.{fromAssemblyGraphResponse};
 ghost use Rattle.calls.specs.Sending.{Responds};
-ghost use Rattle.from_kmers.specs.Conversion.{Roomy};
+ghost use Rattle.from_kmers.specs.Conversion.{RoomToConvert};
 ghost use Rattle.from_assembly_graph.specs.Converts.{Converts};
 use calls::Answer;
 use calls::Sent;
@@ -35,7 +35,7 @@ fn convert_in(
     place: &mut [u32],
     sorted: &mut [u32],
 ) -> Sent
-    requires { ⌜ Roomy (now rec) (now es) (now vs) (now p) (now heads) (now nexts) (now order) (now scratch) (now place) (now sorted) ⌝ }
+    requires { ⌜ RoomToConvert (now rec) (now es) (now vs) (now p) (now heads) (now nexts) (now order) (now scratch) (now place) (now sorted) ⌝ }
     ensures { λ r. ⌜ Responds (fromAssemblyGraphResponse (now (rec .entry)) (length (now (out .entry)))) (now (out .entry)) r (now (out .exit)) ⌝ }
 {
     let read = from_kmers::read_and_convert(

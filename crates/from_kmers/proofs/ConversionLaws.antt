@@ -37,7 +37,7 @@ use Rattle.accept.proofs.AcceptLaws.{not-both, number-graph, number-refused, sa
 use Rattle.read_kmers.specs.Kmers as K
 use Rattle.read_kmers.specs.Kmers.{HoldsKmers, KmersRead}
 use Rattle.read_kmers.proofs.KmerLaws.{sum-most}
-use Rattle.from_kmers.specs.Conversion.{Roomy, ConvertedAs}
+use Rattle.from_kmers.specs.Conversion.{RoomToConvert, ConvertedAs}
 
 -- ---- the causes
 
@@ -104,7 +104,7 @@ refused-as bs n q o = record {
 
 -- ---- the steps
 
-module _ {bs es vs p heads nexts order scratch place sorted : List ℕ} (R : Roomy bs es vs p heads nexts order scratch place sorted) {r :
+module _ {bs es vs p heads nexts order scratch place sorted : List ℕ} (R : RoomToConvert bs es vs p heads nexts order scratch place sorted) {r :
     Read} {es′ vs′ p′ heads′ nexts′ order′ : List ℕ} (A : KmersRead bs r es′ vs′ p′ heads′ nexts′ order′) where
   pub refused : {n : ℕ} {es₂ vs₂ p₂ : List ℕ} → r ≡ Refused n → ConvertedAs bs (Refused n) es₂ vs₂ p₂
   refused {n} f = let o = A .refused n f in refused-as bs n (sym (early bs (sym (A .number) ∙ number-refused f) o)) o
@@ -119,7 +119,7 @@ module _ {bs es vs p heads nexts order scratch place sorted : List ℕ} (R : Roo
     formed : WellFormed bs
     formed = accepted-layout kmerOnly bs none
 
-    room : K.Room bs es vs p heads nexts order scratch place
+    room : K.KmerRoom bs es vs p heads nexts order scratch place
     room = R .reading .room formed (kmer-kind bs (accepted-early kmerOnly bs none))
 
     pub convertible : {scratch′ place′ : List ℕ} → length es′ ≡ length es → length order′ ≡ length order → length scratch′ ≡ length scratch

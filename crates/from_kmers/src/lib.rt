@@ -1,5 +1,5 @@
 // The conversion of a k-mer record (`from_assembly_graph`): the number of its refusal, 1 to 8, or the sequence graph in the slices.
-ghost use Rattle.from_kmers.specs.Conversion.{Roomy, ConvertedAs};
+ghost use Rattle.from_kmers.specs.Conversion.{RoomToConvert, ConvertedAs};
 use accept::Read;
 
 // The edges of the sequence graph are in `sorted`.
@@ -15,7 +15,7 @@ pub fn read_and_convert(
     place: &mut [u32],
     sorted: &mut [u32],
 ) -> Read
-    requires { ⌜ Roomy (now rec) (now es) (now vs) (now p) (now heads) (now nexts) (now order) (now scratch) (now place) (now sorted) ⌝ }
+    requires { ⌜ RoomToConvert (now rec) (now es) (now vs) (now p) (now heads) (now nexts) (now order) (now scratch) (now place) (now sorted) ⌝ }
     ensures { λ r. ⌜ ConvertedAs (now (rec .entry)) r (now (sorted .exit)) (now (vs .exit)) (now (p .exit)) ⌝ }
 {
     let held = match read_kmers::read_kmer_graph(

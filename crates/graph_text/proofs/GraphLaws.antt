@@ -20,30 +20,30 @@ use Rattle.write_record.proofs.WriteLaws.{bytes-are}
 use Rattle.memory.specs.declared.Held.{Held}
 use Rattle.text.specs.Printed.{ascii, field, signed, surplus, printedSequence, firstLine, endName, secondLine, vertexLine, edgeLine}
 use Rattle.text.specs.Printed.{printedGraph, printedRefusal}
-use Rattle.text.specs.Put.{Put}
+use Rattle.text.specs.Put.{TextPut}
 use Rattle.text.proofs.TextLaws.{put-then, put-as, put-most, Lines, lines-long, lines-at}
-use Rattle.graph_text.specs.GraphText.{endOf, simplifiedIn, sizeIn, VertexFits, verticesMost, graphMost, VerticesFit, Printable}
+use Rattle.graph_text.specs.GraphText.{endWithNumber, simplifiedIn, sizeIn, VertexFits, verticesMost, graphMost, VerticesFit, Printable}
 
 -- ---- lines
 
 module _ {text t₁ t₂ : List ℕ} {r₁ r₂ : ℕ} where
-  pub refusal-line : (number : ℕ) → Put 18 (field "refused " number) text 0 r₁ t₁ → Put 1 (ascii "\n") t₁ r₁ r₂ t₂ → Put 19 (printedRefusal number) text 0 r₂ t₂
+  pub refusal-line : (number : ℕ) → TextPut 18 (field "refused " number) text 0 r₁ t₁ → TextPut 1 (ascii "\n") t₁ r₁ r₂ t₂ → TextPut 19 (printedRefusal number) text 0 r₂ t₂
   unfolding printedRefusal
   refusal-line number p q = put-then p q
 
   module _ {t₃ t₄ : List ℕ} {at r₃ r₄ : ℕ} where
-    pub edge-line : (e : Edge) {a b s : ℕ} → a ≡ e .from → b ≡ e .to → s ≡ e .support → Put 12 (field "e " a) text at r₁ t₁
-        → Put 11 (field " " b) t₁ r₁ r₂ t₂ → Put 11 (field " " s) t₂ r₂ r₃ t₃
-        → Put 3 (cond (e .isRef) (ascii " r\n") (ascii " -\n")) t₃ r₃ r₄ t₄ → Put 37 (edgeLine e) text at r₄ t₄
+    pub edge-line : (e : Edge) {a b s : ℕ} → a ≡ e .from → b ≡ e .to → s ≡ e .support → TextPut 12 (field "e " a) text at r₁ t₁
+        → TextPut 11 (field " " b) t₁ r₁ r₂ t₂ → TextPut 11 (field " " s) t₂ r₂ r₃ t₃
+        → TextPut 3 (cond (e .isRef) (ascii " r\n") (ascii " -\n")) t₃ r₃ r₄ t₄ → TextPut 37 (edgeLine e) text at r₄ t₄
     unfolding edgeLine
     edge-line e qa qb qs p q r s = put-then (put-then (put-then (put-as (ap (field "e ") qa) p) (put-as (ap (field " ") qb) q))
         (put-as (ap (field " ") qs) r)) s
 
     -- the part that is printed is the vertex's sequence
     pub vertex-line : (vs pool : List ℕ) (v : ℕ) {start len : ℕ} → getD vs (2 * v) 0 + sizeIn vs v ≤ length pool → start ≡ getD vs (2 * v) 0 → len ≡ sizeIn vs v
-        → Put 12 (field "v " v) text at r₁ t₁ → Put 1 (ascii " ") t₁ r₁ r₂ t₂
-        → Put (4 * length (take (start + len - start) (drop start pool)) + 1) (printedSequence (take (start + len - start) (drop start pool))) t₂ r₂ r₃ t₃
-        → Put 1 (ascii "\n") t₃ r₃ r₄ t₄ → Put (15 + 4 * sizeIn vs v) (vertexLine v (seqIn vs pool v)) text at r₄ t₄
+        → TextPut 12 (field "v " v) text at r₁ t₁ → TextPut 1 (ascii " ") t₁ r₁ r₂ t₂
+        → TextPut (4 * length (take (start + len - start) (drop start pool)) + 1) (printedSequence (take (start + len - start) (drop start pool))) t₂ r₂ r₃ t₃
+        → TextPut 1 (ascii "\n") t₃ r₃ r₄ t₄ → TextPut (15 + 4 * sizeIn vs v) (vertexLine v (seqIn vs pool v)) text at r₄ t₄
     unfolding vertexLine
     vertex-line vs pool v {start} {len} w qs ql p q r s =
         put-most (omega (arith, part-long pool (getD vs (2 * v) 0) (sizeIn vs v) w)) (put-then (put-then (put-then p q) here) s)
@@ -51,21 +51,21 @@ module _ {text t₁ t₂ : List ℕ} {r₁ r₂ : ℕ} where
         cut : take (start + len - start) (drop start pool) ≡ seqIn vs pool v
         cut = let e : start + len - start ≡ len = omega arith in ap (λ (n : ℕ). take n (drop start pool)) e ∙ (λ i. take (ql i) (drop (qs i) pool))
 
-        here : Put (4 * length (seqIn vs pool v) + 1) (printedSequence (seqIn vs pool v)) t₂ r₂ r₃ t₃
-        here = subst (λ (l : List ℕ). Put (4 * length l + 1) (printedSequence l) t₂ r₂ r₃ t₃) cut r
+        here : TextPut (4 * length (seqIn vs pool v) + 1) (printedSequence (seqIn vs pool v)) t₂ r₂ r₃ t₃
+        here = subst (λ (l : List ℕ). TextPut (4 * length l + 1) (printedSequence l) t₂ r₂ r₃ t₃) cut r
 
     module _ {t₅ : List ℕ} {r₅ : ℕ} where
-      pub second-line : (rewrites rounds : ℕ) (e : End) → Put 19 (field "rewrites " rewrites) text at r₁ t₁
-          → Put 18 (field " rounds " rounds) t₁ r₁ r₂ t₂ → Put 5 (ascii " end ") t₂ r₂ r₃ t₃
-          → Put 8 (ascii (endName e)) t₃ r₃ r₄ t₄ → Put 1 (ascii "\n") t₄ r₄ r₅ t₅ → Put 51 (secondLine rewrites rounds e) text at r₅ t₅
+      pub second-line : (rewrites rounds : ℕ) (e : End) → TextPut 19 (field "rewrites " rewrites) text at r₁ t₁
+          → TextPut 18 (field " rounds " rounds) t₁ r₁ r₂ t₂ → TextPut 5 (ascii " end ") t₂ r₂ r₃ t₃
+          → TextPut 8 (ascii (endName e)) t₃ r₃ r₄ t₄ → TextPut 1 (ascii "\n") t₄ r₄ r₅ t₅ → TextPut 51 (secondLine rewrites rounds e) text at r₅ t₅
       unfolding secondLine
       second-line rewrites rounds e p q r s t = put-then (put-then (put-then (put-then p q) r) s) t
 
-      pub first-line : {t₆ t₇ : List ℕ} {r₆ r₇ : ℕ} (k n m b : ℕ) {x : ℤ} → Put 12 (field "k " k) text at r₁ t₁
-          → Put 20 (field " vertices " n) t₁ r₁ r₂ t₂ → Put 17 (field " edges " m) t₂ r₂ r₃ t₃
-          → Put 17 (field " bytes " b) t₃ r₃ r₄ t₄ → Put 9 (ascii " surplus ") t₄ r₄ r₅ t₅ → x ≡ surplus m n → Put 11 (signed x) t₅ r₅ r₆ t₆
-          → Put 1 (ascii "\n") t₆ r₆ r₇ t₇
-          → Put 87 (firstLine k n m b) text at r₇ t₇
+      pub first-line : {t₆ t₇ : List ℕ} {r₆ r₇ : ℕ} (k n m b : ℕ) {x : ℤ} → TextPut 12 (field "k " k) text at r₁ t₁
+          → TextPut 20 (field " vertices " n) t₁ r₁ r₂ t₂ → TextPut 17 (field " edges " m) t₂ r₂ r₃ t₃
+          → TextPut 17 (field " bytes " b) t₃ r₃ r₄ t₄ → TextPut 9 (ascii " surplus ") t₄ r₄ r₅ t₅ → x ≡ surplus m n → TextPut 11 (signed x) t₅ r₅ r₆ t₆
+          → TextPut 1 (ascii "\n") t₆ r₆ r₇ t₇
+          → TextPut 87 (firstLine k n m b) text at r₇ t₇
       unfolding firstLine
       first-line k n m b p q r s t e u v = put-then (put-then (put-then (put-then (put-then (put-then p q) r) s) t) (put-as (ap signed e) u)) v
 
@@ -82,30 +82,30 @@ vertices-fit {n} {vs} {v = v} F L h = record {
 -- ---- flags and ends
 
 module _ {text text′ : List ℕ} {at r : ℕ} where
-  pub flag-off : (f : ℕ) → f ≡ 0 → Put 3 (ascii " -\n") text at r text′ → Put 3 (cond (isSet f) (ascii " r\n") (ascii " -\n")) text at r text′
+  pub flag-off : (f : ℕ) → f ≡ 0 → TextPut 3 (ascii " -\n") text at r text′ → TextPut 3 (cond (isSet f) (ascii " r\n") (ascii " -\n")) text at r text′
   flag-off f q P = rw (eq-eqb f 0 q) P
 
-  pub flag-on : (f : ℕ) → (f ≡ 0 → ⊥) → Put 3 (ascii " r\n") text at r text′ → Put 3 (cond (isSet f) (ascii " r\n") (ascii " -\n")) text at r text′
+  pub flag-on : (f : ℕ) → (f ≡ 0 → ⊥) → TextPut 3 (ascii " r\n") text at r text′ → TextPut 3 (cond (isSet f) (ascii " r\n") (ascii " -\n")) text at r text′
   flag-on f o P = rw (ne-eqb f 0 o) P
 
-  pub flag-as : {f g : ℕ} → f ≡ g → Put 3 (cond (isSet f) (ascii " r\n") (ascii " -\n")) text at r text′
-      → Put 3 (cond (isSet g) (ascii " r\n") (ascii " -\n")) text at r text′
+  pub flag-as : {f g : ℕ} → f ≡ g → TextPut 3 (cond (isSet f) (ascii " r\n") (ascii " -\n")) text at r text′
+      → TextPut 3 (cond (isSet g) (ascii " r\n") (ascii " -\n")) text at r text′
   flag-as q P = put-as (ap (λ (x : ℕ). cond (isSet x) (ascii " r\n") (ascii " -\n")) q) P
 
-  pub end-quiet : (n : ℕ) → n ≡ 1 → Put 5 (ascii "quiet") text at r text′ → Put 8 (ascii (endName (endOf n))) text at r text′
-  unfolding endOf endName
+  pub end-quiet : (n : ℕ) → n ≡ 1 → TextPut 5 (ascii "quiet") text at r text′ → TextPut 8 (ascii (endName (endWithNumber n))) text at r text′
+  unfolding endWithNumber endName
   end-quiet n q P = rw (eq-eqb n 1 q) (put-most (omega arith) P)
 
-  pub end-repeated : (n : ℕ) → (n ≡ 1 → ⊥) → n ≡ 2 → Put 8 (ascii "repeated") text at r text′ → Put 8 (ascii (endName (endOf n))) text at r text′
-  unfolding endOf endName
+  pub end-repeated : (n : ℕ) → (n ≡ 1 → ⊥) → n ≡ 2 → TextPut 8 (ascii "repeated") text at r text′ → TextPut 8 (ascii (endName (endWithNumber n))) text at r text′
+  unfolding endWithNumber endName
   end-repeated n o q P = rw (ne-eqb n 1 o, eq-eqb n 2 q) P
 
-  pub end-full : (n : ℕ) → (n ≡ 1 → ⊥) → (n ≡ 2 → ⊥) → Put 4 (ascii "full") text at r text′ → Put 8 (ascii (endName (endOf n))) text at r text′
-  unfolding endOf endName
+  pub end-full : (n : ℕ) → (n ≡ 1 → ⊥) → (n ≡ 2 → ⊥) → TextPut 4 (ascii "full") text at r text′ → TextPut 8 (ascii (endName (endWithNumber n))) text at r text′
+  unfolding endWithNumber endName
   end-full n o q P = rw (ne-eqb n 1 o, ne-eqb n 2 q) (put-most (omega arith) P)
 
-pub end-back : (e : End) → endOf (endNumber e) ≡ e
-unfolding endOf endNumber
+pub end-back : (e : End) → endWithNumber (endNumber e) ≡ e
+unfolding endWithNumber endNumber
 end-back quiet = refl
 end-back repeated = refl
 end-back full = refl
@@ -132,10 +132,10 @@ module _ {h : Held} {es vs pool text : List ℕ} (P : Printable h es vs pool tex
       ((q ∙ sym (bytes-are 0 (h .k .0) (h .n) (h .m) es vs pool (P .within))) i)
 
   pub graph-put : (rewrites rounds end : ℕ) {b r₁ r₂ r₃ r₄ : ℕ} {t₁ t₂ t₃ t₄ : List ℕ} → b ≡ bytesIn (h .n) vs
-      → Put 87 (firstLine (h .k .0) (h .n) (h .m) b) text 0 r₁ t₁ → Put 51 (secondLine rewrites rounds (endOf end)) t₁ r₁ r₂ t₂
-      → Put (verticesMost (h .n) vs) (concat (tab (h .n) (λ (v : ℕ). vertexLine v (seqIn vs pool v)))) t₂ r₂ r₃ t₃
-      → Put (37 * h .m) (concat (tab (h .m) (λ (i : ℕ). edgeLine (edgeIn es i)))) t₃ r₃ r₄ t₄
-      → Put (graphMost h vs) (printedGraph (simplifiedIn h rewrites rounds end es vs pool)) text 0 r₄ t₄
+      → TextPut 87 (firstLine (h .k .0) (h .n) (h .m) b) text 0 r₁ t₁ → TextPut 51 (secondLine rewrites rounds (endWithNumber end)) t₁ r₁ r₂ t₂
+      → TextPut (verticesMost (h .n) vs) (concat (tab (h .n) (λ (v : ℕ). vertexLine v (seqIn vs pool v)))) t₂ r₂ r₃ t₃
+      → TextPut (37 * h .m) (concat (tab (h .m) (λ (i : ℕ). edgeLine (edgeIn es i)))) t₃ r₃ r₄ t₄
+      → TextPut (graphMost h vs) (printedGraph (simplifiedIn h rewrites rounds end es vs pool)) text 0 r₄ t₄
   unfolding printedGraph nodeCount
   graph-put rewrites rounds end q p₁ p₂ p₃ p₄ = put-most (omega arith)
       (put-then (put-then (put-then (put-as (first-is q) p₁) p₂) (put-as vertices-are p₃)) (put-as edges-are p₄))

@@ -11,12 +11,12 @@ use Rattle.memory.specs.Memory.{graphOf}
 use Rattle.memory.specs.declared.Held.{Held}
 
 -- the end that a number stands for: 1 quiet, 2 repeated, 3 full
-unfoldable pub endOf : ℕ → End
-endOf n = cond (eqb n 1) quiet (cond (eqb n 2) repeated full)
+unfoldable pub endWithNumber : ℕ → End
+endWithNumber n = cond (eqb n 1) quiet (cond (eqb n 2) repeated full)
 
 -- the simplification whose graph is held
 abbrev pub simplifiedIn : Held → ℕ → ℕ → ℕ → List ℕ → List ℕ → List ℕ → Simplified
-simplifiedIn h rewrites rounds end es vs p = record { graph = graphOf h es vs p; rewrites = rewrites; rounds = rounds; end = endOf end }
+simplifiedIn h rewrites rounds end es vs p = record { graph = graphOf h es vs p; rewrites = rewrites; rounds = rounds; end = endWithNumber end }
 
 -- how long a vertex's sequence is
 abbrev pub sizeIn : List ℕ → ℕ → ℕ
@@ -41,7 +41,7 @@ pub record VerticesFit (n : ℕ) (vs p text : List ℕ) (at : ℕ) : Type 0 wher
   pub small : n < 65536
   pub room : at + verticesMost n vs ≤ length text
 
-pub record EdgesFit (m : ℕ) (es text : List ℕ) (at : ℕ) : Type 0 where
+pub record EdgeLinesFit (m : ℕ) (es text : List ℕ) (at : ℕ) : Type 0 where
   pub es-room : 4 * m ≤ length es
   pub room : at + 37 * m ≤ length text
 

@@ -5,15 +5,15 @@ ghost use lib.ListN.{length};
 ghost use Rattle.defs.specs.Lists.{concat, tab};
 ghost use Rattle.store.specs.Store.{isSet, edgeIn, seqIn};
 ghost use Rattle.text.specs.Printed.{ascii, firstLine, endName, secondLine, vertexLine, edgeLine, printedGraph, printedRefusal};
-ghost use Rattle.text.specs.Put.{Put};
-ghost use Rattle.graph_text.specs.GraphText.{endOf, simplifiedIn, sizeIn, VertexFits, verticesMost, graphMost, VerticesFit, EdgesFit, Printable};
+ghost use Rattle.text.specs.Put.{TextPut};
+ghost use Rattle.graph_text.specs.GraphText.{endWithNumber, simplifiedIn, sizeIn, VertexFits, verticesMost, graphMost, VerticesFit, EdgeLinesFit, Printable};
 use kmer::KmerSize;
 use memory::Held;
 
 // k, the counts, and edges minus vertices.
 fn put_first_line(text: &mut [u8], k: KmerSize, n: usize, m: usize, b: usize) -> usize
     requires { ⌜ (87 ≤ length (now text)) × ((n < 65536) × ((m < 65536) × (b < 4294967296))) ⌝ }
-    ensures { λ r. ⌜ Put 87 (firstLine (k .0) n m b) (now (text .entry)) 0 r (now (text .exit)) ⌝ }
+    ensures { λ r. ⌜ TextPut 87 (firstLine (k .0) n m b) (now (text .entry)) 0 r (now (text .exit)) ⌝ }
 {
     let mut to = text::put_field(text, 0, b"k ", kmer::value(k) as u32);
     to = text::put_field(text, to, b" vertices ", n as u32);
@@ -27,7 +27,7 @@ fn put_first_line(text: &mut [u8], k: KmerSize, n: usize, m: usize, b: usize) ->
 // The name of an end: 1 quiet, 2 repeated, 3 full.
 fn put_end(text: &mut [u8], at: usize, end: u32) -> usize
     requires { ⌜ at + 8 ≤ length (now text) ⌝ }
-    ensures { λ r. ⌜ Put 8 (ascii (endName (endOf end))) (now (text .entry)) at r (now (text .exit)) ⌝ }
+    ensures { λ r. ⌜ TextPut 8 (ascii (endName (endWithNumber end))) (now (text .entry)) at r (now (text .exit)) ⌝ }
 {
     if end == 1 {
         return text::put_bytes(text, at, b"quiet");
@@ -40,7 +40,7 @@ fn put_end(text: &mut [u8], at: usize, end: u32) -> usize
 
 fn put_second_line(text: &mut [u8], at: usize, rewrites: u32, rounds: u32, end: u32) -> usize
     requires { ⌜ at + 51 ≤ length (now text) ⌝ }
-    ensures { λ r. ⌜ Put 51 (secondLine rewrites rounds (endOf end)) (now (text .entry)) at r (now (text .exit)) ⌝ }
+    ensures { λ r. ⌜ TextPut 51 (secondLine rewrites rounds (endWithNumber end)) (now (text .entry)) at r (now (text .exit)) ⌝ }
 {
     let mut to = text::put_field(text, at, b"rewrites ", rewrites);
     to = text::put_field(text, to, b" rounds ", rounds);
@@ -51,7 +51,7 @@ fn put_second_line(text: &mut [u8], at: usize, rewrites: u32, rounds: u32, end: 
 
 fn put_vertex(text: &mut [u8], at: usize, vs: &[u32], p: &[u8], v: u32) -> usize
     requires { ⌜ VertexFits (now vs) (now p) v (now text) at ⌝ }
-    ensures { λ r. ⌜ Put (15 + 4 * sizeIn (now (vs .entry)) v) (vertexLine v (seqIn (now (vs .entry)) (now (p .entry)) v))
+    ensures { λ r. ⌜ TextPut (15 + 4 * sizeIn (now (vs .entry)) v) (vertexLine v (seqIn (now (vs .entry)) (now (p .entry)) v))
         (now (text .entry)) at r (now (text .exit)) ⌝ }
 {
     let start = store::vertex_start(vs, v);
@@ -64,7 +64,7 @@ fn put_vertex(text: &mut [u8], at: usize, vs: &[u32], p: &[u8], v: u32) -> usize
 
 fn put_vertices(text: &mut [u8], at: usize, vs: &[u32], p: &[u8], n: usize) -> usize
     requires { ⌜ VerticesFit n (now vs) (now p) (now text) at ⌝ }
-    ensures { λ r. ⌜ Put (verticesMost n (now (vs .entry)))
+    ensures { λ r. ⌜ TextPut (verticesMost n (now (vs .entry)))
         (concat (tab n (λ v. vertexLine v (seqIn (now (vs .entry)) (now (p .entry)) v)))) (now (text .entry)) at r (now (text .exit)) ⌝ }
 {
     let mut to = at;
@@ -79,7 +79,7 @@ fn put_vertices(text: &mut [u8], at: usize, vs: &[u32], p: &[u8], n: usize) -> u
 // r for a reference edge, else -, and the line's end.
 fn put_flag(text: &mut [u8], at: usize, flag: u32) -> usize
     requires { ⌜ at + 3 ≤ length (now text) ⌝ }
-    ensures { λ r. ⌜ Put 3 (cond (isSet flag) (ascii " r\n") (ascii " -\n")) (now (text .entry)) at r (now (text .exit)) ⌝ }
+    ensures { λ r. ⌜ TextPut 3 (cond (isSet flag) (ascii " r\n") (ascii " -\n")) (now (text .entry)) at r (now (text .exit)) ⌝ }
 {
     if flag == 0 {
         return text::put_bytes(text, at, b" -\n");
@@ -89,7 +89,7 @@ fn put_flag(text: &mut [u8], at: usize, flag: u32) -> usize
 
 fn put_edge(text: &mut [u8], at: usize, es: &[u32], i: usize) -> usize
     requires { ⌜ (at + 37 ≤ length (now text)) × (4 * i + 4 ≤ length (now es)) ⌝ }
-    ensures { λ r. ⌜ Put 37 (edgeLine (edgeIn (now (es .entry)) i)) (now (text .entry)) at r (now (text .exit)) ⌝ }
+    ensures { λ r. ⌜ TextPut 37 (edgeLine (edgeIn (now (es .entry)) i)) (now (text .entry)) at r (now (text .exit)) ⌝ }
 {
     let mut to = text::put_field(text, at, b"e ", store::edge_from(es, i));
     to = text::put_field(text, to, b" ", store::edge_to(es, i));
@@ -98,8 +98,8 @@ fn put_edge(text: &mut [u8], at: usize, es: &[u32], i: usize) -> usize
 }
 
 fn put_edges(text: &mut [u8], at: usize, es: &[u32], m: usize) -> usize
-    requires { ⌜ EdgesFit m (now es) (now text) at ⌝ }
-    ensures { λ r. ⌜ Put (37 * m) (concat (tab m (λ i. edgeLine (edgeIn (now (es .entry)) i)))) (now (text .entry)) at r (now (text .exit)) ⌝ }
+    requires { ⌜ EdgeLinesFit m (now es) (now text) at ⌝ }
+    ensures { λ r. ⌜ TextPut (37 * m) (concat (tab m (λ i. edgeLine (edgeIn (now (es .entry)) i)))) (now (text .entry)) at r (now (text .exit)) ⌝ }
 {
     let mut to = at;
     let mut i = 0;
@@ -122,7 +122,7 @@ pub fn put_graph(
     p: &[u8],
 ) -> usize
     requires { ⌜ Printable held (now es) (now vs) (now p) (now text) ⌝ }
-    ensures { λ r. ⌜ Put (graphMost held (now (vs .entry)))
+    ensures { λ r. ⌜ TextPut (graphMost held (now (vs .entry)))
         (printedGraph (simplifiedIn held rewrites rounds end (now (es .entry)) (now (vs .entry)) (now (p .entry)))) (now (text .entry)) 0 r
         (now (text .exit)) ⌝ }
 {
@@ -137,7 +137,7 @@ pub fn put_graph(
 
 pub fn put_refusal(text: &mut [u8], number: u32) -> usize
     requires { ⌜ 19 ≤ length (now text) ⌝ }
-    ensures { λ r. ⌜ Put 19 (printedRefusal number) (now (text .entry)) 0 r (now (text .exit)) ⌝ }
+    ensures { λ r. ⌜ TextPut 19 (printedRefusal number) (now (text .entry)) 0 r (now (text .exit)) ⌝ }
 {
     let to = text::put_field(text, 0, b"refused ", number);
     text::put_bytes(text, to, b"\n")

@@ -13,7 +13,7 @@ use lib.Seq.{getD-set-same, getD-set-other}
 use lib.Dec.{eqb}
 use borrow.Author.Tests.{eq-eqb, ne-eqb}
 use Rattle.defs.specs.Lists.{tabFrom, keepIf, allOf}
-use Rattle.index.specs.Index.{atFrom, edgesAt, Next, Index}
+use Rattle.index.specs.Index.{atFrom, incidentEdges, Next, Index}
 
 module _ (f : ℕ → ℕ) (m v : ℕ) where
   -- an edge at v is the first of what is left
@@ -53,7 +53,7 @@ pub at-step : (f : ℕ → ℕ) (m n : ℕ) (head next : ℕ → ℕ) (v e : ℕ
 at-step f m n head next v e I h q =
     at-hit f m v e h q ∙ ap (λ (r : List ℕ). e ∷ r) (at-next f m v (e + 1) (next e) (rw q at (I .nexts e h)))
 
-pub at-head : (f : ℕ → ℕ) (m n : ℕ) (head next : ℕ → ℕ) (v : ℕ) → Index f m n head next → v < n → edgesAt f m v ≡ atFrom f m v (head v)
+pub at-head : (f : ℕ → ℕ) (m n : ℕ) (head next : ℕ → ℕ) (v : ℕ) → Index f m n head next → v < n → incidentEdges f m v ≡ atFrom f m v (head v)
 at-head f m n head next v I h = at-next f m v 0 (head v) (I .heads v h)
 
 -- ---- building the index from the back: it is right from number k on
@@ -103,14 +103,14 @@ module _ {f : ℕ → ℕ} {m n : ℕ} where
   }
 
 -- ---- following the index from v's first edge: d edges are passed, and e is the next
-pub record Walked (f : ℕ → ℕ) (m v d e : ℕ) : Type 0 where
+pub record ListWalked (f : ℕ → ℕ) (m v d e : ℕ) : Type 0 where
   pub low : d ≤ e
   pub high : e ≤ m
   pub hit : e < m → f e ≡ v
-  pub left : d + length (atFrom f m v e) ≡ length (edgesAt f m v)
+  pub left : d + length (atFrom f m v e) ≡ length (incidentEdges f m v)
 
 module _ {f : ℕ → ℕ} {m n : ℕ} {head next : ℕ → ℕ} {v : ℕ} (I : Index f m n head next) where
-  pub walked-start : v < n → Walked f m v 0 (head v)
+  pub walked-start : v < n → ListWalked f m v 0 (head v)
   walked-start h = let N = I .heads v h in record {
     low = omega arith;
     high = N .high;
@@ -119,7 +119,7 @@ module _ {f : ℕ → ℕ} {m n : ℕ} {head next : ℕ → ℕ} {v : ℕ} (I : 
         omega (arith, ap length (at-head f m n head next v I h));
   }
 
-  pub walked-more : {d e : ℕ} → Walked f m v d e → e < m → Walked f m v (d + 1) (next e)
+  pub walked-more : {d e : ℕ} → ListWalked f m v d e → e < m → ListWalked f m v (d + 1) (next e)
   walked-more {d} {e} W h = let N = I .nexts e h in record {
     low = omega (arith, N .low);
     high = N .high;
@@ -127,14 +127,14 @@ module _ {f : ℕ → ℕ} {m n : ℕ} {head next : ℕ → ℕ} {v : ℕ} (I : 
     left = omega (arith, W .left, ap length (at-step f m n head next v e I h (W .hit h)));
   }
 
-  pub walked-end : {d e : ℕ} → Walked f m v d e → m ≤ e → d ≡ length (edgesAt f m v)
+  pub walked-end : {d e : ℕ} → ListWalked f m v d e → m ≤ e → d ≡ length (incidentEdges f m v)
   walked-end {d} {e} W h = omega (arith, W .left, ap length (at-end f m v e h))
 
 -- ---- a test of all edges at v, by the index: it is what is left from e on
 pub record Testing (f : ℕ → ℕ) (m v : ℕ) (p : ℕ → Bool) (e : ℕ) : Type 0 where
   pub high : e ≤ m
   pub hit : e < m → f e ≡ v
-  pub left : allOf p (edgesAt f m v) ≡ allOf p (atFrom f m v e)
+  pub left : allOf p (incidentEdges f m v) ≡ allOf p (atFrom f m v e)
 
 module _ {f : ℕ → ℕ} {m n : ℕ} {head next : ℕ → ℕ} {v : ℕ} (I : Index f m n head next) (p : ℕ → Bool) where
   pub testing-start : v < n → Testing f m v p (head v)
@@ -148,10 +148,10 @@ module _ {f : ℕ → ℕ} {m n : ℕ} {head next : ℕ → ℕ} {v : ℕ} (I : 
     left = W .left ∙ ap (allOf p) (at-step f m n head next v e I h (W .hit h)) ∙ rw q;
   }
 
-  pub testing-fails : {e : ℕ} → Testing f m v p e → e < m → p e ≡ false → false ≡ allOf p (edgesAt f m v)
+  pub testing-fails : {e : ℕ} → Testing f m v p e → e < m → p e ≡ false → false ≡ allOf p (incidentEdges f m v)
   unfolding allOf
   testing-fails {e} W h q = sym (W .left ∙ ap (allOf p) (at-step f m n head next v e I h (W .hit h)) ∙ rw q)
 
-  pub testing-end : {e : ℕ} → Testing f m v p e → m ≤ e → true ≡ allOf p (edgesAt f m v)
+  pub testing-end : {e : ℕ} → Testing f m v p e → m ≤ e → true ≡ allOf p (incidentEdges f m v)
   unfolding allOf
   testing-end {e} W h = sym (W .left ∙ ap (allOf p) (at-end f m v e h))

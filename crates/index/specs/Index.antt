@@ -9,8 +9,8 @@ use Rattle.defs.specs.SeqGraph.{Edge}
 use Rattle.store.specs.Store.{numsIn, EndsBelow}
 
 -- the end `off` of edge e: 0 from, 1 to
-abbrev pub endOf : ℕ → List ℕ → ℕ → ℕ
-endOf off es e = getD es (4 * e + off) 0
+abbrev pub edgeEnd : ℕ → List ℕ → ℕ → ℕ
+edgeEnd off es e = getD es (4 * e + off) 0
 
 -- the same of an edge by itself
 unfoldable pub endAt : ℕ → Edge → ℕ
@@ -22,8 +22,8 @@ abbrev pub atFrom : (ℕ → ℕ) → ℕ → ℕ → ℕ → List ℕ
 atFrom f m v k = keepIf (λ (e : ℕ). eqb (f e) v) (tabFrom k (m - k) (λ (e : ℕ). e))
 
 -- the numbers of the edges at v
-abbrev pub edgesAt : (ℕ → ℕ) → ℕ → ℕ → List ℕ
-edgesAt f m v = atFrom f m v 0
+abbrev pub incidentEdges : (ℕ → ℕ) → ℕ → ℕ → List ℕ
+incidentEdges f m v = atFrom f m v 0
 
 -- e is the number of the first edge at v from number k on, or m
 pub record Next (f : ℕ → ℕ) (m v k e : ℕ) : Type 0 where
@@ -47,7 +47,7 @@ pub record Indexed (m n : ℕ) (es heads nexts : List ℕ) : Type 0 where
   pub heads-room : 2 * n ≤ length heads
   pub nexts-room : 2 * m ≤ length nexts
   pub ends : EndsBelow n m es
-  pub index : (off : ℕ) → off ≤ 1 → Index (endOf off es) m n (pairAt off heads) (pairAt off nexts)
+  pub index : (off : ℕ) → off ≤ 1 → Index (edgeEnd off es) m n (pairAt off heads) (pairAt off nexts)
 
 -- what building an index asks
 pub record Indexable (m n : ℕ) (es heads nexts : List ℕ) : Type 0 where
@@ -60,4 +60,4 @@ pub record Indexable (m n : ℕ) (es heads nexts : List ℕ) : Type 0 where
 -- the first r numbers of out are the other ends of the edges at v
 pub record Collected (off m : ℕ) (es : List ℕ) (v r : ℕ) (out : List ℕ) : Type 0 where
   pub most : r ≤ m
-  pub is : numsIn r out ≡ map (endOf (1 - off) es) (edgesAt (endOf off es) m v)
+  pub is : numsIn r out ≡ map (edgeEnd (1 - off) es) (incidentEdges (edgeEnd off es) m v)

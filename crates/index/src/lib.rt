@@ -6,7 +6,7 @@ ghost use mathlib.Core.Path.{_≡_};
 ghost use Prim.Native.Nat.{ℕ, _+_, _*_, _<_, _≤_};
 ghost use lib.ListN.{length, getD};
 ghost use lib.Dec.{eqb, ltb};
-ghost use Rattle.index.specs.Index.{Indexable, Indexed, Collected, endOf, edgesAt};
+ghost use Rattle.index.specs.Index.{Indexable, Indexed, Collected, edgeEnd, incidentEdges};
 
 pub fn build_index(es: &[u32], m: usize, n: usize, heads: &mut [u32], nexts: &mut [u32])
     requires { ⌜ Indexable m n (now es) (now heads) (now nexts) ⌝ }
@@ -36,7 +36,7 @@ pub fn degree(
     v: usize,
 ) -> usize
     requires { ⌜ (v < n) × ((off ≤ 1) × Indexed m n (now es) (now heads) (now nexts)) ⌝ }
-    ensures { λ r. ⌜ r ≡ length (edgesAt (endOf off (now (es .entry))) m v) ⌝ }
+    ensures { λ r. ⌜ r ≡ length (incidentEdges (edgeEnd off (now (es .entry))) m v) ⌝ }
 {
     let mut d = 0;
     let mut e = heads[2 * v + off] as usize;
@@ -82,7 +82,7 @@ pub fn has_one(
     v: usize,
 ) -> bool
     requires { ⌜ (v < n) × ((off ≤ 1) × Indexed m n (now es) (now heads) (now nexts)) ⌝ }
-    ensures { λ r. ⌜ r ≡ eqb (length (edgesAt (endOf off (now (es .entry))) m v)) 1 ⌝ }
+    ensures { λ r. ⌜ r ≡ eqb (length (incidentEdges (edgeEnd off (now (es .entry))) m v)) 1 ⌝ }
 {
     let e = heads[2 * v + off] as usize;
     if m <= e {
@@ -102,7 +102,7 @@ pub fn has_several(
     v: usize,
 ) -> bool
     requires { ⌜ (v < n) × ((off ≤ 1) × Indexed m n (now es) (now heads) (now nexts)) ⌝ }
-    ensures { λ r. ⌜ r ≡ ltb 1 (length (edgesAt (endOf off (now (es .entry))) m v)) ⌝ }
+    ensures { λ r. ⌜ r ≡ ltb 1 (length (incidentEdges (edgeEnd off (now (es .entry))) m v)) ⌝ }
 {
     let e = heads[2 * v + off] as usize;
     if m <= e {

@@ -122,7 +122,7 @@ zip-paid w h = starts-paid (length (keepIf (isLinearChainStart (w .graph)) (upFr
     (keepIf (isLinearChainStart (w .graph)) (upFrom 0 (nodeCount (w .graph)))) w h
 
 -- a round: what it takes from the weight, and twice the weight
-pub record Within (extra : ℕ) (g : Graph) (rewrites : ℕ) (g′ : Graph) (count′ : ℕ) : Type 0 where
+pub record RoundWithin (extra : ℕ) (g : Graph) (rewrites : ℕ) (g′ : Graph) (count′ : ℕ) : Type 0 where
   pub tame : Tame g g′
   pub within : count′ + weight g′ ≤ rewrites + weight g + extra
 
@@ -131,7 +131,7 @@ round-sum : (c₀ n₀ c₁ n₁ c₂ n₂ v₂ c₃ n₃ v₃ c₄ v₄ c₅ v�
     → n₂ ≤ n₀ → v₃ ≤ n₃ → c₄ + v₄ ≤ c₃ + v₃ → c₅ + v₅ ≤ c₄ + v₄ → n₅ ≤ n₃ → c₅ + n₅ ≤ c₀ + n₀ + 2 * n₀
 round-sum c₀ n₀ c₁ n₁ c₂ n₂ v₂ c₃ n₃ v₃ c₄ v₄ c₅ v₅ n₅ a b d e f h i j k = omega arith
 
-pub round-within : (least : ℕ) → 3 < least → (w : Work) → Good (w .graph) → Within
+pub round-within : (least : ℕ) → 3 < least → (w : Work) → Good (w .graph) → RoundWithin
     (2 * weight (w .graph)) (w .graph) (w .rewrites) ((simplifyGraphOnce least w) .graph) ((simplifyGraphOnce least w) .rewrites)
 unfolding simplifyGraphOnce
 round-within least pos w h =
@@ -175,12 +175,12 @@ rounds-turn P least remaining n sig w p q = byTest (eqb ((simplifyGraphOnce leas
     (λ e. rw (t, roundsFrom) (rw s (rw e (q (suc n) (graphTopologySignature ((simplifyGraphOnce least w) .graph))))))))
 
 abbrev Bounds : ℕ → ℕ → Work → Graph → ℕ → Type 0
-Bounds top remaining w g′ count′ = Within (remaining * (2 * top)) (w .graph) (w .rewrites) g′ count′
+Bounds top remaining w g′ count′ = RoundWithin (remaining * (2 * top)) (w .graph) (w .rewrites) g′ count′
 
-within-more : {x y : ℕ} {g : Graph} {c : ℕ} {g′ : Graph} {c′ : ℕ} → x ≤ y → Within x g c g′ c′ → Within y g c g′ c′
+within-more : {x y : ℕ} {g : Graph} {c : ℕ} {g′ : Graph} {c′ : ℕ} → x ≤ y → RoundWithin x g c g′ c′ → RoundWithin y g c g′ c′
 within-more h k = record { tame = k .tame; within = omega (arith, k .within) }
 
-within-then : {x y : ℕ} {a : Graph} {i : ℕ} {b : Graph} {j : ℕ} {c : Graph} {k : ℕ} → Within x a i b j → Within y b j c k → Within (x + y) a i c k
+within-then : {x y : ℕ} {a : Graph} {i : ℕ} {b : Graph} {j : ℕ} {c : Graph} {k : ℕ} → RoundWithin x a i b j → RoundWithin y b j c k → RoundWithin (x + y) a i c k
 within-then h k = record { tame = tame-then (h .tame) (k .tame); within = omega (arith, h .within, k .within) }
 
 within-none : (w : Work) (top : ℕ) → Good (w .graph) → Bounds top 0 w (w .graph) (w .rewrites)

@@ -122,17 +122,17 @@ count-cons : (p : Edge → Bool) (e : Edge) (es : List Edge) → length (keepIf 
 unfolding bit
 count-cons p e es = byTest (p e) (λ t. rw (keepIf-yes p e es t, t) (omega arith)) (λ t. rw (keepIf-no p e es t, t) (omega arith))
 
-abbrev redirectedFrom : List Edge → ℕ → ℕ
-redirectedFrom es v = length (keepIf (λ (e : Edge). eqb (e .from) v) es)
+abbrev leavingCount : List Edge → ℕ → ℕ
+leavingCount es v = length (keepIf (λ (e : Edge). eqb (e .from) v) es)
 
-leave-all : (es : List Edge) (n : ℕ) → ((e : Edge) → List·Memᴰ e es → e .from < n) → sumTo (redirectedFrom es) n ≡ length es
+leave-all : (es : List Edge) (n : ℕ) → ((e : Edge) → List·Memᴰ e es → e .from < n) → sumTo (leavingCount es) n ≡ length es
 unfolding keepIf
-leave-all [] n k = sum-zero (redirectedFrom []) n (λ v h. refl)
+leave-all [] n k = sum-zero (leavingCount []) n (λ v h. refl)
 leave-all (e ∷ es) n k =
     omega (
       arith,
-      sum-same (redirectedFrom (e ∷ es)) (λ v. bit (eqb (e .from) v) + redirectedFrom es v) n (λ v h. count-cons (λ (x : Edge). eqb (x .from) v) e es),
-      sum-add (λ v. bit (eqb (e .from) v)) (redirectedFrom es) n,
+      sum-same (leavingCount (e ∷ es)) (λ v. bit (eqb (e .from) v) + leavingCount es v) n (λ v h. count-cons (λ (x : Edge). eqb (x .from) v) e es),
+      sum-add (λ v. bit (eqb (e .from) v)) (leavingCount es) n,
       sum-one (e .from) n (k e (List·Memᴰ·head refl)),
       leave-all es n (λ x m. k x (List·Memᴰ·tail m)),
     )
@@ -167,7 +167,7 @@ module _ (p : ℕ → Bool) (g : Graph) where
   abbrev both : Edge → Bool
   both e = p (e .from) && p (e .to)
 
-  fewer : (v : ℕ) → p v ≡ true → (es : List Edge) → redirectedFrom (map (remapEdge p) (keepIf both es)) (rank p v) ≤ redirectedFrom es v
+  fewer : (v : ℕ) → p v ≡ true → (es : List Edge) → leavingCount (map (remapEdge p) (keepIf both es)) (rank p v) ≤ leavingCount es v
   unfolding keepIf
   fewer v t [] = omega arith
   fewer v t (e ∷ es) = byTest (both e)

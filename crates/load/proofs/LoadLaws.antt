@@ -22,8 +22,8 @@ use Rattle.memory.specs.declared.Held.{Held}
 use Rattle.load.specs.Loaded.{EdgesRead, VerticesRead, BytesRead, Loaded}
 
 -- a record's edges can be read
-pub edge-inside : {bs : List ℕ} → WellFormed bs → (i : ℕ) → i < edgesOf bs → edgeStart bs i + 9 ≤ length bs
-edge-inside {bs} W i h = omega (arith, length-is bs W, edgeStart-is bs i)
+pub record-edge-inside : {bs : List ℕ} → WellFormed bs → (i : ℕ) → i < edgesOf bs → edgeStart bs i + 9 ≤ length bs
+record-edge-inside {bs} W i h = omega (arith, length-is bs W, edgeStart-is bs i)
 
 pub length-inside : {bs : List ℕ} → WellFormed bs → (i : ℕ) → i < verticesOf bs → 34 + 2 * i ≤ length bs
 length-inside {bs} W i h = omega (arith, length-is bs W)

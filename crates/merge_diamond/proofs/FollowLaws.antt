@@ -15,7 +15,7 @@ use Rattle.tabs.proofs.SumTabs.{map-tab}
 use Rattle.store.specs.Store.{seqIn, seqsIn, numsIn, EndsBelow}
 use Rattle.store.proofs.VertexLaws.{part-long}
 use Rattle.compact.specs.Compact.{Below}
-use Rattle.index.specs.Index.{Index, endOf, edgesAt, atFrom, pairAt, Indexed, Collected}
+use Rattle.index.specs.Index.{Index, edgeEnd, incidentEdges, atFrom, pairAt, Indexed, Collected}
 use Rattle.index.proofs.AdjLaws.{at-head, at-step, at-end}
 use Rattle.index.proofs.IndexLaws.{outgoing-is}
 use Rattle.memory.specs.Memory.{graphOf, Room, Holds}
@@ -23,8 +23,8 @@ use Rattle.memory.specs.declared.Held.{Held}
 use Rattle.memory.proofs.RoomLaws.{held-vertices, held-edges, held-ends}
 use Rattle.shared.specs.Shared.{Parts, startAt, lenAt, seqsAt, Prefix, Suffix}
 use Rattle.shared.proofs.SharedLoops.{in-pool}
-use Rattle.split_update.specs.Split.{Middle, prefixAt, suffixAt, splitChange, Splittable}
-use Rattle.merge_diamond.proofs.GrownLaws.{Grown}
+use Rattle.split_and_update.specs.Split.{Middle, prefixAt, suffixAt, updateChange, Splittable}
+use Rattle.merge_diamond.proofs.GrownLaws.{GraphGrown}
 
 pub record Follows (h : Held) (es vs p heads nexts nodes mp : List ℕ) (top c : ℕ) : Type 0 where
   pub room : Room es vs p heads nexts nodes mp
@@ -56,7 +56,7 @@ module _ {h : Held} {es vs p heads nexts nodes₀ mp : List ℕ} {top : ℕ} (R 
     found = C;
   }
 
-at-below : (off m : ℕ) (es : List ℕ) (v e : ℕ) → List·Memᴰ e (edgesAt (endOf off es) m v) → e < m
+at-below : (off m : ℕ) (es : List ℕ) (v e : ℕ) → List·Memᴰ e (incidentEdges (edgeEnd off es) m v) → e < m
 at-below off m es v e k = let b = of-mem-tab (m - 0) (λ (x : ℕ). x) (of-keepIf _ _ k .0) in omega (arith, b .1, b .2)
 
 first-below : (n : ℕ) (f : ℕ → ℕ) (l : List ℕ) → 0 < n → ((e : ℕ) → List·Memᴰ e l → f e < n) → headOr 0 (map f l) < n
@@ -82,12 +82,12 @@ module _ {h : Held} {es vs p heads nexts nodes mp : List ℕ} {top c : ℕ} (F :
 
   below : (i : ℕ) → i < c → getD nodes i 0 < n
   below i b =
-      let a = Memᴰ·of-map (endOf 1 es) (edgesAt (endOf 0 es) m top) (subst (λ (l : List ℕ). List·Memᴰ (getD nodes i 0) l) (F .found .is)
+      let a = Memᴰ·of-map (edgeEnd 1 es) (incidentEdges (edgeEnd 0 es) m top) (subst (λ (l : List ℕ). List·Memᴰ (getD nodes i 0) l) (F .found .is)
       (mem-tab c (λ (j : ℕ). getD nodes j 0) i b)) in
       omega (arith, ends .at (a .0) (at-below 0 m es top (a .0) (a .1)) .1, a .2)
 
-  pub bottom-below : (v : ℕ) → headOr 0 (map (endOf 1 es) (edgesAt (endOf 0 es) m v)) < n
-  bottom-below v = first-below n (endOf 1 es) (edgesAt (endOf 0 es) m v) (omega (arith, F .top-old)) (λ e k. ends .at e (at-below 0 m es v e k) .1)
+  pub bottom-below : (v : ℕ) → headOr 0 (map (edgeEnd 1 es) (incidentEdges (edgeEnd 0 es) m v)) < n
+  bottom-below v = first-below n (edgeEnd 1 es) (incidentEdges (edgeEnd 0 es) m v) (omega (arith, F .top-old)) (λ e k. ends .at e (at-below 0 m es v e k) .1)
 
   pub nodes-below : Below nodes c n
   nodes-below = record { room = omega (arith, F .found .most, held-edges (F .holds), F .room .nodes-room); at = below }
@@ -105,16 +105,16 @@ module _ {h : Held} {es vs p heads nexts nodes mp : List ℕ} {top c : ℕ} (F :
   }
 
   -- one edge in: the index has it
-  middle : (v : ℕ) → v < n → length (edgesAt (endOf 1 es) m v) ≡ 1 → Middle m es heads v
+  middle : (v : ℕ) → v < n → length (incidentEdges (edgeEnd 1 es) m v) ≡ 1 → Middle m es heads v
   middle v b one = record {
     first = here;
     into = into ∙ ap (λ (l : List ℕ). e₁ ∷ l) rest;
     out = λ k. (
-      atFrom (endOf 0 es) m v (pairAt 0 nexts e₀),
-      at-head (endOf 0 es) m n (pairAt 0 heads) (pairAt 0 nexts) v I₀ b
-          ∙ at-step (endOf 0 es) m n (pairAt 0 heads) (pairAt 0 nexts) v e₀ I₀ k (I₀ .heads v b .hit k),
+      atFrom (edgeEnd 0 es) m v (pairAt 0 nexts e₀),
+      at-head (edgeEnd 0 es) m n (pairAt 0 heads) (pairAt 0 nexts) v I₀ b
+          ∙ at-step (edgeEnd 0 es) m n (pairAt 0 heads) (pairAt 0 nexts) v e₀ I₀ k (I₀ .heads v b .hit k),
     );
-    end = λ k. at-head (endOf 0 es) m n (pairAt 0 heads) (pairAt 0 nexts) v I₀ b ∙ at-end (endOf 0 es) m v e₀ k;
+    end = λ k. at-head (edgeEnd 0 es) m n (pairAt 0 heads) (pairAt 0 nexts) v I₀ b ∙ at-end (edgeEnd 0 es) m v e₀ k;
   }
     where
       e₀ : ℕ
@@ -123,27 +123,27 @@ module _ {h : Held} {es vs p heads nexts nodes mp : List ℕ} {top c : ℕ} (F :
       e₁ : ℕ
       e₁ = pairAt 1 heads v
 
-      I₀ : Index (endOf 0 es) m n (pairAt 0 heads) (pairAt 0 nexts)
+      I₀ : Index (edgeEnd 0 es) m n (pairAt 0 heads) (pairAt 0 nexts)
       I₀ = F .index .index 0 (omega arith)
 
-      I₁ : Index (endOf 1 es) m n (pairAt 1 heads) (pairAt 1 nexts)
+      I₁ : Index (edgeEnd 1 es) m n (pairAt 1 heads) (pairAt 1 nexts)
       I₁ = F .index .index 1 (omega arith)
 
-      from : edgesAt (endOf 1 es) m v ≡ atFrom (endOf 1 es) m v e₁
-      from = at-head (endOf 1 es) m n (pairAt 1 heads) (pairAt 1 nexts) v I₁ b
+      from : incidentEdges (edgeEnd 1 es) m v ≡ atFrom (edgeEnd 1 es) m v e₁
+      from = at-head (edgeEnd 1 es) m n (pairAt 1 heads) (pairAt 1 nexts) v I₁ b
 
       here : e₁ < m
-      here = byOrder m e₁ (λ (k : m ≤ e₁). absurd (omega (arith, one, ap length from, ap length (at-end (endOf 1 es) m v e₁ k)))) (λ (k : e₁ < m). k)
+      here = byOrder m e₁ (λ (k : m ≤ e₁). absurd (omega (arith, one, ap length from, ap length (at-end (edgeEnd 1 es) m v e₁ k)))) (λ (k : e₁ < m). k)
 
-      into : edgesAt (endOf 1 es) m v ≡ e₁ ∷ atFrom (endOf 1 es) m v (pairAt 1 nexts e₁)
-      into = from ∙ at-step (endOf 1 es) m n (pairAt 1 heads) (pairAt 1 nexts) v e₁ I₁ here (I₁ .heads v b .hit here)
+      into : incidentEdges (edgeEnd 1 es) m v ≡ e₁ ∷ atFrom (edgeEnd 1 es) m v (pairAt 1 nexts e₁)
+      into = from ∙ at-step (edgeEnd 1 es) m n (pairAt 1 heads) (pairAt 1 nexts) v e₁ I₁ here (I₁ .heads v b .hit here)
 
       none-left : (l : List ℕ) → length l ≡ 0 → l ≡ []
       none-left [] z = refl
       none-left (x ∷ l) z = absurd (omega arith)
 
-      rest : atFrom (endOf 1 es) m v (pairAt 1 nexts e₁) ≡ []
-      rest = none-left (atFrom (endOf 1 es) m v (pairAt 1 nexts e₁)) (omega (arith, one, ap length into))
+      rest : atFrom (edgeEnd 1 es) m v (pairAt 1 nexts e₁) ≡ []
+      rest = none-left (atFrom (edgeEnd 1 es) m v (pairAt 1 nexts e₁)) (omega (arith, one, ap length into))
 
   seqs-are : map (vertexSequence g) (numsIn c nodes) ≡ seqsAt vs p nodes c
   unfolding vertexSequence
@@ -170,8 +170,8 @@ module _ {h : Held} {es vs p heads nexts nodes mp : List ℕ} {top c : ℕ} (F :
     suffix-is = (λ i. commonSuffix (map (drop ((ap length prefix-is ∙ length-prefix) i)) (seqs-are i))) ∙ Y .is
 
     pub splittable : (bottom : ℕ) (ends? : Bool) (g′ : Graph) → bottom < n → (ends? ≡ false → bottom ≡ 0) → 0 < x + y
-        → ((i : ℕ) → i < c → length (edgesAt (endOf 1 es) m (getD nodes i 0)) ≡ 1)
-        → Grown g (splitChange g top ends? bottom vs p nodes c x y) g′ heads nexts → Splittable h es vs p heads nodes c mp top bottom ends? x y
+        → ((i : ℕ) → i < c → length (incidentEdges (edgeEnd 1 es) m (getD nodes i 0)) ≡ 1)
+        → GraphGrown g (updateChange g top ends? bottom vs p nodes c x y) g′ heads nexts → Splittable h es vs p heads nodes c mp top bottom ends? x y
     splittable bottom ends? g′ b z some one G = record {
       parts = parts s;
       middles = λ i k. middle (getD nodes i 0) (below i k) (one i k);
@@ -190,7 +190,7 @@ module _ {h : Held} {es vs p heads nexts nodes mp : List ℕ} {top c : ℕ} (F :
       small = omega (arith, G .vertices, F .found .most, held-edges (F .holds), F .room .vertices-edges, F .room .small);
     }
 
-  pub bottom-first : {b : ℕ} → b ≡ headOr 0 (map (endOf 1 es) (edgesAt (endOf 0 es) m (getD nodes 0 0))) → b < n
+  pub bottom-first : {b : ℕ} → b ≡ headOr 0 (map (edgeEnd 1 es) (incidentEdges (edgeEnd 0 es) m (getD nodes 0 0))) → b < n
   bottom-first q = omega (arith, bottom-below (getD nodes 0 0))
 
   pub sum-small : {x y : ℕ} → 1 ≤ c → Suffix vs p nodes x c y → x + y < 4294967296

@@ -24,7 +24,7 @@ use Rattle.memory.specs.Memory.{vertexRoom, edgeRoom, Fit}
 use Rattle.memory.proofs.RoomLaws.{fit-vertices, fit-edges, fit-tame}
 
 -- g and its change fit: all the vertices and edges before any go, and those of g′
-pub record Grown (g : Graph) (c : Change) (g′ : Graph) (heads nexts : List ℕ) : Type 0 where
+pub record GraphGrown (g : Graph) (c : Change) (g′ : Graph) (heads nexts : List ℕ) : Type 0 where
   pub vertices : nodeCount (withAdditions c g) ≤ 2 * vertexRoom heads
   pub edges : length ((withAdditions c g) .edges) ≤ 2 * edgeRoom nexts
   pub fit : Fit g′ heads nexts
@@ -79,14 +79,14 @@ tails-within least pos g g′ top (sound, once) did =
     (z .1, z .2)
 
 pub diamond-grown : {g : Graph} {heads nexts : List ℕ} → Fit g heads nexts → (g′ : Graph) (top : ℕ) → tryMergeDiamond g top ≡ some g′
-    → Grown g (diamondChange g top) g′ heads nexts
+    → GraphGrown g (diamondChange g top) g′ heads nexts
 diamond-grown {g} F g′ top did =
     let t = fit-tame F ((diamond-tame g g′ top (F .good) did) .0) in
     let z = diamond-within g g′ top (F .good) did in
     record { vertices = omega (arith, fit-vertices F, fit-vertices t, z .0); edges = omega (arith, fit-edges F, fit-edges t, z .1); fit = t }
 
 pub tails-grown : (least : ℕ) → 3 < least → {g : Graph} {heads nexts : List ℕ} → Fit g heads nexts → (g′ : Graph) (top : ℕ)
-    → tryMergeTails least g top ≡ some g′ → Grown g (tailsChange g top) g′ heads nexts
+    → tryMergeTails least g top ≡ some g′ → GraphGrown g (tailsChange g top) g′ heads nexts
 tails-grown least pos {g} F g′ top did =
     let t = fit-tame F ((tails-tame least pos g g′ top (F .good) did) .0) in
     let z = tails-within least (omega arith) g g′ top (F .good) did in

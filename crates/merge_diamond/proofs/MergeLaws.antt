@@ -18,7 +18,7 @@ use Rattle.laws.proofs.Diamonds.{nonEmpty-yes}
 use Rattle.tabs.proofs.Tabs.{length-tab}
 use Rattle.tabs.proofs.ListTabs.{mem-tab, head-tab}
 use Rattle.store.specs.Store.{numsIn}
-use Rattle.index.specs.Index.{endOf, edgesAt, Indexed}
+use Rattle.index.specs.Index.{edgeEnd, incidentEdges, Indexed}
 use Rattle.index.proofs.AdjLaws.{at-head, at-step, at-end}
 use Rattle.index.proofs.IndexLaws.{outgoing-is, in-degree-is, pair-first}
 use Rattle.memory.specs.Memory.{graphOf, Holds, Left}
@@ -26,10 +26,10 @@ use Rattle.memory.specs.declared.Held.{Held}
 use Rattle.memory.specs.declared.Tried.{Tried}
 use Rattle.shared.specs.Shared.{Prefix, Suffix}
 use Rattle.diamond.specs.Diamond.{Diamond, Tails}
-use Rattle.split_update.specs.Split.{prefixAt, suffixAt, bottomIf, splitChange, Splittable, SplitDone}
-use Rattle.split_update.proofs.PushLaws.{nonEmpty-no}
+use Rattle.split_and_update.specs.Split.{prefixAt, suffixAt, bottomIf, updateChange, Splittable, SplitDone}
+use Rattle.split_and_update.proofs.PushLaws.{nonEmpty-no}
 use Rattle.merge_diamond.specs.Answer.{notMerged, hasMerged}
-use Rattle.merge_diamond.proofs.GrownLaws.{Grown, diamond-grown, tails-grown}
+use Rattle.merge_diamond.proofs.GrownLaws.{GraphGrown, diamond-grown, tails-grown}
 use Rattle.merge_diamond.proofs.FollowLaws.{Follows, nodes-are, bottom-below, length-prefix, length-suffix, prefix-is, suffix-is, splittable}
 
 -- ---- the first edge out of v
@@ -38,23 +38,23 @@ module _ {m n : ℕ} {es heads nexts : List ℕ} (I : Indexed m n es heads nexts
   head-is : getD heads (2 * v) 0 ≡ getD heads (2 * v + 0) 0
   head-is = pair-first heads v
 
-  pub follower-there : {e : ℕ} → e ≡ getD heads (2 * v) 0 → e < m → getD es (4 * e + 1) 0 ≡ headOr 0 (map (endOf 1 es) (edgesAt (endOf 0 es) m v))
+  pub follower-there : {e : ℕ} → e ≡ getD heads (2 * v) 0 → e < m → getD es (4 * e + 1) 0 ≡ headOr 0 (map (edgeEnd 1 es) (incidentEdges (edgeEnd 0 es) m v))
   unfolding headOr
   follower-there {e} q k =
       let z : e ≡ getD heads (2 * v + 0) 0 = q ∙ head-is in
       let J = I .index 0 (omega arith) in
       let k′ : getD heads (2 * v + 0) 0 < m = omega arith in
       ap (λ (x : ℕ). getD es (4 * x + 1) 0) z
-      ∙ sym (ap (λ (l : List ℕ). headOr 0 (map (endOf 1 es) l)) (at-head (endOf 0 es) m n _ _ v J b
-      ∙ at-step (endOf 0 es) m n _ _ v (getD heads (2 * v + 0) 0) J k′ (J .heads v b .hit k′)))
+      ∙ sym (ap (λ (l : List ℕ). headOr 0 (map (edgeEnd 1 es) l)) (at-head (edgeEnd 0 es) m n _ _ v J b
+      ∙ at-step (edgeEnd 0 es) m n _ _ v (getD heads (2 * v + 0) 0) J k′ (J .heads v b .hit k′)))
 
-  pub follower-none : {e : ℕ} → e ≡ getD heads (2 * v) 0 → m ≤ e → 0 ≡ headOr 0 (map (endOf 1 es) (edgesAt (endOf 0 es) m v))
+  pub follower-none : {e : ℕ} → e ≡ getD heads (2 * v) 0 → m ≤ e → 0 ≡ headOr 0 (map (edgeEnd 1 es) (incidentEdges (edgeEnd 0 es) m v))
   unfolding headOr
   follower-none {e} q k =
       let z : e ≡ getD heads (2 * v + 0) 0 = q ∙ head-is in
       let J = I .index 0 (omega arith) in
-      sym (ap (λ (l : List ℕ). headOr 0 (map (endOf 1 es) l)) (at-head (endOf 0 es) m n _ _ v J b
-      ∙ at-end (endOf 0 es) m v (getD heads (2 * v + 0) 0) (omega arith)))
+      sym (ap (λ (l : List ℕ). headOr 0 (map (edgeEnd 1 es) l)) (at-head (edgeEnd 0 es) m n _ _ v J b
+      ∙ at-end (edgeEnd 0 es) m v (getD heads (2 * v + 0) 0) (omega arith)))
 
 -- ---- what is left in the slices
 
@@ -76,9 +76,9 @@ pub left-as : {o : Option Graph} {h : Held} {es vs p heads nexts : List ℕ} {r 
 left-as q L = rw q L
 
 left-yes : {o : Option Graph} {h : Held} {es vs p heads nexts nodes : List ℕ} {c top bottom : ℕ} {ends : Bool} {x y : ℕ} {r : Held} {es′ vs′ : List ℕ}
-    → o ≡ some (applyChange (graphOf h es vs p) (splitChange (graphOf h es vs p) top ends bottom vs p nodes c x y))
-    → Grown (graphOf h es vs p) (splitChange (graphOf h es vs p) top ends bottom vs p nodes c x y)
-    (applyChange (graphOf h es vs p) (splitChange (graphOf h es vs p) top ends bottom vs p nodes c x y)) heads nexts
+    → o ≡ some (applyChange (graphOf h es vs p) (updateChange (graphOf h es vs p) top ends bottom vs p nodes c x y))
+    → GraphGrown (graphOf h es vs p) (updateChange (graphOf h es vs p) top ends bottom vs p nodes c x y)
+    (applyChange (graphOf h es vs p) (updateChange (graphOf h es vs p) top ends bottom vs p nodes c x y)) heads nexts
     → Holds h es vs p heads nexts → SplitDone h es vs p nodes c top bottom ends x y r es′ vs′ → Left o h es vs p heads nexts (hasMerged r) es′ vs′ p
 left-yes q G H D = record {
   no = λ t. absurd (true≢false t);
@@ -145,7 +145,7 @@ module _ {h : Held} {es vs p heads nexts nodes mp : List ℕ} {top c : ℕ} (F :
   pub few-left : c < 2 → Left (tryMergeDiamond g top) h es vs p heads nexts (notMerged h) es vs p
   few-left b = left-no (diamond-not g top mids (nodes-are F) (few g mids (bottomOf g mids) (omega (arith, count))))
 
-  module _ {b : ℕ} {d : Bool} (s : 2 ≤ c) (q : b ≡ headOr 0 (map (endOf 1 es) (edgesAt (endOf 0 es) (h .m) (getD nodes 0 0)))) (D :
+  module _ {b : ℕ} {d : Bool} (s : 2 ≤ c) (q : b ≡ headOr 0 (map (edgeEnd 1 es) (incidentEdges (edgeEnd 0 es) (h .m) (getD nodes 0 0)))) (D :
       Diamond (h .m) (h .n) es nodes c b d) where
     bottom-is : b ≡ bottomOf g mids
     unfolding bottomOf
@@ -158,7 +158,7 @@ module _ {h : Held} {es vs p heads nexts nodes mp : List ℕ} {top c : ℕ} (F :
     pub other-left : d ≡ false → Left (tryMergeDiamond g top) h es vs p heads nexts (notMerged h) es vs p
     other-left t = left-no (diamond-not g top mids (nodes-are F) (diamond-is ∙ t))
 
-    one : d ≡ true → (i : ℕ) → i < c → length (edgesAt (endOf 1 es) (h .m) (getD nodes i 0)) ≡ 1
+    one : d ≡ true → (i : ℕ) → i < c → length (incidentEdges (edgeEnd 1 es) (h .m) (getD nodes i 0)) ≡ 1
     unfolding isDiamond
     one t i k =
         let a = and-split (ltb 1 (length mids)) _ (sym (D .is (h .k .0) vs p) ∙ t) in
@@ -187,7 +187,7 @@ module _ {h : Held} {es vs p heads nexts nodes mp : List ℕ} {top c : ℕ} (F :
       unshared-left t z = left-no (given-no _ _ (merges ∙ rw (t, or-none pre suf (omega (arith, length-prefix F s′ X Y, length-suffix F s′ X Y)))))
 
       abbrev C : Change
-      C = splitChange g top true b vs p nodes c x y
+      C = updateChange g top true b vs p nodes c x y
 
       change : diamondChange g top ≡ C
       unfolding bottomIf
@@ -200,8 +200,8 @@ module _ {h : Held} {es vs p heads nexts nodes mp : List ℕ} {top c : ℕ} (F :
         did = given-yes _ _ (merges ∙ rw (t, or-some pre suf (omega (arith, length-prefix F s′ X Y, length-suffix F s′ X Y))))
             ∙ ap (λ (k : Change). some (applyChange g k)) change
 
-        grown : Grown g C (applyChange g C) heads nexts
-        grown = subst (λ (k : Change). Grown g k (applyChange g C) heads nexts) change (diamond-grown (F .holds .fit) (applyChange g C) top did)
+        grown : GraphGrown g C (applyChange g C) heads nexts
+        grown = subst (λ (k : Change). GraphGrown g k (applyChange g C) heads nexts) change (diamond-grown (F .holds .fit) (applyChange g C) top did)
 
         pub diamond-ready : Splittable h es vs p heads nodes c mp top b true x y
         diamond-ready = splittable F s′ X Y b true (applyChange g C) (omega (arith, q, bottom-below F (getD nodes 0 0))) (λ e.
@@ -224,7 +224,7 @@ module _ {h : Held} {es vs p heads nexts nodes mp : List ℕ} {top c : ℕ} (F :
     unfolding isTails
     two t = let a = and-split (ltb 1 (length mids)) _ (tails-are ∙ t) in omega (arith, ltb-true 1 (length mids) (a .0), count)
 
-    tail-one : d ≡ true → (i : ℕ) → i < c → length (edgesAt (endOf 1 es) (h .m) (getD nodes i 0)) ≡ 1
+    tail-one : d ≡ true → (i : ℕ) → i < c → length (incidentEdges (edgeEnd 1 es) (h .m) (getD nodes i 0)) ≡ 1
     unfolding isTails
     tail-one t i k =
         let a = and-split (ltb 1 (length mids)) _ (tails-are ∙ t) in
@@ -251,7 +251,7 @@ module _ {h : Held} {es vs p heads nexts nodes mp : List ℕ} {top c : ℕ} (F :
       short-left b = left-no (given-no _ _ (merges-t ∙ lt-leb least y b))
 
       abbrev C-t : Change
-      C-t = splitChange g top false 0 vs p nodes c x y
+      C-t = updateChange g top false 0 vs p nodes c x y
 
       change-t : tailsChange g top ≡ C-t
       unfolding bottomIf
@@ -262,8 +262,8 @@ module _ {h : Held} {es vs p heads nexts nodes mp : List ℕ} {top c : ℕ} (F :
         unfolding tryMergeTails
         did-t = given-yes _ _ (merges-t ∙ le-leb least y b) ∙ ap (λ (k : Change). some (applyChange g k)) change-t
 
-        grown-t : Grown g C-t (applyChange g C-t) heads nexts
-        grown-t = subst (λ (k : Change). Grown g k (applyChange g C-t) heads nexts) change-t
+        grown-t : GraphGrown g C-t (applyChange g C-t) heads nexts
+        grown-t = subst (λ (k : Change). GraphGrown g k (applyChange g C-t) heads nexts) change-t
             (tails-grown least pos (F .holds .fit) (applyChange g C-t) top did-t)
 
         pub tails-ready : Splittable h es vs p heads nodes c mp top 0 false x y

@@ -6,12 +6,12 @@ ghost use Prim.Native.Nat.{_+_, _*_, _<_};
 ghost use lib.ListN.{length};
 ghost use Rattle.defs.specs.Lists.{headOr};
 ghost use Rattle.defs.specs.Rewrites.{tryMergeDiamond, tryMergeTails};
-ghost use Rattle.index.specs.Index.{Indexed, endOf, edgesAt};
+ghost use Rattle.index.specs.Index.{Indexed, edgeEnd, incidentEdges};
 ghost use Rattle.memory.specs.Memory.{graphOf, Room, Holds, Left};
 ghost use Rattle.merge_diamond.specs.Answer.{notMerged, hasMerged};
 use memory::Held;
 use memory::Tried;
-use split_update::split_and_update;
+use split_and_update::split_and_update;
 
 pub fn not_merged(held: Held) -> Tried
     ensures { λ r. ⌜ r ≡ notMerged held ⌝ }
@@ -34,7 +34,7 @@ pub fn merged(held: Held) -> Tried
 // The vertex that v's first edge enters, or 0.
 pub fn first_follower(es: &[u32], m: usize, n: usize, heads: &[u32], nexts: &[u32], v: usize) -> u32
     requires { ⌜ (v < n) × Indexed m n (now es) (now heads) (now nexts) ⌝ }
-    ensures { λ r. ⌜ r ≡ headOr 0 (map (endOf 1 (now (es .entry))) (edgesAt (endOf 0 (now (es .entry))) m v)) ⌝ }
+    ensures { λ r. ⌜ r ≡ headOr 0 (map (edgeEnd 1 (now (es .entry))) (incidentEdges (edgeEnd 0 (now (es .entry))) m v)) ⌝ }
 {
     let e = heads[2 * v] as usize;
     if e < m {

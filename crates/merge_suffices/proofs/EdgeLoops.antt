@@ -13,12 +13,12 @@ use Rattle.tabs.proofs.ListTabs.{tab-append, raiseAll-none, mem-tab}
 use Rattle.tabs.proofs.SumTabs.{concat-append, concat-snoc}
 use Rattle.store.specs.Store.{edgeIn, edgesIn, numsIn}
 use Rattle.compact.proofs.CompactLaws.{ends-mem}
-use Rattle.redirect.specs.Redirect.{redirectedAll, Marks, Redirectable, Redirected}
+use Rattle.redirect.specs.Redirect.{redirectedAll, EdgeMarks, Redirectable, Redirected}
 use Rattle.redirect.proofs.RaiseLaws.{raiseAll-longer, raiseAll-ends}
 use Rattle.redirect.proofs.RedirectLaws.{marks-start}
 use Rattle.redirect.proofs.SameLaws.{all-same, indexed-same, into-ends}
 use Rattle.index.proofs.IndexLaws.{end-first}
-use Rattle.merge_suffices.specs.Merge.{newInto, newEdges, IntoReady, IntoDone, EdgesReady, EdgesDone}
+use Rattle.merge_suffices.specs.Merge.{newInto, mergeEdges, IntoReady, IntoDone, MergeEdgesReady, MergeEdgesDone}
 
 -- ---- the lists of new edges
 
@@ -48,16 +48,16 @@ into-most n m es nodes i d l =
 
 -- ---- the loop over the predecessors
 
-pub record Taking (n m : ℕ) (es₀ mp₀ nodes : List ℕ) (c k : ℕ) (es mp : List ℕ) (i : ℕ) : Type 0 where
+pub record TakingPredecessors (n m : ℕ) (es₀ mp₀ nodes : List ℕ) (c k : ℕ) (es mp : List ℕ) (i : ℕ) : Type 0 where
   pub high : i ≤ c
   pub len : length es ≡ length es₀
   pub mp-len : length mp ≡ length mp₀
   pub is : edgesIn k es ≡ addOrUpdateEdges (newInto n m es₀ nodes i) (edgesIn m es₀)
   pub old : (j : ℕ) → j < m → edgeIn es j ≡ edgeIn es₀ j
-  pub marks : Marks 1 n n m k es mp
+  pub marks : EdgeMarks 1 n n m k es mp
 
 module _ {n m : ℕ} {es₀ heads nexts nodes : List ℕ} {c : ℕ} {mp₀ : List ℕ} (F : IntoReady n m es₀ heads nexts nodes c mp₀) where
-  pub taking-start : Taking n m es₀ mp₀ nodes c m es₀ mp₀ 0
+  pub taking-start : TakingPredecessors n m es₀ mp₀ nodes c m es₀ mp₀ 0
   taking-start = record {
     high = omega arith;
     len = refl;
@@ -67,7 +67,7 @@ module _ {n m : ℕ} {es₀ heads nexts nodes : List ℕ} {c : ℕ} {mp₀ : Lis
     marks = F .marks;
   }
 
-  module _ {k : ℕ} {es mp : List ℕ} {i : ℕ} (T : Taking n m es₀ mp₀ nodes c k es mp i) where
+  module _ {k : ℕ} {es mp : List ℕ} {i : ℕ} (T : TakingPredecessors n m es₀ mp₀ nodes c k es mp i) where
     module _ (h : i < c) where
       next-is : addOrUpdateEdges (redirectedAll 1 n m es (getD nodes i 0)) (edgesIn k es) ≡ addOrUpdateEdges (newInto n m es₀ nodes (i + 1)) (edgesIn m es₀)
       next-is =
@@ -99,7 +99,7 @@ module _ {n m : ℕ} {es₀ heads nexts nodes : List ℕ} {c : ℕ} {mp₀ : Lis
       }
 
       pub taking-more : {k′ : ℕ} {es′ mp′ : List ℕ} → Redirected 1 n n m m k es (getD nodes i 0) k′ es′ mp′ → length es′ ≡ length es
-          → length mp′ ≡ length mp → Taking n m es₀ mp₀ nodes c k′ es′ mp′ (i + 1)
+          → length mp′ ≡ length mp → TakingPredecessors n m es₀ mp₀ nodes c k′ es′ mp′ (i + 1)
       taking-more D a b = record {
         high = omega arith;
         len = a ∙ T .len;
@@ -118,8 +118,8 @@ module _ {n m : ℕ} {es₀ heads nexts nodes : List ℕ} {c : ℕ} {mp₀ : Lis
 
 -- ---- both lists
 
-module _ {n m : ℕ} {es heads nexts nodes : List ℕ} {c bottom : ℕ} {mp₀ : List ℕ} (F : EdgesReady n m es heads nexts nodes c bottom mp₀) where
-  both-is : addOrUpdateEdges (newEdges n m es nodes c bottom) (edgesIn m es)
+module _ {n m : ℕ} {es heads nexts nodes : List ℕ} {c bottom : ℕ} {mp₀ : List ℕ} (F : MergeEdgesReady n m es heads nexts nodes c bottom mp₀) where
+  both-is : addOrUpdateEdges (mergeEdges n m es nodes c bottom) (edgesIn m es)
       ≡ addOrUpdateEdges (redirectedAll 0 n m es bottom) (addOrUpdateEdges (newInto n m es nodes c) (edgesIn m es))
   both-is = raiseAll-append (newInto n m es nodes c) (redirectedAll 0 n m es bottom) (edgesIn m es)
 
@@ -132,11 +132,11 @@ module _ {n m : ℕ} {es heads nexts nodes : List ℕ} {c bottom : ℕ} {mp₀ :
     roomy = record { room = omega (arith, most, F .roomy .room); small = omega (arith, most, F .roomy .small); n-small = F .roomy .n-small };
   }
     where
-      most : length (addOrUpdateEdges (newInto n m es nodes c) (edgesIn m es)) ≤ length (addOrUpdateEdges (newEdges n m es nodes c bottom) (edgesIn m es))
+      most : length (addOrUpdateEdges (newInto n m es nodes c) (edgesIn m es)) ≤ length (addOrUpdateEdges (mergeEdges n m es nodes c bottom) (edgesIn m es))
       most = omega (arith, ap length both-is, raiseAll-longer (redirectedAll 0 n m es bottom) (addOrUpdateEdges (newInto n m es nodes c) (edgesIn m es)))
 
   module _ {k : ℕ} {es₁ mp : List ℕ} (D : IntoDone n m es nodes c k es₁ mp) where
-    last-is : addOrUpdateEdges (redirectedAll 0 n m es₁ bottom) (edgesIn k es₁) ≡ addOrUpdateEdges (newEdges n m es nodes c bottom) (edgesIn m es)
+    last-is : addOrUpdateEdges (redirectedAll 0 n m es₁ bottom) (edgesIn k es₁) ≡ addOrUpdateEdges (mergeEdges n m es nodes c bottom) (edgesIn m es)
     last-is = (λ j. addOrUpdateEdges (all-same m es es₁ (D .old) 0 n bottom (omega arith) j) (D .is j)) ∙ sym both-is
 
     old-from : (e : Edge) → List·Memᴰ e (edgesIn k es₁) → e .from < n
@@ -158,5 +158,5 @@ module _ {n m : ℕ} {es heads nexts nodes : List ℕ} {c bottom : ℕ} {mp₀ :
       small = omega (arith, ap length last-is, F .roomy .small);
     }
 
-    pub edges-done : {r : ℕ} {es₂ mp₂ : List ℕ} → Redirected 0 n n k m k es₁ bottom r es₂ mp₂ → EdgesDone n m es nodes c bottom r es₂
+    pub edges-done : {r : ℕ} {es₂ mp₂ : List ℕ} → Redirected 0 n n k m k es₁ bottom r es₂ mp₂ → MergeEdgesDone n m es nodes c bottom r es₂
     edges-done R = record { is = R .is ∙ last-is }

@@ -34,12 +34,12 @@ use Rattle.compact.proofs.CompactLaws.{order-in, mem-ends}
 use Rattle.index.specs.Index.{Indexed}
 use Rattle.pool.specs.Pool.{bytesIn, Packable, Packed}
 use Rattle.pool.proofs.PoolLaws.{part-same, packed-seqs, packed-within}
-use Rattle.zip.proofs.JoinLaws.{held-bytes}
+use Rattle.merge_linear_chain.proofs.JoinLaws.{held-bytes}
 use Rattle.memory.specs.Memory.{graphOf, vertexRoom, edgeRoom, Room, Fit, Holds}
 use Rattle.memory.specs.declared.Held.{Held}
 use Rattle.memory.proofs.RoomLaws.{fit-vertices, fit-bytes, fit-tame, held-vertices, held-edges, held-pool}
 use Rattle.redirect.proofs.SameLaws.{into-all, from-all}
-use Rattle.merge_suffices.specs.Merge.{Writable, Written, newInto, newEdges, EdgesReady, EdgesDone, Mergeable, Merged}
+use Rattle.merge_suffices.specs.Merge.{MergeWritable, MergeWritten, newInto, mergeEdges, MergeEdgesReady, MergeEdgesDone, Mergeable, Merged}
 
 map-concat : {A B : Type 0} (f : A → B) (h : ℕ → List A) (l : List ℕ) → concat (map (λ (v : ℕ). map f (h v)) l) ≡ map f (concat (map h l))
 unfolding concat
@@ -108,7 +108,7 @@ module _ {h : Held} {es vs p heads nexts nodes mp : List ℕ} {c bottom : ℕ}
       sums : total (λ (v : ℕ). length (getD (g .verts) v [])) (first ∷ bottom ∷ []) ≡ getD vs (2 * first + 1) 0 + getD vs (2 * bottom + 1) 0
       sums = unfold total in omega (arith, size first first-below, size bottom (M .below))
 
-  pub merge-writable : Writable vs p (h .used) first bottom
+  pub merge-writable : MergeWritable vs p (h .used) first bottom
   merge-writable = record {
     first-room = omega (arith, first-below, n-room, R .vs-room);
     bottom-room = omega (arith, M .below, n-room, R .vs-room);
@@ -125,7 +125,7 @@ module _ {h : Held} {es vs p heads nexts nodes mp : List ℕ} {c bottom : ℕ}
       ∙ map-concat (redirectedTo (h .n)) (edgesInto g) prevs
       ∙ ap (λ (x : ℕ). map (redirectedTo x) (concat (map (edgesInto g) prevs))) (sym order)
 
-  pub edges-are : newEdges (h .n) (h .m) es nodes c bottom ≡ change .edges
+  pub edges-are : mergeEdges (h .n) (h .m) es nodes c bottom ≡ change .edges
   unfolding mergeChange
   edges-are = λ i. into-is i ++ (from-all (h .n) (h .k .0) (h .n) (h .m) es vs p bottom
       ∙ ap (λ (x : ℕ). map (redirectedFrom x) (edgesFrom g bottom)) (sym order)) i
@@ -176,10 +176,10 @@ module _ {h : Held} {es vs p heads nexts nodes mp : List ℕ} {c bottom : ℕ}
     length-tab (h .m) (edgeIn es),
   )
 
-  edges-with : addOrUpdateEdges (newEdges (h .n) (h .m) es nodes c bottom) (edgesIn (h .m) es) ≡ (withAdditions change g) .edges
+  edges-with : addOrUpdateEdges (mergeEdges (h .n) (h .m) es nodes c bottom) (edgesIn (h .m) es) ≡ (withAdditions change g) .edges
   edges-with = ap (λ (x : List Edge). addOrUpdateEdges x (edgesIn (h .m) es)) edges-are ∙ unfold withAdditions in refl
 
-  pub edges-ready : Indexed (h .m) (h .n) es heads nexts → EdgesReady (h .n) (h .m) es heads nexts nodes c bottom mp
+  pub edges-ready : Indexed (h .m) (h .n) es heads nexts → MergeEdgesReady (h .n) (h .m) es heads nexts nodes c bottom mp
   edges-ready I = record {
     indexed = I;
     prevs = M .prevs;
@@ -197,7 +197,7 @@ module _ {h : Held} {es vs p heads nexts nodes mp : List ℕ} {c bottom : ℕ}
   pub put-room : 2 * h .n + 2 ≤ length vs
   put-room = omega (arith, n-room, M .below, R .vs-room)
 
-  module _ {end : ℕ} {p₁ : List ℕ} (W : Written vs p (h .used) first bottom end p₁) (q : length p₁ ≡ length p) where
+  module _ {end : ℕ} {p₁ : List ℕ} (W : MergeWritten vs p (h .used) first bottom end p₁) (q : length p₁ ≡ length p) where
     pub end-low : h .used ≤ end
     end-low = omega (arith, W .end)
 
@@ -248,7 +248,7 @@ module _ {h : Held} {es vs p heads nexts nodes mp : List ℕ} {c bottom : ℕ}
 
     -- ---- closing up
 
-    module _ {k : ℕ} {es₁ : List ℕ} (E : EdgesDone (h .n) (h .m) es nodes c bottom k es₁) where
+    module _ {k : ℕ} {es₁ : List ℕ} (E : MergeEdgesDone (h .n) (h .m) es nodes c bottom k es₁) where
       k-few : k + 1 ≤ 2 * edgeRoom nexts
       k-few = omega (arith, length-tab k (edgeIn es₁), ap length (E .is ∙ edges-with), few-edges)
 

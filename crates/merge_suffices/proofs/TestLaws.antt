@@ -20,7 +20,7 @@ use Rattle.store.proofs.VertexLaws.{part-long, seq-at}
 use Rattle.compact.specs.Compact.{Below}
 use Rattle.index.proofs.IndexLaws.{out-degree-is, in-degree-is}
 use Rattle.pool.proofs.PoolLaws.{part-same}
-use Rattle.merge_suffices.specs.Merge.{Comparable, isPrev, Testable, Merges}
+use Rattle.merge_suffices.specs.Merge.{Comparable, isPrev, MergeTestable, Merges}
 
 -- ---- equal sequences
 
@@ -28,18 +28,18 @@ same-not : (a b : List ℕ) → (a ≡ b → ⊥) → sameList a b ≡ false
 same-not a b h = byTest (sameList a b) (λ t. absurd (h (sameList-eq a b t))) (λ t. t)
 
 -- the first i bytes are equal
-pub record Comparing (p : List ℕ) (a b n i : ℕ) : Type 0 where
+pub record ComparingBytes (p : List ℕ) (a b n i : ℕ) : Type 0 where
   pub high : i ≤ n
   pub same : (j : ℕ) → j < i → getD p (a + j) 0 ≡ getD p (b + j) 0
 
 byte : (p : List ℕ) (a n i : ℕ) → i < n → getD (part p a n) i 0 ≡ getD p (a + i) 0
 byte p a n i h = getD-take n (drop a p) i 0 h ∙ getD-drop a p i 0
 
-pub comparing-no : {p : List ℕ} {a b n i : ℕ} → Comparing p a b n i → i < n → (getD p (a + i) 0 ≡ getD p (b + i) 0 → ⊥) → false
+pub comparing-no : {p : List ℕ} {a b n i : ℕ} → ComparingBytes p a b n i → i < n → (getD p (a + i) 0 ≡ getD p (b + i) 0 → ⊥) → false
     ≡ sameList (part p a n) (part p b n)
 comparing-no {p} {a} {b} {n} {i} C h ne = sym (same-not _ _ (λ q. ne (sym (byte p a n i h) ∙ ap (λ (l : List ℕ). getD l i 0) q ∙ byte p b n i h)))
 
-pub comparing-end : {p : List ℕ} {a b n i : ℕ} → Comparing p a b n i → a + n ≤ length p → b + n ≤ length p → n ≤ i → true ≡ sameList (part p a n) (part p b n)
+pub comparing-end : {p : List ℕ} {a b n i : ℕ} → ComparingBytes p a b n i → a + n ≤ length p → b + n ≤ length p → n ≤ i → true ≡ sameList (part p a n) (part p b n)
 comparing-end {p} {a} {b} {n} {i} C ha hb h =
     sym (ap (λ (l : List ℕ). sameList l (part p b n)) (part-same p p b a n hb ha (λ j d. C .same j (omega (arith, h, d)))) ∙ sameList-refl (part p b n))
 
@@ -53,7 +53,7 @@ module _ {vs p : List ℕ} {u v : ℕ} (C : Comparable vs p u v) where
 
 -- ---- one predecessor
 
-pub comparable : {n m : ℕ} {es vs p heads nexts : List ℕ} {u v : ℕ} → Testable n m es vs p heads nexts → u < n → v < n → Comparable vs p u v
+pub comparable : {n m : ℕ} {es vs p heads nexts : List ℕ} {u v : ℕ} → MergeTestable n m es vs p heads nexts → u < n → v < n → Comparable vs p u v
 comparable {u = u} {v = v} T a b = record {
   u-room = omega (arith, T .vs-room);
   v-room = omega (arith, T .vs-room);

@@ -16,18 +16,18 @@ use Rattle.tabs.proofs.ListTabs.{mem-tab}
 use Rattle.store.specs.Store.{numsIn}
 use Rattle.compact.specs.Compact.{Below}
 use Rattle.compact.proofs.CompactLaws.{order-in}
-use Rattle.index.specs.Index.{endOf, edgesAt, Indexed, Collected}
+use Rattle.index.specs.Index.{edgeEnd, incidentEdges, Indexed, Collected}
 use Rattle.index.proofs.IndexLaws.{incoming-is}
 use Rattle.memory.specs.Memory.{graphOf, Room, Holds, Left}
 use Rattle.memory.specs.declared.Held.{Held}
 use Rattle.memory.proofs.RoomLaws.{held-vertices, held-edges}
-use Rattle.merge_suffices.specs.Merge.{Testable, Merges, Mergeable, Merged}
+use Rattle.merge_suffices.specs.Merge.{MergeTestable, Merges, Mergeable, Merged}
 
 module _ {h : Held} {es vs p heads nexts nodes mp : List ℕ} (R : Room es vs p heads nexts nodes mp) (H : Holds h es vs p heads nexts) where
   abbrev g : Graph
   g = graphOf h es vs p
 
-  pub testable : Indexed (h .m) (h .n) es heads nexts → Testable (h .n) (h .m) es vs p heads nexts
+  pub testable : Indexed (h .m) (h .n) es heads nexts → MergeTestable (h .n) (h .m) es vs p heads nexts
   testable I = record {
     indexed = I;
     vs-room = omega (arith, held-vertices H, R .vs-room);
@@ -39,7 +39,7 @@ module _ {h : Held} {es vs p heads nexts nodes mp : List ℕ} (R : Room es vs p 
 
   module _ {bottom c : ℕ} {nodes′ : List ℕ} (C : Collected 1 (h .m) es bottom c nodes′) (q : length nodes′ ≡ length nodes) where
     pub prevs-are : numsIn c nodes′ ≡ incomingNodes g bottom
-    prevs-are = C .is ∙ (λ i. map (λ (e : ℕ). getD es (add-zero (4 * e) i) 0) (edgesAt (endOf 1 es) (h .m) bottom))
+    prevs-are = C .is ∙ (λ i. map (λ (e : ℕ). getD es (add-zero (4 * e) i) 0) (incidentEdges (edgeEnd 1 es) (h .m) bottom))
         ∙ sym (incoming-is (h .k .0) (h .n) (h .m) es vs p bottom)
 
     pub prevs-below : Below nodes′ c (h .n)

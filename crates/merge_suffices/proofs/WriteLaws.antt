@@ -13,9 +13,9 @@ use Rattle.store.specs.Store.{part, seqIn}
 use Rattle.compact.specs.Compact.{Marked}
 use Rattle.pool.specs.Pool.{Apart, Moved}
 use Rattle.pool.proofs.PoolLaws.{part-same}
-use Rattle.merge_suffices.specs.Merge.{Writable, Written}
+use Rattle.merge_suffices.specs.Merge.{MergeWritable, MergeWritten}
 
-module _ {vs p : List ℕ} {used first bottom : ℕ} (F : Writable vs p used first bottom) {a b x y : ℕ}
+module _ {vs p : List ℕ} {used first bottom : ℕ} (F : MergeWritable vs p used first bottom) {a b x y : ℕ}
     (qa : a ≡ getD vs (2 * first) 0) (qb : b ≡ getD vs (2 * bottom) 0) (qx : x ≡ getD vs (2 * first + 1) 0) (qy : y ≡ getD vs (2 * bottom + 1) 0) where
   pub first-apart : Apart p used a x
   first-apart = record { to-room = omega (arith, F .room); from-room = omega (arith, F .room, F .first-before); apart = inl (omega (arith, F .first-before)) }
@@ -29,7 +29,7 @@ module _ {vs p : List ℕ} {used first bottom : ℕ} (F : Writable vs p used fir
           inl (omega (arith, F .bottom-before));
     }
 
-    pub written : {p₂ : List ℕ} → Moved p₁ (used + x) b y p₂ → length p₂ ≡ length p₁ → Written vs p used first bottom (used + x + y) p₂
+    pub written : {p₂ : List ℕ} → Moved p₁ (used + x) b y p₂ → length p₂ ≡ length p₁ → MergeWritten vs p used first bottom (used + x + y) p₂
     written {p₂} N k = record {
       end = omega arith;
       old = λ j h. N .before j (omega arith) ∙ M .before j h;

@@ -9,7 +9,7 @@ ghost use Rattle.store.specs.Store.{part, seqIn, numsIn};
 ghost use Rattle.compact.specs.Compact.{Below, Compactable, Removed};
 ghost use Rattle.index.specs.Index.{Indexed};
 ghost use Rattle.memory.specs.Memory.{Room, Holds, Left, graphOf};
-ghost use Rattle.merge_suffices.specs.Merge.{Comparable, isPrev, Testable, Merges, Writable, Written, IntoReady, IntoDone, EdgesReady, EdgesDone, Mergeable, Merged};
+ghost use Rattle.merge_suffices.specs.Merge.{Comparable, isPrev, MergeTestable, Merges, MergeWritable, MergeWritten, IntoReady, IntoDone, MergeEdgesReady, MergeEdgesDone, Mergeable, Merged};
 use compact::Counts;
 use memory::Held;
 use memory::Tried;
@@ -53,7 +53,7 @@ fn is_prev(
     first: u32,
     v: u32,
 ) -> bool
-    requires { ⌜ (first < n) × ((v < n) × Testable n m (now es) (now vs) (now p) (now heads) (now nexts)) ⌝ }
+    requires { ⌜ (first < n) × ((v < n) × MergeTestable n m (now es) (now vs) (now p) (now heads) (now nexts)) ⌝ }
     ensures { λ r. ⌜ r ≡ isPrev m (now (es .entry)) (now (vs .entry)) (now (p .entry)) first v ⌝ }
 {
     if !same_sequence(vs, p, v, first) {
@@ -77,7 +77,7 @@ fn all_prevs(
     nodes: &[u32],
     c: usize,
 ) -> bool
-    requires { ⌜ Below (now nodes) c n × Testable n m (now es) (now vs) (now p) (now heads) (now nexts) ⌝ }
+    requires { ⌜ Below (now nodes) c n × MergeTestable n m (now es) (now vs) (now p) (now heads) (now nexts) ⌝ }
     ensures { λ r. ⌜ r ≡ allOf (isPrev m (now (es .entry)) (now (vs .entry)) (now (p .entry)) (getD (now (nodes .entry)) 0 0))
         (numsIn c (now (nodes .entry))) ⌝ }
 {
@@ -103,7 +103,7 @@ pub fn is_merge(
     nodes: &[u32],
     c: usize,
 ) -> bool
-    requires { ⌜ Below (now nodes) c n × Testable n m (now es) (now vs) (now p) (now heads) (now nexts) ⌝ }
+    requires { ⌜ Below (now nodes) c n × MergeTestable n m (now es) (now vs) (now p) (now heads) (now nexts) ⌝ }
     ensures { λ r. ⌜ Merges n m (now (es .entry)) (now (vs .entry)) (now (p .entry)) (now (nodes .entry)) c r ⌝ }
 {
     if c == 0 {
@@ -114,8 +114,8 @@ pub fn is_merge(
 
 // Writes the sequence of `first` and then that of `bottom` to `used` on; where they end.
 fn write_merged(vs: &[u32], p: &mut [u8], used: usize, first: u32, bottom: u32) -> usize
-    requires { ⌜ Writable (now vs) (now p) used first bottom ⌝ }
-    ensures { λ r. ⌜ Written (now (vs .entry)) (now (p .entry)) used first bottom r (now (p .exit)) ⌝ }
+    requires { ⌜ MergeWritable (now vs) (now p) used first bottom ⌝ }
+    ensures { λ r. ⌜ MergeWritten (now (vs .entry)) (now (p .entry)) used first bottom r (now (p .exit)) ⌝ }
 {
     let a = store::vertex_start(vs, first);
     let b = store::vertex_start(vs, bottom);
@@ -163,8 +163,8 @@ fn redirect_merged(
     bottom: usize,
     map: &mut [u32],
 ) -> usize
-    requires { ⌜ EdgesReady n m (now es) (now heads) (now nexts) (now nodes) c bottom (now map) ⌝ }
-    ensures { λ r. ⌜ EdgesDone n m (now (es .entry)) (now (nodes .entry)) c bottom r (now (es .exit)) ⌝ }
+    requires { ⌜ MergeEdgesReady n m (now es) (now heads) (now nexts) (now nodes) c bottom (now map) ⌝ }
+    ensures { λ r. ⌜ MergeEdgesDone n m (now (es .entry)) (now (nodes .entry)) c bottom r (now (es .exit)) ⌝ }
 {
     compact::fill(map, n, 0);
     let k = redirect_into(es, m, n, heads, nexts, nodes, c, map);

@@ -27,7 +27,7 @@ use Rattle.store.specs.Store.{graphIn, EndsBelow}
 use Rattle.compact.specs.Compact.{unmarked, Compacted}
 use Rattle.compact.specs.declared.Counts.{Counts}
 use Rattle.compact.proofs.CompactLaws.{restrict-same, order-in, ends-mem}
-use Rattle.index.specs.Index.{endOf, edgesAt}
+use Rattle.index.specs.Index.{edgeEnd, incidentEdges}
 use Rattle.index.proofs.IndexLaws.{in-degree-is, out-degree-is}
 use Rattle.refs.specs.Refs.{RefSource}
 use Rattle.memory.specs.Memory.{graphOf}
@@ -46,14 +46,14 @@ third-no true false q = refl
 third-no false b q = refl
 
 module _ (m n : ℕ) (es : List ℕ) (v : ℕ) where
-  pub orphan-entered : {d : ℕ} → d ≡ length (edgesAt (endOf 1 es) m v) → (d ≡ 0 → ⊥) → Orphan m n es v false
+  pub orphan-entered : {d : ℕ} → d ≡ length (incidentEdges (edgeEnd 1 es) m v) → (d ≡ 0 → ⊥) → Orphan m n es v false
   unfolding isOrphan
   orphan-entered q ne = record { is = at }
     where
       at : (k : ℕ) (vs p : List ℕ) → false ≡ isOrphan (graphIn k n m es vs p) v
       at k vs p = rw (ne-eqb (inDegree (graphIn k n m es vs p) v) 0 (λ z. ne (q ∙ sym (in-degree-is k n m es vs p v) ∙ z)))
 
-  pub orphan-left : {d : ℕ} → d ≡ length (edgesAt (endOf 0 es) m v) → (d ≡ 0 → ⊥) → Orphan m n es v false
+  pub orphan-left : {d : ℕ} → d ≡ length (incidentEdges (edgeEnd 0 es) m v) → (d ≡ 0 → ⊥) → Orphan m n es v false
   unfolding isOrphan
   orphan-left q ne = record { is = at }
     where
@@ -68,7 +68,7 @@ module _ (m n : ℕ) (es : List ℕ) (v : ℕ) where
       at : (k : ℕ) (vs p : List ℕ) → false ≡ isOrphan (graphIn k n m es vs p) v
       at k vs p = third-no (eqb (inDegree (graphIn k n m es vs p) v) 0) (eqb (outDegree (graphIn k n m es vs p) v) 0) (ap not (sym (S .is k vs p)))
 
-  pub orphan-yes : {c d : ℕ} → c ≡ length (edgesAt (endOf 1 es) m v) → c ≡ 0 → d ≡ length (edgesAt (endOf 0 es) m v) → d ≡ 0
+  pub orphan-yes : {c d : ℕ} → c ≡ length (incidentEdges (edgeEnd 1 es) m v) → c ≡ 0 → d ≡ length (incidentEdges (edgeEnd 0 es) m v) → d ≡ 0
       → RefSource m n es v false → Orphan m n es v true
   unfolding isOrphan
   orphan-yes a x b y S = record { is = at }
@@ -82,7 +82,7 @@ module _ (m n : ℕ) (es : List ℕ) (v : ℕ) where
 
 -- ---- the marks
 
-pub record Marking (m n : ℕ) (es mp₀ mp : List ℕ) (i : ℕ) : Type 0 where
+pub record MarkingOrphans (m n : ℕ) (es mp₀ mp : List ℕ) (i : ℕ) : Type 0 where
   pub high : i ≤ n
   pub len : length mp ≡ length mp₀
   pub at : (v : ℕ) → v < i → Orphan m n es v (not (unmarked mp v))
@@ -95,26 +95,26 @@ not-swap true q = rw (← q)
 not-swap false q = rw (← q)
 
 module _ {m n : ℕ} {es mp₀ : List ℕ} where
-  pub marking-start : Marking m n es mp₀ mp₀ 0
+  pub marking-start : MarkingOrphans m n es mp₀ mp₀ 0
   marking-start = record { high = omega arith; len = refl; at = λ v b. absurd (omega arith) }
 
-  more : {mp : List ℕ} {i : ℕ} (x : ℕ) → Marking m n es mp₀ mp i → i < n → n ≤ length mp₀ → Orphan m n es i (not (eqb x 0))
-      → Marking m n es mp₀ (set mp i x) (i + 1)
+  more : {mp : List ℕ} {i : ℕ} (x : ℕ) → MarkingOrphans m n es mp₀ mp i → i < n → n ≤ length mp₀ → Orphan m n es i (not (eqb x 0))
+      → MarkingOrphans m n es mp₀ (set mp i x) (i + 1)
   more {mp} {i} x M b room O = record {
     high = omega arith;
     len = length-set mp i x ∙ M .len;
     at = set-more (λ v y. Orphan m n es v (not (eqb y 0))) mp i x (omega (arith, M .len)) (M .at) O;
   }
 
-  pub marking-yes : {mp : List ℕ} {i : ℕ} {r : Bool} → Marking m n es mp₀ mp i → i < n → n ≤ length mp₀ → Orphan m n es i r → r ≡ true
-      → Marking m n es mp₀ (set mp i 1) (i + 1)
+  pub marking-yes : {mp : List ℕ} {i : ℕ} {r : Bool} → MarkingOrphans m n es mp₀ mp i → i < n → n ≤ length mp₀ → Orphan m n es i r → r ≡ true
+      → MarkingOrphans m n es mp₀ (set mp i 1) (i + 1)
   marking-yes M b room O t = more 1 M b room (orphan-as t O)
 
-  pub marking-no : {mp : List ℕ} {i : ℕ} {r : Bool} → Marking m n es mp₀ mp i → i < n → n ≤ length mp₀ → Orphan m n es i r → r ≡ false
-      → Marking m n es mp₀ (set mp i 0) (i + 1)
+  pub marking-no : {mp : List ℕ} {i : ℕ} {r : Bool} → MarkingOrphans m n es mp₀ mp i → i < n → n ≤ length mp₀ → Orphan m n es i r → r ≡ false
+      → MarkingOrphans m n es mp₀ (set mp i 0) (i + 1)
   marking-no M b room O t = more 0 M b room (orphan-as t O)
 
-  pub marking-end : {mp : List ℕ} {i : ℕ} → Marking m n es mp₀ mp i → n ≤ i → OrphansMarked m n es mp
+  pub marking-end : {mp : List ℕ} {i : ℕ} → MarkingOrphans m n es mp₀ mp i → n ≤ i → OrphansMarked m n es mp
   marking-end {mp} M l = record { at = λ k vs p v b. not-swap (unmarked mp v) (M .at v (omega arith) .is k vs p) }
 
 -- ---- one pass

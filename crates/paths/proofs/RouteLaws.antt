@@ -27,7 +27,8 @@ use Rattle.store.proofs.VertexLaws.{part-long}
 use Rattle.compact.proofs.CompactLaws.{order-in}
 use Rattle.memory.specs.Memory.{graphOf}
 use Rattle.memory.specs.declared.Held.{Held}
-use Rattle.spell.specs.Spell.{bytesAt, spelledIn, Listed}
+use Rattle.spell.specs.Spell.{spelledIn, Listed}
+use Rattle.store.specs.Store.{nodesLength}
 use Rattle.paths.specs.Paths.{Spellable}
 
 -- ---- a path rises
@@ -96,7 +97,7 @@ module _ {h : Held} {es vs p nodes₀ nodes : List ℕ} {c : ℕ} (S : Spellable
   size : (v : ℕ) → v < h .n → length (getD (g .verts) v []) ≡ getD vs (2 * v + 1) 0
   size v b = ap length (getD-tab (h .n) (seqIn vs p) v [] b) ∙ part-long p _ _ (S .within .at v b)
 
-  sums : total (λ (v : ℕ). length (getD (g .verts) v [])) (R .first ∷ R .others) ≡ bytesAt vs nodes c
+  sums : total (λ (v : ℕ). length (getD (g .verts) v [])) (R .first ∷ R .others) ≡ nodesLength vs nodes c
   sums =
       ap (total (λ (v : ℕ). length (getD (g .verts) v []))) (sym (R .is))
       ∙ total-sum (λ (v : ℕ). length (getD (g .verts) v [])) (numsIn c nodes)

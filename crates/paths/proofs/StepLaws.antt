@@ -19,7 +19,7 @@ use Rattle.laws.proofs.Cycles.{anyOf-true}
 use Rattle.laws.proofs.Edges.{joins-ends}
 use Rattle.store.specs.Store.{edgeIn, edgesIn, graphIn, EndsBelow}
 use Rattle.compact.proofs.CompactLaws.{order-in, ends-mem}
-use Rattle.index.specs.Index.{endOf, edgesAt, Index, Indexed}
+use Rattle.index.specs.Index.{edgeEnd, incidentEdges, Index, Indexed}
 use Rattle.index.proofs.IndexLaws.{from-is}
 use Rattle.paths.specs.Paths.{EdgePath}
 
@@ -43,14 +43,14 @@ any-kept u v (e ∷ l) = byTest (eqb (e .from) u)
 abbrev pub entersAt : List ℕ → ℕ → ℕ → Bool
 entersAt es v e = eqb (getD es (4 * e + 1) 0) v
 
-pub any-ends : (m : ℕ) (es : List ℕ) (u v : ℕ) → anyOf (entersAt es v) (edgesAt (endOf 0 es) m u) ≡ anyOf (hasEnds u v) (edgesIn m es)
+pub any-ends : (m : ℕ) (es : List ℕ) (u v : ℕ) → anyOf (entersAt es v) (incidentEdges (edgeEnd 0 es) m u) ≡ anyOf (hasEnds u v) (edgesIn m es)
 unfolding edgesFrom
 any-ends m es u v = sym (any-kept u v (edgesIn m es) ∙ ap (anyOf (λ (e : Edge). eqb (e .to) v)) (from-is 0 0 m es [] [] u)
-    ∙ any-map (λ (e : Edge). eqb (e .to) v) (edgeIn es) (edgesAt (endOf 0 es) m u))
+    ∙ any-map (λ (e : Edge). eqb (e .to) v) (edgeIn es) (incidentEdges (edgeEnd 0 es) m u))
 
 -- the index over the edges out of each vertex, where the code reads it
 pub out-index : {m n : ℕ} {es heads nexts : List ℕ} → Indexed m n es heads nexts
-    → Index (endOf 0 es) m n (λ (v : ℕ). getD heads (2 * v) 0) (λ (e : ℕ). getD nexts (2 * e) 0)
+    → Index (edgeEnd 0 es) m n (λ (v : ℕ). getD heads (2 * v) 0) (λ (e : ℕ). getD nexts (2 * e) 0)
 out-index I = let J = I .index 0 (omega arith) in record {
   heads = λ v h. rw (add-zero (2 * v)) at (J .heads v h);
   nexts = λ e h. rw (add-zero (2 * e)) at (J .nexts e h);

@@ -20,10 +20,10 @@ use Rattle.tabs.proofs.ListTabs.{of-mem-tab}
 use Rattle.store.specs.Store.{isSet, graphIn, EndsBelow}
 use Rattle.store.proofs.EdgeLaws.{set-not}
 use Rattle.compact.proofs.CompactLaws.{order-in}
-use Rattle.index.specs.Index.{endOf, pairAt, Next, Index, Indexed}
+use Rattle.index.specs.Index.{edgeEnd, pairAt, Next, Index, Indexed}
 use Rattle.index.proofs.IndexLaws.{end-below}
 use Rattle.tabs.proofs.Ranks.{distinct-tab}
-use Rattle.reach.specs.Reach.{walkStep, takesEnd, passable, bare, Walkable, Cleared, Found, Grown, Spread, Pushed, VertexLeft, Reached}
+use Rattle.reach.specs.Reach.{walkStep, takesEnd, passable, bare, Walkable, NoneMarked, QueueFound, MarksGrown, Spread, Pushed, VertexLeft, Reached}
 use Rattle.reach.proofs.StepLaws.{step-hop, hop-step}
 
 pub both-ways : (a b : Bool) → (a ≡ true → b ≡ true) → (b ≡ true → a ≡ true) → a ≡ b
@@ -32,22 +32,22 @@ both-ways false b f g = byTest b (λ t. clash (g t) refl) (λ t. sym t)
 
 -- ---- clearing
 
-pub record Clearing (n : ℕ) (marks₀ marks : List ℕ) (i : ℕ) : Type 0 where
+pub record ClearingWalk (n : ℕ) (marks₀ marks : List ℕ) (i : ℕ) : Type 0 where
   pub high : i ≤ n
   pub len : length marks ≡ length marks₀
   pub none : (v : ℕ) → v < i → getD marks v 0 ≡ 0
 
-pub clearing-start : {n : ℕ} {marks : List ℕ} → Clearing n marks marks 0
+pub clearing-start : {n : ℕ} {marks : List ℕ} → ClearingWalk n marks marks 0
 clearing-start = record { high = omega arith; len = refl; none = λ v b. absurd (omega arith) }
 
-pub clearing-more : {n : ℕ} {marks₀ marks : List ℕ} {i : ℕ} → Clearing n marks₀ marks i → i < n → n ≤ length marks₀ → Clearing n marks₀ (set marks i 0) (i + 1)
+pub clearing-more : {n : ℕ} {marks₀ marks : List ℕ} {i : ℕ} → ClearingWalk n marks₀ marks i → i < n → n ≤ length marks₀ → ClearingWalk n marks₀ (set marks i 0) (i + 1)
 clearing-more {n} {marks₀} {marks} {i} C b room = record {
   high = omega arith;
   len = length-set marks i 0 ∙ C .len;
   none = set-more (λ v x. x ≡ 0) marks i 0 (omega (arith, C .len)) (C .none) refl;
 }
 
-pub clearing-end : {n : ℕ} {marks₀ marks : List ℕ} {i : ℕ} → Clearing n marks₀ marks i → n ≤ i → Cleared n marks
+pub clearing-end : {n : ℕ} {marks₀ marks : List ℕ} {i : ℕ} → ClearingWalk n marks₀ marks i → n ≤ i → NoneMarked n marks
 clearing-end C l = record { none = λ v b. C .none v (omega arith) }
 
 -- ---- marks and queue
@@ -58,18 +58,18 @@ mark-stays marks w v r t = elim (ℕ-discrete v w) [
   | no ne ↦ ap isSet (getD-set-other marks w v 1 0 ne) ∙ t
 ]
 
-pub grown-same : {marks queue : List ℕ} {tail : ℕ} → Grown marks queue tail marks queue tail
+pub grown-same : {marks queue : List ℕ} {tail : ℕ} → MarksGrown marks queue tail marks queue tail
 grown-same = record { more = omega arith; marks-stay = λ v t. t; queue-stays = λ i b. refl }
 
 grown-push : {marks₀ queue₀ : List ℕ} {tail₀ : ℕ} {marks queue : List ℕ} {tail : ℕ} (w : ℕ) → w < length marks
-    → Grown marks₀ queue₀ tail₀ marks queue tail → Grown marks₀ queue₀ tail₀ (set marks w 1) (set queue tail w) (tail + 1)
+    → MarksGrown marks₀ queue₀ tail₀ marks queue tail → MarksGrown marks₀ queue₀ tail₀ (set marks w 1) (set queue tail w) (tail + 1)
 grown-push {marks = marks} {queue} {tail} w r G = record {
   more = omega (arith, G .more);
   marks-stay = λ v t. mark-stays marks w v r (G .marks-stay v t);
   queue-stays = λ i b. getD-set-other queue tail i w 0 (λ q. omega (arith, G .more)) ∙ G .queue-stays i b;
 }
 
-module _ {plain : Bool} {kind m n : ℕ} {es : List ℕ} {s : ℕ} {marks queue : List ℕ} {tail : ℕ} (F : Found plain kind m n es s marks queue tail) where
+module _ {plain : Bool} {kind m n : ℕ} {es : List ℕ} {s : ℕ} {marks queue : List ℕ} {tail : ℕ} (F : QueueFound plain kind m n es s marks queue tail) where
   queue-distinct : Distinct (tab tail (λ (i : ℕ). getD queue i 0))
   queue-distinct = distinct-tab (λ (i : ℕ). getD queue i 0) tail (F .once)
 
@@ -128,7 +128,7 @@ module _ {plain : Bool} {kind m n : ℕ} {es : List ℕ} {s : ℕ} {marks queue 
           (F .near)
           (let r = F .near h l in (suc (r .0), omega (arith, r .1), way-more (walkStep plain kind) (bare m es) (r .0) s (getD queue h 0) w (r .2) hop))
 
-      pub found-push : Found plain kind m n es s (set marks w 1) (set queue tail w) (tail + 1)
+      pub found-push : QueueFound plain kind m n es s (set marks w 1) (set queue tail w) (tail + 1)
       found-push = record {
         vertex = set-more (λ i x. x < n) queue tail w (omega (arith, found-room)) (F .vertex) b;
         marked = set-more (λ i x. isSet (getD (set marks w 1) x 0) ≡ true) queue tail w (omega (arith, found-room))
@@ -141,24 +141,24 @@ module _ {plain : Bool} {kind m n : ℕ} {es : List ℕ} {s : ℕ} {marks queue 
 
 -- ---- the edges at the end `off` of u, which stands at h of the queue: those before number e are done
 
-pub record Pushing (plain : Bool) (kind off m n : ℕ) (es : List ℕ) (s h u : ℕ) (marks₀ queue₀ : List ℕ) (queued : ℕ) (marks queue :
+pub record PushingFound (plain : Bool) (kind off m n : ℕ) (es : List ℕ) (s h u : ℕ) (marks₀ queue₀ : List ℕ) (queued : ℕ) (marks queue :
     List ℕ) (tail e : ℕ) : Type 0 where
   pub high : e ≤ m
-  pub hit : e < m → endOf off es e ≡ u
+  pub hit : e < m → edgeEnd off es e ≡ u
   pub marks-len : length marks ≡ length marks₀
   pub queue-len : length queue ≡ length queue₀
   pub is-u : getD queue₀ h 0 ≡ u
-  pub found : Found plain kind m n es s marks queue tail
-  pub grown : Grown marks₀ queue₀ queued marks queue tail
+  pub found : QueueFound plain kind m n es s marks queue tail
+  pub grown : MarksGrown marks₀ queue₀ queued marks queue tail
   pub spread : Spread plain kind off es u e marks
 
 spread-next : {plain : Bool} {kind off m : ℕ} {es : List ℕ} {u e e′ : ℕ} {marks : List ℕ} → Spread plain kind off es u e marks
-    → Next (endOf off es) m u (e + 1) e′
-    → (takesEnd kind off ≡ true → passable plain es e ≡ true → isSet (getD marks (endOf (1 - off) es e) 0) ≡ true) → Spread plain kind off es u e′ marks
+    → Next (edgeEnd off es) m u (e + 1) e′
+    → (takesEnd kind off ≡ true → passable plain es e ≡ true → isSet (getD marks (edgeEnd (1 - off) es e) 0) ≡ true) → Spread plain kind off es u e′ marks
 spread-next {off = off} {es = es} {u} {e} {marks = marks} S N f = record {
   at = λ j b t p q. byOrder e j
       (λ (o : e ≤ j). elim (ℕ-discrete j e) [
-        | yes z ↦ ap (λ (x : ℕ). isSet (getD marks (endOf (1 - off) es x) 0)) z ∙ f t (ap (passable _ es) (sym z) ∙ p)
+        | yes z ↦ ap (λ (x : ℕ). isSet (getD marks (edgeEnd (1 - off) es x) 0)) z ∙ f t (ap (passable _ es) (sym z) ∙ p)
         | no ne ↦ absurd (N .skip j (omega arith) b q)
       ])
       (λ (o : j < e). S .at j o t p q);
@@ -170,12 +170,12 @@ spread-stays : {plain : Bool} {kind off : ℕ} {es : List ℕ} {u e : ℕ} {mark
 spread-stays stay S = record { at = λ j b t p q. stay _ (S .at j b t p q) }
 
 module _ {m n : ℕ} {es heads nexts : List ℕ} (X : Indexed m n es heads nexts) {off : ℕ} (o : off ≤ 1) where
-  index-at : Index (endOf off es) m n (pairAt off heads) (pairAt off nexts)
+  index-at : Index (edgeEnd off es) m n (pairAt off heads) (pairAt off nexts)
   index-at = X .index off o
 
   module _ {plain : Bool} {kind s h : ℕ} where
-    pub pushing-start : {marks queue : List ℕ} {queued u : ℕ} → Found plain kind m n es s marks queue queued → h < queued → u ≡ getD queue h 0
-        → Pushing plain kind off m n es s h u marks queue queued marks queue queued (pairAt off heads u)
+    pub pushing-start : {marks queue : List ℕ} {queued u : ℕ} → QueueFound plain kind m n es s marks queue queued → h < queued → u ≡ getD queue h 0
+        → PushingFound plain kind off m n es s h u marks queue queued marks queue queued (pairAt off heads u)
     pushing-start {marks} {queue} {queued} {u} F l q = let N = index-at .heads u (omega (arith, F .vertex h l)) in record {
       high = N .high;
       hit = N .hit;
@@ -187,9 +187,9 @@ module _ {m n : ℕ} {es heads nexts : List ℕ} (X : Indexed m n es heads nexts
       spread = record { at = λ j b t p r. absurd (N .skip j (omega arith) b r) };
     }
 
-    module _ {u : ℕ} {marks₀ queue₀ : List ℕ} {queued : ℕ} {marks queue : List ℕ} {tail e : ℕ} (P : Pushing plain
+    module _ {u : ℕ} {marks₀ queue₀ : List ℕ} {queued : ℕ} {marks queue : List ℕ} {tail e : ℕ} (P : PushingFound plain
         kind off m n es s h u marks₀ queue₀ queued marks queue tail e) (k : e < m) where
-      N : Next (endOf off es) m u (e + 1) (pairAt off nexts e)
+      N : Next (edgeEnd off es) m u (e + 1) (pairAt off nexts e)
       N = let z = index-at .nexts e k in record {
         low = z .low;
         high = z .high;
@@ -200,11 +200,11 @@ module _ {m n : ℕ} {es heads nexts : List ℕ} (X : Indexed m n es heads nexts
       pub pushing-later : e < pairAt off nexts e
       pushing-later = omega (arith, N .low)
 
-      pub pushing-below : endOf (1 - off) es e < n
+      pub pushing-below : edgeEnd (1 - off) es e < n
       pushing-below = end-below (1 - off) (X .ends) e k (omega arith)
 
-      passed : (takesEnd kind off ≡ true → passable plain es e ≡ true → isSet (getD marks (endOf (1 - off) es e) 0) ≡ true)
-          → Pushing plain kind off m n es s h u marks₀ queue₀ queued marks queue tail (pairAt off nexts e)
+      passed : (takesEnd kind off ≡ true → passable plain es e ≡ true → isSet (getD marks (edgeEnd (1 - off) es e) 0) ≡ true)
+          → PushingFound plain kind off m n es s h u marks₀ queue₀ queued marks queue tail (pairAt off nexts e)
       passed f = record {
         high = N .high;
         hit = N .hit;
@@ -216,24 +216,24 @@ module _ {m n : ℕ} {es heads nexts : List ℕ} (X : Indexed m n es heads nexts
         spread = spread-next (P .spread) N f;
       }
 
-      pub pushing-shut : passable plain es e ≡ false → Pushing plain kind off m n es s h u marks₀ queue₀ queued marks queue tail (pairAt off nexts e)
+      pub pushing-shut : passable plain es e ≡ false → PushingFound plain kind off m n es s h u marks₀ queue₀ queued marks queue tail (pairAt off nexts e)
       pushing-shut f = passed (λ t p. clash p f)
 
-      pub pushing-seen : {w : ℕ} → w ≡ endOf (1 - off) es e → isSet (getD marks w 0) ≡ true
-          → Pushing plain kind off m n es s h u marks₀ queue₀ queued marks queue tail (pairAt off nexts e)
+      pub pushing-seen : {w : ℕ} → w ≡ edgeEnd (1 - off) es e → isSet (getD marks w 0) ≡ true
+          → PushingFound plain kind off m n es s h u marks₀ queue₀ queued marks queue tail (pairAt off nexts e)
       pushing-seen q t = passed (λ _ _. ap (λ (x : ℕ). isSet (getD marks x 0)) (sym q) ∙ t)
 
-      module _ (R : Walkable n marks₀ queue₀) {x : ℕ} (is-x : x ≡ endOf (1 - off) es e) (fresh : isSet (getD marks x 0) ≡ false) where
-        new : isSet (getD marks (endOf (1 - off) es e) 0) ≡ false
+      module _ (R : Walkable n marks₀ queue₀) {x : ℕ} (is-x : x ≡ edgeEnd (1 - off) es e) (fresh : isSet (getD marks x 0) ≡ false) where
+        new : isSet (getD marks (edgeEnd (1 - off) es e) 0) ≡ false
         new = ap (λ (y : ℕ). isSet (getD marks y 0)) (sym is-x) ∙ fresh
 
         pub pushing-room : tail < n
         pushing-room = found-room (P .found) pushing-below new
 
         pub pushing-push : h < queued → takesEnd kind off ≡ true → passable plain es e ≡ true
-            → Pushing plain kind off m n es s h u marks₀ queue₀ queued (set marks x 1) (set queue tail x) (tail + 1) (pairAt off nexts e)
+            → PushingFound plain kind off m n es s h u marks₀ queue₀ queued (set marks x 1) (set queue tail x) (tail + 1) (pairAt off nexts e)
         pushing-push l t p =
-            let w = endOf (1 - off) es e in
+            let w = edgeEnd (1 - off) es e in
             let r : n ≤ length marks = omega (arith, P .marks-len, R .marks-room) in
             let y : w < length marks = omega (arith, pushing-below) in
             rw is-x (record {
@@ -258,23 +258,23 @@ module _ {m n : ℕ} {es heads nexts : List ℕ} (X : Indexed m n es heads nexts
               spread = spread-next (spread-stays (λ v. mark-stays marks w v y) (P .spread)) N (λ _ _. ap isSet (getD-set-same marks w 1 0 y));
             })
 
-    pub pushing-end : {u : ℕ} {marks₀ queue₀ : List ℕ} {queued : ℕ} {marks queue : List ℕ} {tail e : ℕ} → Pushing plain
+    pub pushing-end : {u : ℕ} {marks₀ queue₀ : List ℕ} {queued : ℕ} {marks queue : List ℕ} {tail e : ℕ} → PushingFound plain
         kind off m n es s h u marks₀ queue₀ queued marks queue tail e → m ≤ e
         → Pushed plain kind off m n es s h marks₀ queue₀ queued marks queue tail
     pushing-end P l = record { found = P .found; grown = P .grown; spread = record { at = λ j b t p q. P .spread .at j (omega arith) t p (q ∙ P .is-u) } }
 
-pub pushed-none : {plain : Bool} {kind off m n : ℕ} {es : List ℕ} {s h : ℕ} {marks queue : List ℕ} {tail : ℕ} → Found plain
+pub found-none : {plain : Bool} {kind off m n : ℕ} {es : List ℕ} {s h : ℕ} {marks queue : List ℕ} {tail : ℕ} → QueueFound plain
     kind m n es s marks queue tail → takesEnd kind off ≡ false
     → Pushed plain kind off m n es s h marks queue tail marks queue tail
-pushed-none F f = record { found = F; grown = grown-same; spread = record { at = λ j b t p q. clash t f } }
+found-none F f = record { found = F; grown = grown-same; spread = record { at = λ j b t p q. clash t f } }
 
 -- ---- both ends of a vertex
 
 module _ {plain : Bool} {kind m n : ℕ} {es : List ℕ} {s h : ℕ} {marks queue : List ℕ} {tail : ℕ} (l : h < tail)
     {marks₁ queue₁ : List ℕ} {tail₁ : ℕ} (A : Pushed plain kind 0 m n es s h marks queue tail marks₁ queue₁ tail₁)
     {marks₂ queue₂ : List ℕ} {tail₂ : ℕ} (B : Pushed plain kind 1 m n es s h marks₁ queue₁ tail₁ marks₂ queue₂ tail₂) where
-  step-marked : (off e : ℕ) → off ≤ 1 → e < m → takesEnd kind off ≡ true → passable plain es e ≡ true → endOf off es e ≡ getD queue h 0
-      → isSet (getD marks₂ (endOf (1 - off) es e) 0) ≡ true
+  step-marked : (off e : ℕ) → off ≤ 1 → e < m → takesEnd kind off ≡ true → passable plain es e ≡ true → edgeEnd off es e ≡ getD queue h 0
+      → isSet (getD marks₂ (edgeEnd (1 - off) es e) 0) ≡ true
   step-marked zero e o k t p q = B .grown .marks-stay _ (A .spread .at e k t p q)
   step-marked (suc zero) e o k t p q = B .spread .at e k t p (q ∙ sym (A .grown .queue-stays h l))
   step-marked (suc (suc n)) e o k t p q = absurd (omega arith)
@@ -297,11 +297,11 @@ module _ {plain : Bool} {kind m n : ℕ} {es : List ℕ} {s h : ℕ} {marks queu
 
 -- ---- the walk
 
-pub record Walking (plain : Bool) (kind m n : ℕ) (es : List ℕ) (s : ℕ) (marks₀ queue₀ marks queue : List ℕ) (tail h : ℕ) : Type 0 where
+pub record WalkingQueue (plain : Bool) (kind m n : ℕ) (es : List ℕ) (s : ℕ) (marks₀ queue₀ marks queue : List ℕ) (tail h : ℕ) : Type 0 where
   pub high : h ≤ tail
   pub marks-len : length marks ≡ length marks₀
   pub queue-len : length queue ≡ length queue₀
-  pub found : Found plain kind m n es s marks queue tail
+  pub found : QueueFound plain kind m n es s marks queue tail
   pub start : isSet (getD marks s 0) ≡ true
   pub left : (i : ℕ) → i < h → (w : ℕ) → Hop (walkStep plain kind) (bare m es) (getD queue i 0) w → isSet (getD marks w 0) ≡ true
 
@@ -310,8 +310,8 @@ pub walkable-kept : {n : ℕ} {marks marks′ queue queue′ : List ℕ} → Wal
 walkable-kept R a b = record { marks-room = omega (arith, R .marks-room); queue-room = omega (arith, R .queue-room); small = R .small }
 
 module _ {plain : Bool} {kind m n : ℕ} {es : List ℕ} {s : ℕ} where
-  pub walking-start : (marks queue : List ℕ) → Cleared n marks → s < n → n ≤ length marks → n ≤ length queue
-      → Walking plain kind m n es s (set marks s 1) (set queue 0 s) (set marks s 1) (set queue 0 s) 1 0
+  pub walking-start : (marks queue : List ℕ) → NoneMarked n marks → s < n → n ≤ length marks → n ≤ length queue
+      → WalkingQueue plain kind m n es s (set marks s 1) (set queue 0 s) (set marks s 1) (set queue 0 s) 1 0
   walking-start marks queue C b r y = record {
     high = omega arith;
     marks-len = refl;
@@ -339,10 +339,10 @@ module _ {plain : Bool} {kind m n : ℕ} {es : List ℕ} {s : ℕ} where
         | no ne ↦ clash t (set-not (getD-set-other marks s v 1 0 ne ∙ C .none v k))
       ]
 
-  pub walking-more : {marks₀ queue₀ marks queue : List ℕ} {tail h : ℕ} → Walking plain kind m n es s marks₀ queue₀ marks queue tail h → h < tail
+  pub walking-more : {marks₀ queue₀ marks queue : List ℕ} {tail h : ℕ} → WalkingQueue plain kind m n es s marks₀ queue₀ marks queue tail h → h < tail
       → {marks′ queue′ : List ℕ} {tail′ : ℕ} → VertexLeft plain kind m n es s h marks queue tail marks′ queue′ tail′ → length marks′
       ≡ length marks → length queue′ ≡ length queue
-      → Walking plain kind m n es s marks₀ queue₀ marks′ queue′ tail′ (h + 1)
+      → WalkingQueue plain kind m n es s marks₀ queue₀ marks′ queue′ tail′ (h + 1)
   walking-more {queue = queue} {h = h} W l {marks′} L a b = record {
     high = omega (arith, L .grown .more);
     marks-len = a ∙ W .marks-len;
@@ -355,7 +355,7 @@ module _ {plain : Bool} {kind m n : ℕ} {es : List ℕ} {s : ℕ} where
       at : (i : ℕ) → i < h + 1 → (w : ℕ) → Hop (walkStep plain kind) (bare m es) (getD queue i 0) w → isSet (getD marks′ w 0) ≡ true
       at i k w j = elim (ℕ-discrete i h) [ yes q ↦ L .left w (rw q at j) | no ne ↦ L .grown .marks-stay w (W .left i (omega arith) w j) ]
 
-  module _ (E : EndsBelow n m es) (b : s < n) {marks₀ queue₀ marks queue : List ℕ} {tail h : ℕ} (W : Walking plain
+  module _ (E : EndsBelow n m es) (b : s < n) {marks₀ queue₀ marks queue : List ℕ} {tail h : ℕ} (W : WalkingQueue plain
       kind m n es s marks₀ queue₀ marks queue tail h) (over : tail ≤ h) where
     hop-below : (u w : ℕ) → Hop (walkStep plain kind) (bare m es) u w → w < n
     hop-below u w j = let S = hop-step {plain = plain} {kind = kind} {m = m} {es = es} {u = u} {w = w} j in

@@ -14,12 +14,12 @@ use Rattle.laws.proofs.ListLaws.{and-split, and-true, or-cases, not-not, or-lef
 use Rattle.laws.proofs.Reach.{Hop}
 use Rattle.tabs.proofs.ListTabs.{mem-tab, of-mem-tab}
 use Rattle.store.specs.Store.{edgeIn}
-use Rattle.index.specs.Index.{endOf, endAt}
+use Rattle.index.specs.Index.{edgeEnd, endAt}
 use Rattle.index.proofs.IndexLaws.{end-is}
 use Rattle.reach.specs.Reach.{stepOf, walkStep, takesEnd, passable, bare}
 
 -- a step by its parts: the end at which it takes the edge
-pub record Over (kind : ℕ) (x : Edge) (u w : ℕ) : Type 0 where
+pub record StepOver (kind : ℕ) (x : Edge) (u w : ℕ) : Type 0 where
   pub off : ℕ
   pub is-end : off ≤ 1
   pub takes : takesEnd kind off ≡ true
@@ -45,17 +45,17 @@ step-yes (suc (suc kind)) zero x u w l t p q = or-left _ _ (along x u w p q)
 step-yes (suc (suc kind)) (suc zero) x u w l t p q = or-right (forward x u w) _ (against x u w p q)
 step-yes (suc (suc kind)) (suc (suc n)) x u w l t p q = absurd (omega arith)
 
-of-along : (kind : ℕ) (x : Edge) (u w : ℕ) → takesEnd kind 0 ≡ true → forward x u w ≡ true → Over kind x u w
+of-along : (kind : ℕ) (x : Edge) (u w : ℕ) → takesEnd kind 0 ≡ true → forward x u w ≡ true → StepOver kind x u w
 unfolding forward endAt
 of-along kind x u w t e = let h = and-split (eqb (x .from) u) (eqb (x .to) w) e in
     record { off = 0; is-end = omega arith; takes = t; here = eqb-true _ _ (h .0); there = eqb-true _ _ (h .1) }
 
-of-against : (kind : ℕ) (x : Edge) (u w : ℕ) → takesEnd kind 1 ≡ true → backward x u w ≡ true → Over kind x u w
+of-against : (kind : ℕ) (x : Edge) (u w : ℕ) → takesEnd kind 1 ≡ true → backward x u w ≡ true → StepOver kind x u w
 unfolding backward endAt
 of-against kind x u w t e = let h = and-split (eqb (x .to) u) (eqb (x .from) w) e in
     record { off = 1; is-end = omega arith; takes = t; here = eqb-true _ _ (h .0); there = eqb-true _ _ (h .1) }
 
-pub of-step : (kind : ℕ) (x : Edge) (u w : ℕ) → stepOf kind x u w ≡ true → Over kind x u w
+pub of-step : (kind : ℕ) (x : Edge) (u w : ℕ) → stepOf kind x u w ≡ true → StepOver kind x u w
 unfolding stepOf either takesEnd
 of-step zero x u w e = of-along zero x u w refl e
 of-step (suc zero) x u w e = of-against (suc zero) x u w refl e
@@ -82,8 +82,8 @@ pub record Step (plain : Bool) (kind m : ℕ) (es : List ℕ) (u w : ℕ) : Type
   pub off : ℕ
   pub is-end : off ≤ 1
   pub takes : takesEnd kind off ≡ true
-  pub here : endOf off es edge ≡ u
-  pub there : endOf (1 - off) es edge ≡ w
+  pub here : edgeEnd off es edge ≡ u
+  pub there : edgeEnd (1 - off) es edge ≡ w
 
 pub step-hop : {plain : Bool} {kind m : ℕ} {es : List ℕ} {u w : ℕ} → Step plain kind m es u w → Hop (walkStep plain kind) (bare m es) u w
 step-hop {plain} {kind} {m} {es} {u} {w} S = (

@@ -10,7 +10,7 @@ use Rattle.defs.specs.SeqGraph.{Edge, Graph}
 use Rattle.defs.specs.Cleanup.{forward, backward, either, reached}
 use Rattle.laws.proofs.Reach.{Hop, Way}
 use Rattle.store.specs.Store.{isSet, graphIn}
-use Rattle.index.specs.Index.{endOf}
+use Rattle.index.specs.Index.{edgeEnd}
 use Rattle.refs.specs.Refs.{refAt}
 
 -- the kinds of walks: 0 along the edges, 1 against them, any other number either way
@@ -36,7 +36,7 @@ pub record Reached (plain : Bool) (kind m n : ℕ) (es : List ℕ) (s : ℕ) (ma
 
 -- ---- on the way
 
-pub record Cleared (n : ℕ) (marks : List ℕ) : Type 0 where
+pub record NoneMarked (n : ℕ) (marks : List ℕ) : Type 0 where
   pub none : (v : ℕ) → v < n → getD marks v 0 ≡ 0
 
 -- whether a walk of this kind leaves a vertex over the edges at its end `off`: 0 those that leave it, 1 those that enter it
@@ -54,7 +54,7 @@ abbrev pub bare : ℕ → List ℕ → Graph
 bare m es = graphIn 0 0 m es [] []
 
 -- The first `tail` places of the queue hold the marked vertices, each once. The one at place i is at most i steps from s.
-pub record Found (plain : Bool) (kind m n : ℕ) (es : List ℕ) (s : ℕ) (marks queue : List ℕ) (tail : ℕ) : Type 0 where
+pub record QueueFound (plain : Bool) (kind m n : ℕ) (es : List ℕ) (s : ℕ) (marks queue : List ℕ) (tail : ℕ) : Type 0 where
   pub vertex : (i : ℕ) → i < tail → getD queue i 0 < n
   pub marked : (i : ℕ) → i < tail → isSet (getD marks (getD queue i 0) 0) ≡ true
   pub once : (i j : ℕ) → i < tail → j < tail → getD queue i 0 ≡ getD queue j 0 → i ≡ j
@@ -62,24 +62,24 @@ pub record Found (plain : Bool) (kind m n : ℕ) (es : List ℕ) (s : ℕ) (mark
   pub near : (i : ℕ) → i < tail → (l : ℕ) × (l ≤ i) × Way (walkStep plain kind) (bare m es) l s (getD queue i 0)
 
 -- what was marked and queued stays so
-pub record Grown (marks queue : List ℕ) (tail : ℕ) (marks′ queue′ : List ℕ) (tail′ : ℕ) : Type 0 where
+pub record MarksGrown (marks queue : List ℕ) (tail : ℕ) (marks′ queue′ : List ℕ) (tail′ : ℕ) : Type 0 where
   pub more : tail ≤ tail′
   pub marks-stay : (v : ℕ) → isSet (getD marks v 0) ≡ true → isSet (getD marks′ v 0) ≡ true
   pub queue-stays : (i : ℕ) → i < tail → getD queue′ i 0 ≡ getD queue i 0
 
 -- the steps from u over the edges at its end `off` with a number below c lead to marked vertices
 pub record Spread (plain : Bool) (kind off : ℕ) (es : List ℕ) (u c : ℕ) (marks : List ℕ) : Type 0 where
-  pub at : (e : ℕ) → e < c → takesEnd kind off ≡ true → passable plain es e ≡ true → endOf off es e ≡ u → isSet (getD marks (endOf (1 - off) es e) 0) ≡ true
+  pub at : (e : ℕ) → e < c → takesEnd kind off ≡ true → passable plain es e ≡ true → edgeEnd off es e ≡ u → isSet (getD marks (edgeEnd (1 - off) es e) 0) ≡ true
 
 pub record Pushed (plain : Bool) (kind off m n : ℕ) (es : List ℕ) (s h : ℕ) (marks queue : List ℕ) (tail : ℕ) (marks′ queue′ :
     List ℕ) (tail′ : ℕ) : Type 0 where
-  pub found : Found plain kind m n es s marks′ queue′ tail′
-  pub grown : Grown marks queue tail marks′ queue′ tail′
+  pub found : QueueFound plain kind m n es s marks′ queue′ tail′
+  pub grown : MarksGrown marks queue tail marks′ queue′ tail′
   pub spread : Spread plain kind off es (getD queue h 0) m marks′
 
 -- every step from the vertex at h of the queue leads to a marked vertex
 pub record VertexLeft (plain : Bool) (kind m n : ℕ) (es : List ℕ) (s h : ℕ) (marks queue : List ℕ) (tail : ℕ) (marks′ queue′ :
     List ℕ) (tail′ : ℕ) : Type 0 where
-  pub found : Found plain kind m n es s marks′ queue′ tail′
-  pub grown : Grown marks queue tail marks′ queue′ tail′
+  pub found : QueueFound plain kind m n es s marks′ queue′ tail′
+  pub grown : MarksGrown marks queue tail marks′ queue′ tail′
   pub left : (w : ℕ) → Hop (walkStep plain kind) (bare m es) (getD queue h 0) w → isSet (getD marks′ w 0) ≡ true

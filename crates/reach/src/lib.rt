@@ -4,7 +4,7 @@ ghost use mathlib.Core.Path.{_≡_};
 ghost use Prim.Native.Nat.{_+_, _*_, _<_, _≤_};
 ghost use lib.ListN.{length};
 ghost use Rattle.index.specs.Index.{Indexed};
-ghost use Rattle.reach.specs.Reach.{takesEnd, passable, Walkable, Cleared, Found, Pushed, VertexLeft, Reached};
+ghost use Rattle.reach.specs.Reach.{takesEnd, passable, Walkable, NoneMarked, QueueFound, Pushed, VertexLeft, Reached};
 
 // Whether a walk of this kind takes the edges at the end `off` of a vertex. Kind 0 goes along the edges, 1 against them, any other either way.
 fn takes_end(kind: u32, off: usize) -> bool
@@ -32,7 +32,7 @@ fn may_pass(es: &[u32], e: usize, plain: bool) -> bool
 
 fn clear_marks(marks: &mut [u64], n: usize)
     requires { ⌜ n ≤ length (now marks) ⌝ }
-    ensures { λ _. ⌜ Cleared n (now (marks .exit)) ⌝ }
+    ensures { λ _. ⌜ NoneMarked n (now (marks .exit)) ⌝ }
 {
     let mut i = 0;
     while i < n {
@@ -58,7 +58,7 @@ fn push_steps(
     queued: usize,
 ) -> usize
     requires { ⌜ (h < queued) × ((off ≤ 1) × (Indexed m n (now es) (now heads) (now nexts)
-        × (Walkable n (now marks) (now queue) × Found plain kind m n (now es) s (now marks) (now queue) queued))) ⌝ }
+        × (Walkable n (now marks) (now queue) × QueueFound plain kind m n (now es) s (now marks) (now queue) queued))) ⌝ }
     ensures { λ r. ⌜ Pushed plain kind off m n (now (es .entry)) s h (now (marks .entry)) (now (queue .entry)) queued (now (marks .exit))
         (now (queue .exit)) r ⌝ }
 {
@@ -99,7 +99,7 @@ fn leave_vertex(
     queued: usize,
 ) -> usize
     requires { ⌜ (h < queued) × (Indexed m n (now es) (now heads) (now nexts)
-        × (Walkable n (now marks) (now queue) × Found plain kind m n (now es) s (now marks) (now queue) queued)) ⌝ }
+        × (Walkable n (now marks) (now queue) × QueueFound plain kind m n (now es) s (now marks) (now queue) queued)) ⌝ }
     ensures { λ r. ⌜ VertexLeft plain kind m n (now (es .entry)) s h (now (marks .entry)) (now (queue .entry)) queued (now (marks .exit))
         (now (queue .exit)) r ⌝ }
 {

@@ -34,10 +34,10 @@ use Rattle.doubled.specs.Doubled.{Markable}
 use Rattle.cycle.specs.Peel.{Peelable, HasCycle}
 use Rattle.sound.proofs.Accepted.{refused-early, refused-6, refused-7, accepted, read-good}
 use Rattle.sort.specs.Sort.{Sortable}
-use Rattle.kmer_order.specs.Order.{Sequence, KmerOrder}
+use Rattle.kmer_order.specs.Order.{ReadableSequence, KmerOrder}
 use Rattle.accept.specs.declared.Read.the-variants.{Graph, Refused}
 use Rattle.accept.proofs.AcceptLaws.{not-both, number-graph, number-refused, same-held}
-use Rattle.read_kmers.specs.Kmers.{Room, Roomy, Doubles, HoldsKmers, KmersRead}
+use Rattle.read_kmers.specs.Kmers.{KmerRoom, RoomToReadKmers, Doubles, HoldsKmers, KmersRead}
 
 -- ---- doubled edges and k-mers
 
@@ -85,11 +85,11 @@ module _ (bs : List ℕ) where
       (sym (refused-early kmerOnly bs (sym (refused-number kmerOnly bs e f)) (byOrder 1 n (λ b. b) (λ b. absurd (some (omega arith)))))) some
 
   module _ (layout : refusalOf (take 5 (recordCauses kmerOnly bs)) ≡ 0) {es vs p heads nexts order scratch place : List ℕ} (Y :
-      Roomy bs es vs p heads nexts order scratch place) where
+      RoomToReadKmers bs es vs p heads nexts order scratch place) where
     formed : WellFormed bs
     formed = well-formed kmerOnly bs layout
 
-    R : Room bs es vs p heads nexts order scratch place
+    R : KmerRoom bs es vs p heads nexts order scratch place
     R = Y .room formed (kmer-kind bs layout)
 
     size-is : (i : ℕ) → i < verticesOf bs → lengthAt bs i ≡ kOf bs
@@ -125,7 +125,7 @@ module _ (bs : List ℕ) where
       pub read-markable : Markable (h .n) scratch
       read-markable = record { room = omega (arith, L .n, R .scratch-room); small = omega (arith, n-small) }
 
-      pub read-sortable : length vs′ ≡ length vs → length p′ ≡ length p → Sortable (Sequence vs′ p′) (h .n) order scratch
+      pub read-sortable : length vs′ ≡ length vs → length p′ ≡ length p → Sortable (ReadableSequence vs′ p′) (h .n) order scratch
       read-sortable a b = record {
         order-room = omega (arith, L .n, R .order-room);
         scratch-room = omega (arith, L .n, R .scratch-room);

@@ -18,7 +18,7 @@ use Rattle.accept.specs.declared.Read.the-variants.{Graph, Refused}
 use Rattle.kmer_order.specs.Order.{KmerOrder}
 
 -- room for the record's vertices, edges and bytes
-pub record Room (bs es vs p heads nexts order scratch place : List ℕ) : Type 0 where
+pub record KmerRoom (bs es vs p heads nexts order scratch place : List ℕ) : Type 0 where
   pub es-room : 4 * edgesOf bs ≤ length es
   pub vs-room : 2 * verticesOf bs ≤ length vs
   pub p-room : bytesOf bs ≤ length p
@@ -29,8 +29,8 @@ pub record Room (bs es vs p heads nexts order scratch place : List ℕ) : Type 0
   pub place-room : verticesOf bs ≤ length place
 
 -- there is room if the record's layout is that of a k-mer graph
-pub record Roomy (bs es vs p heads nexts order scratch place : List ℕ) : Type 0 where
-  pub room : WellFormed bs → kindOf bs ≡ 0 → Room bs es vs p heads nexts order scratch place
+pub record RoomToReadKmers (bs es vs p heads nexts order scratch place : List ℕ) : Type 0 where
+  pub room : WellFormed bs → kindOf bs ≡ 0 → KmerRoom bs es vs p heads nexts order scratch place
 
 -- two edges with the same ends, or two equal k-mers; where neither, the vertices in the order of their k-mers
 pub record Doubles (m n : ℕ) (es vs p : List ℕ) (r : Bool) (order : List ℕ) : Type 0 where

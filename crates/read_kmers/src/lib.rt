@@ -3,8 +3,8 @@
 ghost use Rattle.index.specs.Index.{Indexed};
 ghost use Rattle.doubled.specs.Doubled.{Markable};
 ghost use Rattle.sort.specs.Sort.{Sortable};
-ghost use Rattle.kmer_order.specs.Order.{Sequence};
-ghost use Rattle.read_kmers.specs.Kmers.{Roomy, Doubles, KmersRead};
+ghost use Rattle.kmer_order.specs.Order.{ReadableSequence};
+ghost use Rattle.read_kmers.specs.Kmers.{RoomToReadKmers, Doubles, KmersRead};
 use accept::Read;
 use record::Layout;
 use record::Takes;
@@ -22,7 +22,7 @@ pub fn is_doubled(
     scratch: &mut [u32],
 ) -> bool
     requires { ⌜ Indexed m n (now es) (now heads) (now nexts)
-        × (Markable n (now scratch) × Sortable (Sequence (now vs) (now p)) n (now order) (now scratch)) ⌝ }
+        × (Markable n (now scratch) × Sortable (ReadableSequence (now vs) (now p)) n (now order) (now scratch)) ⌝ }
     ensures { λ r. ⌜ Doubles m n (now (es .entry)) (now (vs .entry)) (now (p .entry)) r (now (order .exit)) ⌝ }
 {
     if doubled::doubled_edge(es, m, n, heads, nexts, scratch) {
@@ -43,7 +43,7 @@ pub fn read_kmer_graph(
     scratch: &mut [u32],
     place: &mut [u32],
 ) -> Read
-    requires { ⌜ Roomy (now rec) (now es) (now vs) (now p) (now heads) (now nexts) (now order) (now scratch) (now place) ⌝ }
+    requires { ⌜ RoomToReadKmers (now rec) (now es) (now vs) (now p) (now heads) (now nexts) (now order) (now scratch) (now place) ⌝ }
     ensures { λ r. ⌜ KmersRead (now (rec .entry)) r (now (es .exit)) (now (vs .exit)) (now (p .exit)) (now (heads .exit))
         (now (nexts .exit)) (now (order .exit)) ⌝ }
 {

@@ -21,14 +21,14 @@ use Rattle.accept.specs.declared.Read.the-variants as read
 use Rattle.accept.proofs.AcceptLaws.{not-both, number-graph, same-held, read-none, read-number}
 use Rattle.paths.proofs.BytesLaws.{held-spellable}
 use Rattle.choice.proofs.ChoiceLaws.{lean-holds, holds-lean-kept, reduced-lean, held-compactable, held-indexable, held-walkable}
-use Rattle.cleanable.proofs.ReadLean.{read-lean}
-use Rattle.cleanable.proofs.CleanLean.{clean-lean}
+use Rattle.cleanup_room.proofs.ReadLean.{read-lean}
+use Rattle.cleanup_room.proofs.CleanLean.{clean-lean}
 use Rattle.arrays.specs.Sized.{LentMarks}
 use Rattle.calls.specs.Sending.{Sendable, Responds, GraphSendable, SendsGraph}
 use Rattle.calls.specs.declared.Sent.{Sent}
 use Rattle.calls.proofs.SendLaws.{held-sendable}
 use Rattle.calls.proofs.ResponseLaws.{respond-refused}
-use Rattle.reading_calls.specs.Reading.{responseOf, pathResponse, Answerable, Tellable, GraphAnswered, ReadAnswerable, ReadAnswered}
+use Rattle.reading_calls.specs.Reading.{readingResponse, pathResponse, Answerable, Tellable, GraphAnswered, ReadAnswerable, ReadAnswered}
 use Rattle.reading_calls.specs.declared.ReadingCall.{ReadingCall}
 use Rattle.reading_calls.specs.declared.ReadingCall.the-variants.{CleanNonRefPaths, ReferencePathBytes, PathBasesBytes}
 use Rattle.reading_calls.proofs.BytesLaws.{responds-refused, reference-refused, path-refused}
@@ -92,38 +92,38 @@ unfolding cleanNonRefPathsResponse recordRefusal
 clean-refused bs room {n} e o = respond-refused (recordCauses sequenceOnly bs) room _ n e o
 
 call-refused : (call : ReadingCall) (list bs : List ℕ) (room : ℕ) {n : ℕ} → recordRefusal sequenceOnly bs ≡ n → (n ≡ 0 → ⊥)
-    → responseOf call list bs room ≡ refused n
-unfolding responseOf pathResponse
+    → readingResponse call list bs room ≡ refused n
+unfolding readingResponse pathResponse
 call-refused CleanNonRefPaths list bs room e o = clean-refused bs room e o
 call-refused ReferencePathBytes list bs room e o = reference-refused bs room e o
 call-refused (PathBasesBytes start) list bs room e o = path-refused bs start list room e o
 
 -- by the case of what was read, and of the call
 module _ (call : ReadingCall) (list : List ℕ) {x : Read} {es vs p out : List ℕ} where
-  pub answer-refused : {n : ℕ} → x ≡ read.Refused n → ReadAnswered (responseOf call list) x es vs p out record { number = n; length = 0 } out
+  pub answer-refused : {n : ℕ} → x ≡ read.Refused n → ReadAnswered (readingResponse call list) x es vs p out record { number = n; length = 0 } out
   answer-refused {n} f = record {
     is = λ bs heads nexts A. responds-refused (call-refused call list bs (length out) (read-number A f) (A .refused n f)) refl refl;
   }
 
   module _ {h : Held} (ok : x ≡ read.Graph h) {s : Sent} {out′ : List ℕ} where
-    by-call : {which : ReadingCall} → call ≡ which → GraphAnswered (responseOf which list) h es vs p out s out′
-        → ReadAnswered (responseOf call list) x es vs p out s out′
+    by-call : {which : ReadingCall} → call ≡ which → GraphAnswered (readingResponse which list) h es vs p out s out′
+        → ReadAnswered (readingResponse call list) x es vs p out s out′
     by-call w G = record {
-      is = λ bs heads nexts A. subst (λ (y : ReadingCall). Responds (responseOf y list bs (length out)) out s out′) (sym w)
+      is = λ bs heads nexts A. subst (λ (y : ReadingCall). Responds (readingResponse y list bs (length out)) out s out′) (sym w)
           (G .is bs (read-none A ok) (A .is h ok));
     }
 
     pub answer-cleaned : call ≡ CleanNonRefPaths → GraphAnswered cleanNonRefPathsResponse h es vs p out s out′
-        → ReadAnswered (responseOf call list) x es vs p out s out′
-    unfolding responseOf
+        → ReadAnswered (readingResponse call list) x es vs p out s out′
+    unfolding readingResponse
     answer-cleaned w G = by-call w G
 
     pub answer-reference : call ≡ ReferencePathBytes → GraphAnswered referencePathBytesResponse h es vs p out s out′
-        → ReadAnswered (responseOf call list) x es vs p out s out′
-    unfolding responseOf
+        → ReadAnswered (readingResponse call list) x es vs p out s out′
+    unfolding readingResponse
     answer-reference w G = by-call w G
 
     pub answer-path : {start : ℕ} → call ≡ PathBasesBytes start → GraphAnswered (pathResponse start list) h es vs p out s out′
-        → ReadAnswered (responseOf call list) x es vs p out s out′
-    unfolding responseOf
+        → ReadAnswered (readingResponse call list) x es vs p out s out′
+    unfolding readingResponse
     answer-path w G = by-call w G

@@ -26,10 +26,10 @@ use Rattle.reading_calls.specs.declared.ReadingCall.the-variants.{CleanN
 unfoldable pub pathResponse : ℕ → List ℕ → List ℕ → ℕ → Response
 pathResponse start list bs room = pathBasesBytesResponse bs start list room
 
-unfoldable pub responseOf : ReadingCall → List ℕ → List ℕ → ℕ → Response
-responseOf CleanNonRefPaths list = cleanNonRefPathsResponse
-responseOf ReferencePathBytes list = referencePathBytesResponse
-responseOf (PathBasesBytes start) list = pathResponse start list
+unfoldable pub readingResponse : ReadingCall → List ℕ → List ℕ → ℕ → Response
+readingResponse CleanNonRefPaths list = cleanNonRefPathsResponse
+readingResponse ReferencePathBytes list = referencePathBytesResponse
+readingResponse (PathBasesBytes start) list = pathResponse start list
 
 -- the number for none; 11 for bytes that the room is too short for; else their length
 pub record Tells (told : OptionBytes) (room missing : ℕ) (s : Sent) : Type 0 where

@@ -6,7 +6,7 @@ ghost use lib.ListN.{length};
 ghost use Rattle.defs.specs.Calls.{cleanNonRefPathsResponse, referencePathBytesResponse};
 ghost use Rattle.arrays.specs.Sized.{LentMarks};
 ghost use Rattle.calls.specs.Sending.{Responds};
-ghost use Rattle.reading_calls.specs.Reading.{responseOf, pathResponse, Answerable, Tellable, Tells, GraphAnswered, ReadAnswerable, ReadAnswered};
+ghost use Rattle.reading_calls.specs.Reading.{readingResponse, pathResponse, Answerable, Tellable, Tells, GraphAnswered, ReadAnswerable, ReadAnswered};
 use accept::Read;
 use arrays::LARGE_EDGES;
 use arrays::LARGE_VERTICES;
@@ -63,7 +63,7 @@ fn clean_in(
     ensures { λ r. ⌜ GraphAnswered cleanNonRefPathsResponse held (now (es .entry)) (now (vs .entry)) (now (p .entry)) (now (out .entry)) r
         (now (out .exit)) ⌝ }
 {
-    let cleaned = clean_non_ref::clean_non_ref_paths(held, es, vs, heads, nexts, nodes, map, tried);
+    let cleaned = non_ref_paths::clean_non_ref_paths(held, es, vs, heads, nexts, nodes, map, tried);
     calls::send(Read::Graph(cleaned), 0, out, es, vs, p)
 }
 
@@ -124,7 +124,7 @@ fn answer_read(
     tried: &mut [u64],
 ) -> Sent
     requires { ⌜ ReadAnswerable read (now es) (now vs) (now p) (now heads) (now nexts) (now nodes) (now map) (now tried) ⌝ }
-    ensures { λ r. ⌜ ReadAnswered (responseOf call (now (list .entry))) read (now (es .entry)) (now (vs .entry)) (now (p .entry))
+    ensures { λ r. ⌜ ReadAnswered (readingResponse call (now (list .entry))) read (now (es .entry)) (now (vs .entry)) (now (p .entry))
         (now (out .entry)) r (now (out .exit)) ⌝ }
 {
     let held = match read {
@@ -162,7 +162,7 @@ fn answer_in(
     tried: &mut [u64],
 ) -> Sent
     requires { ⌜ LentMarks (now rec) (now es) (now vs) (now p) (now heads) (now nexts) (now nodes) (now map) (now tried) ⌝ }
-    ensures { λ r. ⌜ Responds (responseOf call (now (list .entry)) (now (rec .entry)) (length (now (out .entry)))) (now (out .entry)) r (now (out .exit)) ⌝ }
+    ensures { λ r. ⌜ Responds (readingResponse call (now (list .entry)) (now (rec .entry)) (length (now (out .entry)))) (now (out .entry)) r (now (out .exit)) ⌝ }
 {
     let read = accept::read_sequence_graph(rec, es, vs, p, heads, nexts, nodes, map);
     answer_read(
@@ -196,7 +196,7 @@ fn large_with(
     map: &mut [u32; 2 * LARGE_VERTICES],
     tried: &mut [u64; LARGE_VERTICES],
 ) -> Sent
-    ensures { λ r. ⌜ Responds (responseOf call (now (list .entry)) (now (rec .entry)) (length (now (out .entry)))) (now (out .entry)) r (now (out .exit)) ⌝ }
+    ensures { λ r. ⌜ Responds (readingResponse call (now (list .entry)) (now (rec .entry)) (length (now (out .entry)))) (now (out .entry)) r (now (out .exit)) ⌝ }
 {
     answer_in(
         call,
@@ -215,7 +215,7 @@ fn large_with(
 }
 
 fn large(call: ReadingCall, list: &[u32], rec: &[u8], out: &mut [u8]) -> Sent
-    ensures { λ r. ⌜ Responds (responseOf call (now (list .entry)) (now (rec .entry)) (length (now (out .entry)))) (now (out .entry)) r (now (out .exit)) ⌝ }
+    ensures { λ r. ⌜ Responds (readingResponse call (now (list .entry)) (now (rec .entry)) (length (now (out .entry)))) (now (out .entry)) r (now (out .exit)) ⌝ }
 {
     let mut es = [0u32; 8 * LARGE_EDGES];
     let mut vs = [0u32; 4 * LARGE_VERTICES];
@@ -256,7 +256,7 @@ fn small_with(
     tried: &mut [u64; SMALL_VERTICES],
 ) -> Sent
     requires { ⌜ length (now rec) ≤ 1024 ⌝ }
-    ensures { λ r. ⌜ Responds (responseOf call (now (list .entry)) (now (rec .entry)) (length (now (out .entry)))) (now (out .entry)) r (now (out .exit)) ⌝ }
+    ensures { λ r. ⌜ Responds (readingResponse call (now (list .entry)) (now (rec .entry)) (length (now (out .entry)))) (now (out .entry)) r (now (out .exit)) ⌝ }
 {
     answer_in(
         call,
@@ -276,7 +276,7 @@ fn small_with(
 
 fn small(call: ReadingCall, list: &[u32], rec: &[u8], out: &mut [u8]) -> Sent
     requires { ⌜ length (now rec) ≤ 1024 ⌝ }
-    ensures { λ r. ⌜ Responds (responseOf call (now (list .entry)) (now (rec .entry)) (length (now (out .entry)))) (now (out .entry)) r (now (out .exit)) ⌝ }
+    ensures { λ r. ⌜ Responds (readingResponse call (now (list .entry)) (now (rec .entry)) (length (now (out .entry)))) (now (out .entry)) r (now (out .exit)) ⌝ }
 {
     let mut es = [0u32; 8 * SMALL_EDGES];
     let mut vs = [0u32; 4 * SMALL_VERTICES];
@@ -304,7 +304,7 @@ fn small(call: ReadingCall, list: &[u32], rec: &[u8], out: &mut [u8]) -> Sent
 
 // Of a call without a list of edges the list is not read.
 pub fn answer(call: ReadingCall, list: &[u32], rec: &[u8], out: &mut [u8]) -> Sent
-    ensures { λ r. ⌜ Responds (responseOf call (now (list .entry)) (now (rec .entry)) (length (now (out .entry)))) (now (out .entry)) r (now (out .exit)) ⌝ }
+    ensures { λ r. ⌜ Responds (readingResponse call (now (list .entry)) (now (rec .entry)) (length (now (out .entry)))) (now (out .entry)) r (now (out .exit)) ⌝ }
 {
     if rec.len() <= SMALL_RECORD {
         return small(call, list, rec, out);

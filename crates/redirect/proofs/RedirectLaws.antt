@@ -1,4 +1,4 @@
--- Marks that say where edges stand, and the loop that redirects the edges of a vertex. Assumes nothing.
+-- EdgeMarks that say where edges stand, and the loop that redirects the edges of a vertex. Assumes nothing.
 use mathlib.Core.Path.{_≡_, refl, sym, ap, _∙_}
 use mathlib.Core.Bool.{Bool, true, false}
 use mathlib.Core.List.{List, [], _∷_, map}
@@ -16,10 +16,10 @@ use Rattle.laws.proofs.Edges.{joins-ends}
 use Rattle.tabs.proofs.Tabs.{length-tab, getD-tab}
 use Rattle.store.specs.Store.{isSet, edgeIn, edgesIn, findEdge, Joinable}
 use Rattle.store.proofs.EdgeLaws.{no-edge}
-use Rattle.index.specs.Index.{endOf, atFrom, Index, pairAt, endAt}
+use Rattle.index.specs.Index.{edgeEnd, atFrom, Index, pairAt, endAt}
 use Rattle.index.proofs.AdjLaws.{at-head, at-step, at-end}
 use Rattle.index.proofs.IndexLaws.{end-below, end-is}
-use Rattle.redirect.specs.Redirect.{newFrom, newTo, redirected, redirectedAll, place, Marks, OneReady, OneDone, Redirectable, Redirected}
+use Rattle.redirect.specs.Redirect.{newFrom, newTo, redirected, redirectedAll, place, EdgeMarks, OneReady, OneDone, Redirectable, Redirected}
 use Rattle.redirect.proofs.RaiseLaws.{first-missing, find-raised, find-added, find-other, find-missing, raise-old, raise-longer}
 use Rattle.redirect.proofs.RaiseLaws.{raiseAll-longer, raiseAll-cons}
 
@@ -46,7 +46,7 @@ place-high lo m x h = rw (lt-leb x lo h)
 
 -- marks of an earlier use say nothing, where no edge has y at that end
 pub marks-start : (off y n m : ℕ) (es mp : List ℕ) → off ≤ 1 → n ≤ length mp → ((x : ℕ) → x < n → getD mp x 0 ≤ m)
-    → ((j : ℕ) → j < m → endOf off es j ≡ y → ⊥) → Marks off y n m m es mp
+    → ((j : ℕ) → j < m → edgeEnd off es j ≡ y → ⊥) → EdgeMarks off y n m m es mp
 marks-start off y n m es mp h room most free = record {
   room = room;
   low = omega arith;
@@ -58,7 +58,7 @@ marks-start off y n m es mp h room most free = record {
     none : (x j : ℕ) → j < m → hasEnds (newFrom off y x) (newTo off y x) (getD (edgesIn m es) j no-edge) ≡ false
     none x j b = rw (getD-tab m (edgeIn es) j no-edge b) (not-there off y x (edgeIn es j) (λ q. free j b (sym (end-is es off j h) ∙ q)))
 
-module _ {off y n lo m : ℕ} {es mp : List ℕ} (M : Marks off y n lo m es mp) (x : ℕ) {at : ℕ} (b : x < n) (q : at ≡ place lo m (getD mp x 0)) where
+module _ {off y n lo m : ℕ} {es mp : List ℕ} (M : EdgeMarks off y n lo m es mp) (x : ℕ) {at : ℕ} (b : x < n) (q : at ≡ place lo m (getD mp x 0)) where
   at-least : lo ≤ at
   at-least = byOrder (getD mp x 0) lo
       (λ h. omega (arith, q, place-low lo m (getD mp x 0) h, M .low))
@@ -113,13 +113,13 @@ module _ {off y n lo m : ℕ} {es mp : List ℕ} (M : Marks off y n lo m es mp) 
         ahead : at + 1 - 1 ≡ at
         ahead = omega arith
 
-    pub marks-more : Marks off y n lo k es′ (set mp x (at + 1))
+    pub marks-more : EdgeMarks off y n lo k es′ (set mp x (at + 1))
     marks-more = record { room = rw (length-set mp x (at + 1)) (M .room); low = omega (arith, M .low, longer); most = most-new; is = is-new }
 
 -- ---- one edge
 
 -- x is the end that stays
-module _ {off y n lo m : ℕ} {es mp : List ℕ} {e : ℕ} (E : OneReady off y n lo m es mp e) {x : ℕ} (w : x ≡ endOf (1 - off) es e) where
+module _ {off y n lo m : ℕ} {es mp : List ℕ} {e : ℕ} (E : OneReady off y n lo m es mp e) {x : ℕ} (w : x ≡ edgeEnd (1 - off) es e) where
   pub other-below : x < n
   other-below = omega (arith, E .other)
 
@@ -158,22 +158,22 @@ redirected-is off y es e = λ i. record {
 redirected-same : (off y : ℕ) (es es′ : List ℕ) (e : ℕ) → edgeIn es′ e ≡ edgeIn es e → redirected off y es′ e ≡ redirected off y es e
 redirected-same off y es es′ e q = redirected-is off y es′ e ∙ ap (redirect off y) q ∙ sym (redirected-is off y es e)
 
-pub end-same : (off : ℕ) (es es′ : List ℕ) (j : ℕ) → off ≤ 1 → edgeIn es′ j ≡ edgeIn es j → endOf off es′ j ≡ endOf off es j
+pub end-same : (off : ℕ) (es es′ : List ℕ) (j : ℕ) → off ≤ 1 → edgeIn es′ j ≡ edgeIn es j → edgeEnd off es′ j ≡ edgeEnd off es j
 end-same off es es′ j h q = sym (end-is es′ off j h) ∙ ap (endAt off) q ∙ end-is es off j h
 
 pub record Redirecting (off y n lo m₀ m : ℕ) (es₀ mp₀ : List ℕ) (v k : ℕ) (es mp : List ℕ) (e : ℕ) : Type 0 where
   pub high : e ≤ m₀
-  pub hit : e < m₀ → endOf off es₀ e ≡ v
+  pub hit : e < m₀ → edgeEnd off es₀ e ≡ v
   pub len : length es ≡ length es₀
   pub mp-len : length mp ≡ length mp₀
   pub grown : m ≤ k
   pub old : (j : ℕ) → j < m₀ → edgeIn es j ≡ edgeIn es₀ j
-  pub marks : Marks off y n lo k es mp
-  pub left : addOrUpdateEdges (map (redirected off y es₀) (atFrom (endOf off es₀) m₀ v e)) (edgesIn k es)
+  pub marks : EdgeMarks off y n lo k es mp
+  pub left : addOrUpdateEdges (map (redirected off y es₀) (atFrom (edgeEnd off es₀) m₀ v e)) (edgesIn k es)
       ≡ addOrUpdateEdges (redirectedAll off y m₀ es₀ v) (edgesIn m es₀)
 
 module _ {off y n lo m₀ m : ℕ} {es₀ heads nexts mp₀ : List ℕ} {v : ℕ} (F : Redirectable off y n lo m₀ m es₀ heads nexts mp₀ v) where
-  abbrev index : Index (endOf off es₀) m₀ n (pairAt off heads) (pairAt off nexts)
+  abbrev index : Index (edgeEnd off es₀) m₀ n (pairAt off heads) (pairAt off nexts)
   index = F .indexed .index off (F .off-low)
 
   pub redirecting-start : Redirecting off y n lo m₀ m es₀ mp₀ v m es₀ mp₀ (pairAt off heads v)
@@ -186,7 +186,7 @@ module _ {off y n lo m₀ m : ℕ} {es₀ heads nexts mp₀ : List ℕ} {v : ℕ
     old = λ j b. refl;
     marks = F .marks;
     left = ap (λ (l : List ℕ). addOrUpdateEdges (map (redirected off y es₀) l) (edgesIn m es₀))
-        (sym (at-head (endOf off es₀) m₀ n (pairAt off heads) (pairAt off nexts) v index (F .below)));
+        (sym (at-head (edgeEnd off es₀) m₀ n (pairAt off heads) (pairAt off nexts) v index (F .below)));
   }
 
   module _ {k : ℕ} {es mp : List ℕ} {e : ℕ} (R : Redirecting off y n lo m₀ m es₀ mp₀ v k es mp e) where
@@ -195,7 +195,7 @@ module _ {off y n lo m₀ m : ℕ} {es₀ heads nexts mp₀ : List ℕ} {v : ℕ
       arith,
       length-tab k (edgeIn es),
       ap length (R .left),
-      raiseAll-longer (map (redirected off y es₀) (atFrom (endOf off es₀) m₀ v e)) (edgesIn k es),
+      raiseAll-longer (map (redirected off y es₀) (atFrom (edgeEnd off es₀) m₀ v e)) (edgesIn k es),
     )
 
     module _ (h : e < m₀) where
@@ -226,11 +226,11 @@ module _ {off y n lo m₀ m : ℕ} {es₀ heads nexts mp₀ : List ℕ} {v : ℕ
         grown = omega (arith, R .grown, size);
         old = λ j c. old-kept j c ∙ R .old j c;
         marks = E .marks;
-        left = ap (addOrUpdateEdges (map (redirected off y es₀) (atFrom (endOf off es₀) m₀ v (pairAt off nexts e)))) (E .is
+        left = ap (addOrUpdateEdges (map (redirected off y es₀) (atFrom (edgeEnd off es₀) m₀ v (pairAt off nexts e)))) (E .is
             ∙ ap (λ (x : Edge). addOrUpdateEdges (x ∷ []) (edgesIn k es)) (redirected-same off y es₀ es e (R .old e h)))
-            ∙ sym (raiseAll-cons (redirected off y es₀ e) (map (redirected off y es₀) (atFrom (endOf off es₀) m₀ v (pairAt off nexts e))) (edgesIn k es))
+            ∙ sym (raiseAll-cons (redirected off y es₀ e) (map (redirected off y es₀) (atFrom (edgeEnd off es₀) m₀ v (pairAt off nexts e))) (edgesIn k es))
             ∙ ap (λ (l : List ℕ). addOrUpdateEdges (map (redirected off y es₀) l) (edgesIn k es))
-            (sym (at-step (endOf off es₀) m₀ n (pairAt off heads) (pairAt off nexts) v e index h (R .hit h)))
+            (sym (at-step (edgeEnd off es₀) m₀ n (pairAt off heads) (pairAt off nexts) v e index h (R .hit h)))
             ∙ R .left;
       }
         where
@@ -251,15 +251,15 @@ module _ {off y n lo m₀ m : ℕ} {es₀ heads nexts mp₀ : List ℕ} {v : ℕ
           old-kept j c =
               let below : j < k = omega (arith, R .grown, F .behind) in
               sym (getD-tab k′ (edgeIn es′) j no-edge (omega (arith, size))) ∙ ap (λ (l : List Edge). getD l j no-edge) (E .is)
-              ∙ raise-old (newFrom off y (endOf (1 - off) es e)) (newTo off y (endOf (1 - off) es e)) (getD es (4 * e + 2) 0)
+              ∙ raise-old (newFrom off y (edgeEnd (1 - off) es e)) (newTo off y (edgeEnd (1 - off) es e)) (getD es (4 * e + 2) 0)
               (isSet (getD es (4 * e + 3) 0)) no-edge (edgesIn k es) j (omega (arith, length-tab k (edgeIn es)))
-              (rw (getD-tab k (edgeIn es) j no-edge below) (not-there off y (endOf (1 - off) es e) (edgeIn es j) (free j c)))
+              (rw (getD-tab k (edgeIn es) j no-edge below) (not-there off y (edgeEnd (1 - off) es e) (edgeIn es j) (free j c)))
               ∙ getD-tab k (edgeIn es) j no-edge below
 
     pub redirecting-end : m₀ ≤ e → Redirected off y n lo m₀ m es₀ v k es mp
     unfolding addOrUpdateEdges
     redirecting-end h = record {
-      is = ap (λ (l : List ℕ). addOrUpdateEdges (map (redirected off y es₀) l) (edgesIn k es)) (sym (at-end (endOf off es₀) m₀ v e h)) ∙ R .left;
+      is = ap (λ (l : List ℕ). addOrUpdateEdges (map (redirected off y es₀) l) (edgesIn k es)) (sym (at-end (edgeEnd off es₀) m₀ v e h)) ∙ R .left;
       old = R .old;
       marks = R .marks;
     }

@@ -12,7 +12,7 @@ use Rattle.laws.proofs.ListLaws.{of-keepIf}
 use Rattle.tabs.proofs.Tabs.{tab-ext}
 use Rattle.store.specs.Store.{edgeIn, edgesIn, graphIn, EndsBelow}
 use Rattle.compact.proofs.CompactLaws.{ends-mem, mem-ends}
-use Rattle.index.specs.Index.{endOf, edgesAt, Next, Indexed, endAt}
+use Rattle.index.specs.Index.{edgeEnd, incidentEdges, Next, Indexed, endAt}
 use Rattle.index.proofs.IndexLaws.{keep-is, end-is}
 use Rattle.redirect.specs.Redirect.{redirectedAll}
 use Rattle.redirect.proofs.RedirectLaws.{end-same, redirect, redirected-is}
@@ -21,8 +21,8 @@ use Rattle.redirect.proofs.RedirectLaws.{end-same, redirect, redirected
 all-is : (off y m : ℕ) (es : List ℕ) (v : ℕ) → off ≤ 1 → redirectedAll off y m es v
     ≡ map (redirect off y) (keepIf (λ (e : Edge). eqb (endAt off e) v) (edgesIn m es))
 all-is off y m es v h =
-    (λ i. map (λ (j : ℕ). redirected-is off y es j i) (edgesAt (endOf off es) m v))
-    ∙ sym (map-map (redirect off y) (edgeIn es) (edgesAt (endOf off es) m v))
+    (λ i. map (λ (j : ℕ). redirected-is off y es j i) (incidentEdges (edgeEnd off es) m v))
+    ∙ sym (map-map (redirect off y) (edgeIn es) (incidentEdges (edgeEnd off es) m v))
     ∙ ap (map (redirect off y)) (sym (keep-is off m es (endAt off) (λ e. end-is es off e h) v))
 
 pub into-all : (y k n m : ℕ) (es vs p : List ℕ) (v : ℕ) → redirectedAll 1 y m es v ≡ map (redirectedTo y) (edgesInto (graphIn k n m es vs p) v)
@@ -60,7 +60,7 @@ module _ (m : ℕ) (es es′ : List ℕ) (same : (j : ℕ) → j < m → edgeIn 
     };
   }
     where
-      next : (off : ℕ) → off ≤ 1 → {v k e : ℕ} → Next (endOf off es) m v k e → Next (endOf off es′) m v k e
+      next : (off : ℕ) → off ≤ 1 → {v k e : ℕ} → Next (edgeEnd off es) m v k e → Next (edgeEnd off es′) m v k e
       next off h {v} {k} {e} N = record {
         low = N .low;
         high = N .high;

@@ -21,7 +21,7 @@ use Rattle.spell.specs.declared.OptionBytes.the-variants as B
 use Rattle.spell.proofs.SpellLaws.{told-none, told-some, answered-as}
 use Rattle.paths.specs.Paths.{Spellable}
 use Rattle.paths.proofs.RouteLaws.{Route, route-spelled}
-use Rattle.reference.specs.Reference.{pathOf, Walked}
+use Rattle.reference.specs.Reference.{pathOf, PathWalked}
 use Rattle.reference.specs.declared.OptionPath.{OptionPath}
 use Rattle.reference.specs.declared.OptionPath.the-variants.{Some, None}
 use Rattle.reference.proofs.WalkLaws.{reference-begun}
@@ -47,7 +47,7 @@ module _ {h : Held} {es vs p nodes : List ℕ} (S : Spellable h es vs p nodes) {
       bytes-are = (λ i. spelledBy g (referenceBetween g (source-found A q (h .k .0) vs p i) (sink-found T z (h .k .0) vs p i)))
           ∙ ap (λ (x : ℕ). spelledBy g (referencePath x g t s)) (order-in (h .k .0) (h .n) (h .m) es vs p)
 
-      module _ {r : OptionPath} {nodes′ : List ℕ} (W : Walked (h .m) (h .n) es s t r nodes′) where
+      module _ {r : OptionPath} {nodes′ : List ℕ} (W : PathWalked (h .m) (h .n) es s t r nodes′) where
         path-is : {o : Option (List ℕ)} → pathOf r nodes′ ≡ o → referencePath (h .n) g t s ≡ o
         path-is e = sym (W .is (h .k .0) vs p (S .sound)) ∙ e
 

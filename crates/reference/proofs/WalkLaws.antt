@@ -26,7 +26,7 @@ use Rattle.paths.proofs.RouteLaws.{path-short}
 use Rattle.refs.specs.Refs.{vertexOf}
 use Rattle.refs.specs.declared.OptionVertex.{OptionVertex}
 use Rattle.refs.specs.declared.OptionVertex.the-variants as O
-use Rattle.reference.specs.Reference.{NextOn, Walked}
+use Rattle.reference.specs.Reference.{NextOn, PathWalked}
 use Rattle.reference.specs.declared.OptionPath.the-variants.{Some, None}
 
 -- ---- the definition, step by step
@@ -104,7 +104,7 @@ unfolding prepends prepend
 prepends-none [] = refl
 prepends-none (x ∷ xs) = ap (prepend x) (prepends-none xs)
 
-pub record Walking (m n : ℕ) (es : List ℕ) (source sink : ℕ) (nodes₀ nodes : List ℕ) (v c : ℕ) : Type 0 where
+pub record WalkingPath (m n : ℕ) (es : List ℕ) (source sink : ℕ) (nodes₀ nodes : List ℕ) (v c : ℕ) : Type 0 where
   pub high : c ≤ n
   pub below : v < n
   pub source-below : source < n
@@ -113,7 +113,7 @@ pub record Walking (m n : ℕ) (es : List ℕ) (source sink : ℕ) (nodes₀ nod
       ≡ prepends (numsIn c nodes) (referencePath (n - c) (graphIn k n m es vs p) sink v)
 
 module _ {m n : ℕ} {es : List ℕ} {source sink : ℕ} {nodes₀ : List ℕ} where
-  pub walking-start : source < n → Walking m n es source sink nodes₀ nodes₀ source 0
+  pub walking-start : source < n → WalkingPath m n es source sink nodes₀ nodes₀ source 0
   unfolding prepends
   walking-start h =
       let z : n - 0 ≡ n = omega arith in
@@ -126,7 +126,7 @@ module _ {m n : ℕ} {es : List ℕ} {source sink : ℕ} {nodes₀ : List ℕ} w
             (tab-zero (λ (i : ℕ). getD nodes₀ i 0)) ∙ ap (λ (x : ℕ). referencePath x (graphIn k n m es vs p) sink source) z);
       }
 
-  module _ {nodes : List ℕ} {v c : ℕ} (W : Walking m n es source sink nodes₀ nodes v c) (room : n ≤ length nodes₀) (h : c < n) where
+  module _ {nodes : List ℕ} {v c : ℕ} (W : WalkingPath m n es source sink nodes₀ nodes v c) (room : n ≤ length nodes₀) (h : c < n) where
     pushed : numsIn (c + 1) (set nodes c v) ≡ numsIn c nodes ++ (v ∷ [])
     pushed = nums-push c v nodes (omega (arith, W .len))
 
@@ -137,7 +137,7 @@ module _ {m n : ℕ} {es : List ℕ} {source sink : ℕ} {nodes₀ : List ℕ} w
         ≡ prepends (numsIn c nodes) (referencePath (suc (n - (c + 1))) (graphIn k n m es vs p) sink v)
     left-is k vs p = W .is k vs p ∙ ap (λ (x : ℕ). prepends (numsIn c nodes) (referencePath x (graphIn k n m es vs p) sink v)) fuel-is
 
-    pub walking-there : v ≡ sink → Walked m n es source sink (Some (c + 1)) (set nodes c v)
+    pub walking-there : v ≡ sink → PathWalked m n es source sink (Some (c + 1)) (set nodes c v)
     walking-there q = record {
       is = λ k vs p s. sym (left-is k vs p ∙ ap (prepends (numsIn c nodes))
           (ref-here (n - (c + 1)) (graphIn k n m es vs p) sink v (eq-eqb v sink q)) ∙ prepends-some (numsIn c nodes) (v ∷ [])
@@ -145,7 +145,7 @@ module _ {m n : ℕ} {es : List ℕ} {source sink : ℕ} {nodes₀ : List ℕ} w
       most = λ d e. let z : d ≡ c + 1 = cc in omega arith;
     }
 
-    pub walking-stuck : {r : OptionVertex} (nodes′ : List ℕ) → (v ≡ sink → ⊥) → NextOn m n es v r → r ≡ O.None → Walked m n es source sink None nodes′
+    pub walking-stuck : {r : OptionVertex} (nodes′ : List ℕ) → (v ≡ sink → ⊥) → NextOn m n es v r → r ≡ O.None → PathWalked m n es source sink None nodes′
     walking-stuck nodes′ q N b = record {
       is = λ k vs p s. sym (left-is k vs p ∙ ap (prepends (numsIn c nodes))
           (ref-none (n - (c + 1)) (graphIn k n m es vs p) sink v (ne-eqb v sink q) (sym (N .is k vs p) ∙ ap vertexOf b))
@@ -154,7 +154,7 @@ module _ {m n : ℕ} {es : List ℕ} {source sink : ℕ} {nodes₀ : List ℕ} w
     }
 
     pub walking-more : {r : OptionVertex} {w : ℕ} → (v ≡ sink → ⊥) → NextOn m n es v r → r ≡ O.Some w
-        → Walking m n es source sink nodes₀ (set nodes c v) w (c + 1)
+        → WalkingPath m n es source sink nodes₀ (set nodes c v) w (c + 1)
     walking-more {w = w} q N b = record {
       high = omega arith;
       below = N .below w b;
@@ -167,7 +167,7 @@ module _ {m n : ℕ} {es : List ℕ} {source sink : ℕ} {nodes₀ : List ℕ} w
     }
 
   -- n vertices are passed, and there is none left that the path could end at
-  pub walking-end : {nodes : List ℕ} {v c : ℕ} → Walking m n es source sink nodes₀ nodes v c → n ≤ c → Walked m n es source sink None nodes
+  pub walking-end : {nodes : List ℕ} {v c : ℕ} → WalkingPath m n es source sink nodes₀ nodes v c → n ≤ c → PathWalked m n es source sink None nodes
   walking-end {nodes} {v} {c} W h = record {
     is = λ k vs p s. sym (stop k vs p s);
     most = λ d e. absurd (let z : _≡_ {A = ℕ} 0 1 = cc in omega arith);

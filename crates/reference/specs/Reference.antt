@@ -19,7 +19,7 @@ pub record NextOn (m n : ℕ) (es : List ℕ) (v : ℕ) (r : OptionVertex) : Typ
   pub below : (w : ℕ) → r ≡ O.Some w → w < n
 
 -- the source is a vertex, and there is room for each vertex
-pub record Walkable (n source : ℕ) (nodes : List ℕ) : Type 0 where
+pub record PathWalkable (n source : ℕ) (nodes : List ℕ) : Type 0 where
   pub source-below : source < n
   pub room : n ≤ length nodes
   pub small : n < 4294967296
@@ -30,6 +30,6 @@ pathOf (Some c) nodes = some (numsIn c nodes)
 pathOf None nodes = none
 
 -- the vertices from source to sink
-pub record Walked (m n : ℕ) (es : List ℕ) (source sink : ℕ) (r : OptionPath) (nodes : List ℕ) : Type 0 where
+pub record PathWalked (m n : ℕ) (es : List ℕ) (source sink : ℕ) (r : OptionPath) (nodes : List ℕ) : Type 0 where
   pub is : (k : ℕ) (vs p : List ℕ) → Sound (graphIn k n m es vs p) → pathOf r nodes ≡ referencePath n (graphIn k n m es vs p) sink source
   pub most : (c : ℕ) → r ≡ Some c → c ≤ n

@@ -8,7 +8,7 @@ ghost use Rattle.index.specs.Index.{Indexed};
 ghost use Rattle.memory.specs.Memory.{graphOf};
 ghost use Rattle.spell.specs.Spell.{Told};
 ghost use Rattle.paths.specs.Paths.{Spellable};
-ghost use Rattle.reference.specs.Reference.{NextOn, Walkable, Walked};
+ghost use Rattle.reference.specs.Reference.{NextOn, PathWalkable, PathWalked};
 use memory::Held;
 use refs::OptionVertex;
 use spell::OptionBytes;
@@ -56,8 +56,8 @@ fn reference_path(
     sink: u32,
     nodes: &mut [u32],
 ) -> OptionPath
-    requires { ⌜ Walkable n source (now nodes) × Indexed m n (now es) (now heads) (now nexts) ⌝ }
-    ensures { λ r. ⌜ Walked m n (now (es .entry)) source sink r (now (nodes .exit)) ⌝ }
+    requires { ⌜ PathWalkable n source (now nodes) × Indexed m n (now es) (now heads) (now nexts) ⌝ }
+    ensures { λ r. ⌜ PathWalked m n (now (es .entry)) source sink r (now (nodes .exit)) ⌝ }
 {
     let mut v = source;
     let mut c = 0;

@@ -18,7 +18,7 @@ use Rattle.laws.proofs.Cleaned.{source-in, sink-in}
 use Rattle.laws.proofs.ListLaws.{any-yes, any-no, any-map}
 use Rattle.store.specs.Store.{isSet, edgeIn, edgesIn, graphIn}
 use Rattle.compact.proofs.CompactLaws.{order-in}
-use Rattle.index.specs.Index.{endOf, atFrom, edgesAt, Index}
+use Rattle.index.specs.Index.{edgeEnd, atFrom, incidentEdges, Index}
 use Rattle.index.proofs.AdjLaws.{at-head, at-step, at-end}
 use Rattle.index.proofs.IndexLaws.{from-is, into-is}
 use Rattle.refs.specs.Refs.{refAt, RefNode, RefSource, RefSink, vertexOf, FirstSource, FirstSink}
@@ -27,16 +27,16 @@ use Rattle.refs.specs.declared.OptionVertex.the-variants.{Some, None}
 
 -- ---- a test of some edge at v, by the index: it is what is left from e on
 
-pub record Seeking (f : ℕ → ℕ) (m v : ℕ) (p : ℕ → Bool) (e : ℕ) : Type 0 where
+pub record SeekingReference (f : ℕ → ℕ) (m v : ℕ) (p : ℕ → Bool) (e : ℕ) : Type 0 where
   pub high : e ≤ m
   pub hit : e < m → f e ≡ v
-  pub left : anyOf p (edgesAt f m v) ≡ anyOf p (atFrom f m v e)
+  pub left : anyOf p (incidentEdges f m v) ≡ anyOf p (atFrom f m v e)
 
 module _ {f : ℕ → ℕ} {m n : ℕ} {head next : ℕ → ℕ} {v : ℕ} (I : Index f m n head next) (p : ℕ → Bool) where
-  pub seeking-start : v < n → Seeking f m v p (head v)
+  pub seeking-start : v < n → SeekingReference f m v p (head v)
   seeking-start h = let N = I .heads v h in record { high = N .high; hit = N .hit; left = ap (anyOf p) (at-head f m n head next v I h) }
 
-  pub seeking-more : {e : ℕ} → Seeking f m v p e → e < m → p e ≡ false → Seeking f m v p (next e)
+  pub seeking-more : {e : ℕ} → SeekingReference f m v p e → e < m → p e ≡ false → SeekingReference f m v p (next e)
   unfolding anyOf
   seeking-more {e} W h q = let N = I .nexts e h in record {
     high = N .high;
@@ -44,11 +44,11 @@ module _ {f : ℕ → ℕ} {m n : ℕ} {head next : ℕ → ℕ} {v : ℕ} (I : 
     left = W .left ∙ ap (anyOf p) (at-step f m n head next v e I h (W .hit h)) ∙ rw (q, anyOf);
   }
 
-  pub seeking-found : {e : ℕ} → Seeking f m v p e → e < m → p e ≡ true → true ≡ anyOf p (edgesAt f m v)
+  pub seeking-found : {e : ℕ} → SeekingReference f m v p e → e < m → p e ≡ true → true ≡ anyOf p (incidentEdges f m v)
   unfolding anyOf
   seeking-found {e} W h q = sym (W .left ∙ ap (anyOf p) (at-step f m n head next v e I h (W .hit h)) ∙ rw (q, anyOf))
 
-  pub seeking-end : {e : ℕ} → Seeking f m v p e → m ≤ e → false ≡ anyOf p (edgesAt f m v)
+  pub seeking-end : {e : ℕ} → SeekingReference f m v p e → m ≤ e → false ≡ anyOf p (incidentEdges f m v)
   unfolding anyOf
   seeking-end {e} W h = sym (W .left ∙ ap (anyOf p) (at-end f m v e h))
 
@@ -62,11 +62,11 @@ set-no y q h = ap not (eq-eqb y 0 (sym q ∙ h))
 -- ---- the definitions
 
 module _ (k n m : ℕ) (es vs p : List ℕ) (v : ℕ) where
-  pub any-out : anyOf (λ (e : Edge). e .isRef) (edgesFrom (graphIn k n m es vs p) v) ≡ anyOf (refAt es) (edgesAt (endOf 0 es) m v)
-  any-out = ap (anyOf (λ (e : Edge). e .isRef)) (from-is k n m es vs p v) ∙ any-map (λ (e : Edge). e .isRef) (edgeIn es) (edgesAt (endOf 0 es) m v)
+  pub any-out : anyOf (λ (e : Edge). e .isRef) (edgesFrom (graphIn k n m es vs p) v) ≡ anyOf (refAt es) (incidentEdges (edgeEnd 0 es) m v)
+  any-out = ap (anyOf (λ (e : Edge). e .isRef)) (from-is k n m es vs p v) ∙ any-map (λ (e : Edge). e .isRef) (edgeIn es) (incidentEdges (edgeEnd 0 es) m v)
 
-  pub any-in : anyOf (λ (e : Edge). e .isRef) (edgesInto (graphIn k n m es vs p) v) ≡ anyOf (refAt es) (edgesAt (endOf 1 es) m v)
-  any-in = ap (anyOf (λ (e : Edge). e .isRef)) (into-is k n m es vs p v) ∙ any-map (λ (e : Edge). e .isRef) (edgeIn es) (edgesAt (endOf 1 es) m v)
+  pub any-in : anyOf (λ (e : Edge). e .isRef) (edgesInto (graphIn k n m es vs p) v) ≡ anyOf (refAt es) (incidentEdges (edgeEnd 1 es) m v)
+  any-in = ap (anyOf (λ (e : Edge). e .isRef)) (into-is k n m es vs p v) ∙ any-map (λ (e : Edge). e .isRef) (edgeIn es) (incidentEdges (edgeEnd 1 es) m v)
 
 or-true : (a : Bool) → a || true ≡ true
 or-true true = refl
@@ -103,10 +103,10 @@ node-split v (e ∷ l) = byTest (e .isRef)
 
 module _ (m n : ℕ) (es : List ℕ) (v : ℕ) where
   abbrev outs : Bool
-  outs = anyOf (refAt es) (edgesAt (endOf 0 es) m v)
+  outs = anyOf (refAt es) (incidentEdges (edgeEnd 0 es) m v)
 
   abbrev ins : Bool
-  ins = anyOf (refAt es) (edgesAt (endOf 1 es) m v)
+  ins = anyOf (refAt es) (incidentEdges (edgeEnd 1 es) m v)
 
   node-is : (k : ℕ) (vs p : List ℕ) → isReferenceNode (graphIn k n m es vs p) v ≡ outs || ins
   unfolding isReferenceNode edgesFrom edgesInto

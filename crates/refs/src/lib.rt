@@ -3,7 +3,7 @@ ghost use mathlib.Core.Path.{_≡_};
 ghost use Prim.Native.Nat.{ℕ, _+_, _*_, _<_, _≤_};
 ghost use lib.ListN.{length};
 ghost use Rattle.defs.specs.Lists.{anyOf};
-ghost use Rattle.index.specs.Index.{Indexed, endOf, edgesAt};
+ghost use Rattle.index.specs.Index.{Indexed, edgeEnd, incidentEdges};
 ghost use Rattle.refs.specs.Refs.{refAt, RefNode, RefSource, RefSink, FirstSource, FirstSink};
 
 // A vertex, or none: the Rust's `Option<usize>`.
@@ -23,7 +23,7 @@ pub fn any_ref(
     v: usize,
 ) -> bool
     requires { ⌜ (v < n) × ((off ≤ 1) × Indexed m n (now es) (now heads) (now nexts)) ⌝ }
-    ensures { λ r. ⌜ r ≡ anyOf (refAt (now (es .entry))) (edgesAt (endOf off (now (es .entry))) m v) ⌝ }
+    ensures { λ r. ⌜ r ≡ anyOf (refAt (now (es .entry))) (incidentEdges (edgeEnd off (now (es .entry))) m v) ⌝ }
 {
     let mut e = heads[2 * v + off] as usize;
     while e < m {

@@ -17,11 +17,11 @@ use Rattle.accept.specs.declared.Read.the-variants as read
 use Rattle.accept.proofs.AcceptLaws.{byRead, not-both, number-graph, number-refused, same-held}
 use Rattle.choice.specs.Choice.{Cleanable}
 use Rattle.choice.proofs.ChoiceLaws.{holds-lean-kept}
-use Rattle.cleanable.proofs.ReadLean.{read-lean}
+use Rattle.cleanup_room.proofs.ReadLean.{read-lean}
 use Rattle.rounds.specs.Rounds.{Full}
 use Rattle.rounds.specs.declared.Simplified.{Simplified}
-use Rattle.cleanup.specs.CleanUp.{cleanupStatusOf, CleanUp}
-use Rattle.cleanup.specs.declared.CleanedUp.{CleanedUp}
+use Rattle.cleanup_steps.specs.CleanUp.{cleanupStatusOf, CleanUp}
+use Rattle.cleanup_steps.specs.declared.CleanedUp.{CleanedUp}
 use Rattle.arrays.specs.Sized.{Lent}
 use Rattle.arrays.proofs.SizedLaws.{lent-scratch, lent-countable}
 use Rattle.rewriting.specs.Rewriting.{resultIn, resultOf, GraphRewritten, ReadCleanable, ReadRewritten, RewrittenAs}

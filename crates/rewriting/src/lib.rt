@@ -4,11 +4,11 @@ ghost use mathlib.Core.Path.{_≡_};
 ghost use Rattle.defs.specs.Cleanup.{statusNumber};
 ghost use Rattle.arrays.specs.Sized.{Lent};
 ghost use Rattle.choice.specs.Choice.{Cleanable};
-ghost use Rattle.cleanup.specs.CleanUp.{cleanupStatusOf};
+ghost use Rattle.cleanup_steps.specs.CleanUp.{cleanupStatusOf};
 ghost use Rattle.rewriting.specs.Rewriting.{ReadCleanable, GraphRewritten, ReadRewritten, RewrittenAs};
 ghost use Rattle.rewriting.specs.declared.RewritingCall.the-variants as call;
 use accept::Read;
-use cleanup::SeqGraphCleanupStatus;
+use cleanup_steps::SeqGraphCleanupStatus;
 use memory::Held;
 
 pub enum RewritingCall {
@@ -94,7 +94,7 @@ fn clean_up(
     ensures { λ r. ⌜ GraphRewritten call.CleanupSeqGraph held (now (es .entry)) (now (vs .entry)) (now (p .entry)) (now (heads .entry))
         (now (nexts .entry)) r (now (es .exit)) (now (vs .exit)) (now (p .exit)) ⌝ }
 {
-    let c = cleanup::cleanup_seq_graph(
+    let c = cleanup_steps::cleanup_seq_graph(
         held,
         es,
         vs,

@@ -23,7 +23,7 @@ use Rattle.defs.specs.Calls.{respond}
 use Rattle.calls.specs.Sending.{Responds, Makes, GraphSendable, SendsGraph}
 use Rattle.calls.specs.declared.Sent.{Sent}
 use Rattle.calls.proofs.ResponseLaws as response
-use Rattle.rewriting_calls.specs.Answered.{recordOf, CountedAs, Answered}
+use Rattle.rewriting_calls.specs.Answered.{recordOf, CountedAs, RewritingAnswered}
 
 status-small : (s : Status) → statusNumber s < 256
 unfolding statusNumber
@@ -54,7 +54,7 @@ module _ {call : RewritingCall} {bs heads nexts : List ℕ} {r : Rewritten} {es 
   }
 
   pub rewritten-answered : {out out′ : List ℕ} {s : Sent} → SendsGraph (r .status) (r .read) es vs p out s out′
-      → Answered call bs out record { sent = s; status = r .status; rewrites = r .rewrites; rounds = r .rounds; end = r .end } out′
+      → RewritingAnswered call bs out record { sent = s; status = r .status; rewrites = r .rewrites; rounds = r .rounds; end = r .end } out′
   rewritten-answered {out} {out′} {s} S = record { sent = sends; counted = λ z. byRead (r .read) (λ h ok. counts (A .is h ok)) (λ n f. absurd (none z f)) }
     where
       sends : Responds (respond (recordCauses sequenceOnly bs) (length out) (recordOf (resultOf call (decode bs)))) out s out′

@@ -15,8 +15,8 @@ use Rattle.rewriting_calls.specs.declared.RewritingAnswer.{RewritingAnsw
 abbrev pub recordOf : Result → List ℕ
 recordOf z = encode sequenceGraph (z .status) (z .graph)
 
-abbrev pub responseOf : RewritingCall → List ℕ → ℕ → Response
-responseOf call bs room = respond (recordCauses sequenceOnly bs) room (recordOf (resultOf call (decode bs)))
+abbrev pub rewritingResponse : RewritingCall → List ℕ → ℕ → Response
+rewritingResponse call bs room = respond (recordCauses sequenceOnly bs) room (recordOf (resultOf call (decode bs)))
 
 -- the numbers that the call counted are the result's
 pub record CountedAs (z : Result) (r : RewritingAnswer) : Type 0 where
@@ -25,6 +25,6 @@ pub record CountedAs (z : Result) (r : RewritingAnswer) : Type 0 where
   pub rounds : r .rounds ≡ z .rounds
   pub end : r .end ≡ z .end
 
-pub record Answered (call : RewritingCall) (bs out : List ℕ) (r : RewritingAnswer) (out′ : List ℕ) : Type 0 where
-  pub sent : Responds (responseOf call bs (length out)) out (r .sent) out′
+pub record RewritingAnswered (call : RewritingCall) (bs out : List ℕ) (r : RewritingAnswer) (out′ : List ℕ) : Type 0 where
+  pub sent : Responds (rewritingResponse call bs (length out)) out (r .sent) out′
   pub counted : r .sent .number ≡ 0 → CountedAs (resultOf call (decode bs)) r

@@ -3,7 +3,7 @@
 ghost use Prim.Native.Nat.{_≤_};
 ghost use lib.ListN.{length};
 ghost use Rattle.arrays.specs.Sized.{Lent};
-ghost use Rattle.rewriting_calls.specs.Answered.{Answered};
+ghost use Rattle.rewriting_calls.specs.Answered.{RewritingAnswered};
 use arrays::LARGE_EDGES;
 use arrays::LARGE_VERTICES;
 use arrays::SMALL_EDGES;
@@ -37,7 +37,7 @@ fn answer_in(
     sig: &mut [u32],
 ) -> RewritingAnswer
     requires { ⌜ Lent (now rec) (now es) (now vs) (now p) (now heads) (now nexts) (now nodes) (now map) (now starts) (now tried) (now sig) ⌝ }
-    ensures { λ r. ⌜ Answered call (now (rec .entry)) (now (out .entry)) r (now (out .exit)) ⌝ }
+    ensures { λ r. ⌜ RewritingAnswered call (now (rec .entry)) (now (out .entry)) r (now (out .exit)) ⌝ }
 {
     let r = rewriting::read_and_rewrite(
         call,
@@ -80,7 +80,7 @@ fn large_with(
     tried: &mut [u64; LARGE_VERTICES],
     sig: &mut [u32; 2 * LARGE_VERTICES + 2],
 ) -> RewritingAnswer
-    ensures { λ r. ⌜ Answered call (now (rec .entry)) (now (out .entry)) r (now (out .exit)) ⌝ }
+    ensures { λ r. ⌜ RewritingAnswered call (now (rec .entry)) (now (out .entry)) r (now (out .exit)) ⌝ }
 {
     answer_in(
         call,
@@ -100,7 +100,7 @@ fn large_with(
 }
 
 fn large(call: RewritingCall, rec: &[u8], out: &mut [u8]) -> RewritingAnswer
-    ensures { λ r. ⌜ Answered call (now (rec .entry)) (now (out .entry)) r (now (out .exit)) ⌝ }
+    ensures { λ r. ⌜ RewritingAnswered call (now (rec .entry)) (now (out .entry)) r (now (out .exit)) ⌝ }
 {
     let mut es = [0u32; 8 * LARGE_EDGES];
     let mut vs = [0u32; 4 * LARGE_VERTICES];
@@ -145,7 +145,7 @@ fn small_with(
     sig: &mut [u32; 2 * SMALL_VERTICES + 2],
 ) -> RewritingAnswer
     requires { ⌜ length (now rec) ≤ 1024 ⌝ }
-    ensures { λ r. ⌜ Answered call (now (rec .entry)) (now (out .entry)) r (now (out .exit)) ⌝ }
+    ensures { λ r. ⌜ RewritingAnswered call (now (rec .entry)) (now (out .entry)) r (now (out .exit)) ⌝ }
 {
     answer_in(
         call,
@@ -166,7 +166,7 @@ fn small_with(
 
 fn small(call: RewritingCall, rec: &[u8], out: &mut [u8]) -> RewritingAnswer
     requires { ⌜ length (now rec) ≤ 1024 ⌝ }
-    ensures { λ r. ⌜ Answered call (now (rec .entry)) (now (out .entry)) r (now (out .exit)) ⌝ }
+    ensures { λ r. ⌜ RewritingAnswered call (now (rec .entry)) (now (out .entry)) r (now (out .exit)) ⌝ }
 {
     let mut es = [0u32; 8 * SMALL_EDGES];
     let mut vs = [0u32; 4 * SMALL_VERTICES];
@@ -196,7 +196,7 @@ fn small(call: RewritingCall, rec: &[u8], out: &mut [u8]) -> RewritingAnswer
 }
 
 pub fn answer(call: RewritingCall, rec: &[u8], out: &mut [u8]) -> RewritingAnswer
-    ensures { λ r. ⌜ Answered call (now (rec .entry)) (now (out .entry)) r (now (out .exit)) ⌝ }
+    ensures { λ r. ⌜ RewritingAnswered call (now (rec .entry)) (now (out .entry)) r (now (out .exit)) ⌝ }
 {
     if rec.len() <= SMALL_RECORD {
         return small(call, rec, out);

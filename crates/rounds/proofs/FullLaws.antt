@@ -13,9 +13,9 @@ use Rattle.memory.specs.Memory.{graphOf, workOf, vertexRoom, Room, Holds, Ready
 use Rattle.memory.specs.declared.Held.{Held}
 use Rattle.memory.specs.declared.Work.{Work}
 use Rattle.memory.proofs.RoomLaws.{held-vertices, held-edges, held-ends, room-kept, holds-kept}
-use Rattle.zips.specs.Zips as Y
-use Rattle.zips.specs.Zips.{ZippedAll}
-use Rattle.rounds.specs.Rounds.{Answers, Whole, Full}
+use Rattle.zip_linear_chains.specs.Zips as Y
+use Rattle.zip_linear_chains.specs.Zips.{ZippedAll}
+use Rattle.rounds.specs.Rounds.{SimplifiedTo, Whole, Full}
 use Rattle.rounds.specs.declared.Simplified.{Simplified}
 
 module _ {least : ℕ} {h : Held} {es vs p heads nexts nodes mp starts tried sig : List ℕ} (F :
@@ -30,7 +30,7 @@ module _ {least : ℕ} {h : Held} {es vs p heads nexts nodes mp starts tried sig
   }
 
   module _ {heads₁ nexts₁ : List ℕ} (I : Indexed (h .m) (h .n) es heads₁ nexts₁) (lh : length heads₁ ≡ length heads) (ln : length nexts₁ ≡ length nexts) where
-    pub full-zip-ready : Y.Ready record { held = h; rewrites = 0 } es vs p heads₁ nexts₁ nodes mp
+    pub full-zip-ready : Y.ReadyToZip record { held = h; rewrites = 0 } es vs p heads₁ nexts₁ nodes mp
     full-zip-ready = record {
       room = room-kept (F .room) refl refl refl lh ln refl refl;
       holds = holds-kept (F .holds) lh ln;
@@ -57,6 +57,6 @@ module _ {least : ℕ} {h : Held} {es vs p heads nexts nodes mp starts tried sig
             ≡ length nexts₁ → Full least h es vs p heads nexts r es′ vs′ p′
         unfolding simplifyGraphFull
         full-all {r} {es′} {vs′} {p′} W m₂ = record {
-          answers = subst (λ (x : Z.Work). Answers (roundsFrom least 100 0 [] x) r es′ vs′ p′) (Q .is) (W .answers);
+          answers = subst (λ (x : Z.Work). SimplifiedTo (roundsFrom least 100 0 [] x) r es′ vs′ p′) (Q .is) (W .answers);
           holds = holds-kept (W .holds) (sym (l₂ ∙ lh)) (sym (m₂ ∙ ln));
         }

@@ -13,8 +13,8 @@ use Rattle.memory.specs.declared.Work.{Work}
 use Rattle.memory.proofs.RoomLaws.{held-vertices}
 use Rattle.until.specs.Until.{Completed}
 use Rattle.splits.specs.Splits.{SplitAll}
-use Rattle.zips.specs.Zips as Y
-use Rattle.zips.specs.Zips.{ZippedAll}
+use Rattle.zip_linear_chains.specs.Zips as Y
+use Rattle.zip_linear_chains.specs.Zips.{ZippedAll}
 use Rattle.rounds.specs.Rounds.{Once}
 
 -- tails in split's state and back: the least suffix is not a split's concern
@@ -27,7 +27,7 @@ pub any-least : {least : ℕ} {h : Rattle.memory.specs.declared.Held.Held} {es 
 any-least R = record { least-is = omega arith; room = R .room; holds = R .holds; indexed = R .indexed }
 
 pub zip-ready : {least : ℕ} {w : Work} {es vs p heads nexts nodes mp : List ℕ} → Ready least (w .held) es vs p heads nexts nodes mp
-    → w .rewrites + vertexRoom heads < 4294967296 → Y.Ready w es vs p heads nexts nodes mp
+    → w .rewrites + vertexRoom heads < 4294967296 → Y.ReadyToZip w es vs p heads nexts nodes mp
 zip-ready R c = record { room = R .room; holds = R .holds; indexed = R .indexed; countable = omega (arith, c, held-vertices (R .holds)) }
 
 pub once : {least : ℕ} {w a b c d r : Work} {es vs p es₁ vs₁ p₁ h₁ n₁ o₁ m₁ es₂ vs₂ p₂ h₂ n₂ o₂ m₂ es₃ vs₃ h₃ n₃ o₃ m₃ es₄ vs₄ p₄ h₄ n₄ o₄

@@ -20,10 +20,10 @@ use Rattle.memory.specs.Memory.{graphOf, workOf, vertexRoom, Holds, Ready, Coun
 use Rattle.memory.specs.declared.Held.{Held}
 use Rattle.memory.specs.declared.Work.{Work}
 use Rattle.memory.proofs.RoomLaws.{held-vertices, held-edges, fit-bytes, holds-kept}
-use Rattle.zip.proofs.JoinLaws.{held-bytes}
-use Rattle.signature.specs.Signature.{Writable, Signature}
+use Rattle.merge_linear_chain.proofs.JoinLaws.{held-bytes}
+use Rattle.signature.specs.Signature.{SignatureWritable, Signature}
 use Rattle.signature.specs.declared.Signed.{Signed}
-use Rattle.rounds.specs.Rounds.{Once, Answers, Whole}
+use Rattle.rounds.specs.Rounds.{Once, SimplifiedTo, Whole}
 use Rattle.rounds.specs.declared.Simplified.{Simplified}
 
 -- ---- the definition, case by case
@@ -149,7 +149,7 @@ module _ {least : ℕ} {w₀ : Work} {es₀ vs₀ p₀ heads₀ sig₀ : List �
               ∙ sym (rounds-early least (100 - (n + 1)) n (numsIn old sig) (workOf w es vs p) worked (lt-ltb n 6 (omega arith))) ∙ turn;
         }
 
-        pub round-writable : 2 + 2 * vertexRoom heads₀ ≤ length sig₀ → Writable sig old (r .held) vs′ p′
+        pub round-writable : 2 + 2 * vertexRoom heads₀ ≤ length sig₀ → SignatureWritable sig old (r .held) vs′ p′
         round-writable b =
             let H = O .ready .holds in
             let W : Rattle.store.specs.Store.Within (length p′) (r .held .n) vs′ =

@@ -20,17 +20,17 @@ pub record Once (least : ℕ) (w : Work) (es vs p : List ℕ) (r : Work) (es′ 
   pub most : r .rewrites ≤ w .rewrites + 5 * vertexRoom heads′
 
 -- the answer r, with the graph in the slices, is the definition's s
-pub record Answers (s : S.Simplified) (r : Simplified) (es vs p : List ℕ) : Type 0 where
+pub record SimplifiedTo (s : S.Simplified) (r : Simplified) (es vs p : List ℕ) : Type 0 where
   pub graph : graphOf (r .held) es vs p ≡ s .graph
   pub rewrites : r .rewrites ≡ s .rewrites
   pub rounds : r .rounds ≡ s .rounds
   pub end : r .end ≡ endNumber (s .end)
 
 pub record Whole (least : ℕ) (w : Work) (es vs p heads nexts : List ℕ) (r : Simplified) (es′ vs′ p′ : List ℕ) : Type 0 where
-  pub answers : Answers (roundsFrom least 100 0 [] (workOf w es vs p)) r es′ vs′ p′
+  pub answers : SimplifiedTo (roundsFrom least 100 0 [] (workOf w es vs p)) r es′ vs′ p′
   pub holds : Holds (r .held) es′ vs′ p′ heads nexts
 
 -- the answer is that of the whole simplification
 pub record Full (least : ℕ) (h : Held) (es vs p heads nexts : List ℕ) (r : Simplified) (es′ vs′ p′ : List ℕ) : Type 0 where
-  pub answers : Answers (simplifyGraphFull least (graphOf h es vs p)) r es′ vs′ p′
+  pub answers : SimplifiedTo (simplifyGraphFull least (graphOf h es vs p)) r es′ vs′ p′
   pub holds : Holds (r .held) es′ vs′ p′ heads nexts

@@ -53,7 +53,7 @@ pub fn simplify_graph_once(
     let b = until::transform_until_complete(2, least, a, es, vs, p, heads, nexts, nodes, map);
     let c = splits::split_until_complete(b, es, vs, p, heads, nexts, nodes, map, tried);
     let d = until::transform_until_complete(4, least, c, es, vs, p, heads, nexts, nodes, map);
-    zips::zip_linear_chains(d, es, vs, p, heads, nexts, nodes, map, starts)
+    zip_linear_chains::zip_linear_chains(d, es, vs, p, heads, nexts, nodes, map, starts)
 }
 
 // Up to 100 rounds: until one makes no rewrite, or, from the seventh on, leaves the signature that the one before left.
@@ -123,7 +123,17 @@ pub fn simplify_graph_full(
         held: held,
         rewrites: 0,
     };
-    let zipped = zips::zip_linear_chains(work, es, vs, p, heads, nexts, nodes, map, starts);
+    let zipped = zip_linear_chains::zip_linear_chains(
+        work,
+        es,
+        vs,
+        p,
+        heads,
+        nexts,
+        nodes,
+        map,
+        starts,
+    );
     simplify_rounds(
         zipped,
         least,

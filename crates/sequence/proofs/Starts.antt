@@ -13,25 +13,25 @@ use Rattle.record.proofs.TurnLaws.{sum-start, sum-turn, sum-spent}
 use Rattle.sequence.specs.Part.{Part}
 
 -- what is added so far, and what is still to be added, up to vertex v
-pub record Adding (bs : List ℕ) (v i at : ℕ) : Type 0 where
+pub record AddingLengths (bs : List ℕ) (v i at : ℕ) : Type 0 where
   pub most : i ≤ v
   pub adds : at + sum (tabFrom i (v - i) (lengthAt bs)) ≡ sequenceStart bs v
 
 module _ (bs : List ℕ) (v : ℕ) where
-  pub adding-start : (a b : ℕ) → a ≡ verticesOf bs → b ≡ edgesOf bs → Adding bs v 0 (32 + 2 * a + 9 * b)
+  pub adding-start : (a b : ℕ) → a ≡ verticesOf bs → b ≡ edgesOf bs → AddingLengths bs v 0 (32 + 2 * a + 9 * b)
   adding-start a b ha hb = record {
     most = omega arith;
     adds = omega (arith, sum-start (lengthAt bs) v, sequenceStart-is bs v, bytesAt-is (verticesOf bs) (edgesOf bs));
   }
 
-  pub adding-more : (i at l : ℕ) → i < v → l ≡ lengthAt bs i → Adding bs v i at → Adding bs v (i + 1) (at + l)
+  pub adding-more : (i at l : ℕ) → i < v → l ≡ lengthAt bs i → AddingLengths bs v i at → AddingLengths bs v (i + 1) (at + l)
   adding-more i at l h e k = record { most = omega arith; adds = omega (arith, sum-turn (lengthAt bs) i v h, k .adds) }
 
   -- no sum on the way passes the last
-  pub adding-fits : (i at l : ℕ) → i < v → l ≡ lengthAt bs i → Adding bs v i at → at + l ≤ sequenceStart bs v
+  pub adding-fits : (i at l : ℕ) → i < v → l ≡ lengthAt bs i → AddingLengths bs v i at → at + l ≤ sequenceStart bs v
   adding-fits i at l h e k = omega (arith, sum-turn (lengthAt bs) i v h, k .adds)
 
-  pub adding-end : (i at : ℕ) → v ≤ i → Adding bs v i at → at ≡ sequenceStart bs v
+  pub adding-end : (i at : ℕ) → v ≤ i → AddingLengths bs v i at → at ≡ sequenceStart bs v
   adding-end i at h k = omega (arith, sum-spent (lengthAt bs) i v h, k .adds)
 
 -- the part that is cut out

@@ -17,7 +17,7 @@ use Rattle.pool.specs.Pool.{bytesIn}
 use Rattle.memory.specs.Memory.{graphOf, Holds}
 use Rattle.memory.specs.declared.Held.{Held}
 use Rattle.memory.proofs.RoomLaws.{fit-bytes, held-vertices, held-edges}
-use Rattle.zip.proofs.JoinLaws.{held-bytes}
+use Rattle.merge_linear_chain.proofs.JoinLaws.{held-bytes}
 use Rattle.calls.proofs.ResponseLaws.{fits-enough, fits-short, respond-fits, respond-refused}
 use Rattle.write_record.specs.Written.{Measured}
 use Rattle.write_record.proofs.WriteLaws.{encode-length}
@@ -29,11 +29,11 @@ use Rattle.rewriting.specs.Rewriting.{Result, resultIn, resultOf, RewrittenAs}
 use Rattle.rewriting.specs.declared.Rewritten.{Rewritten}
 use Rattle.rewriting.specs.declared.RewritingCall.the-variants.{SimplifyGraph}
 use Rattle.text.specs.Printed.{printedGraph, printedRefusal, printedAnswer, inputCauses, shown}
-use Rattle.text.specs.Put.{Put}
+use Rattle.text.specs.Put.{TextPut}
 use Rattle.text.proofs.TextLaws.{put-as, put-most}
-use Rattle.graph_text.specs.GraphText.{endOf, simplifiedIn, graphMost, Printable}
+use Rattle.graph_text.specs.GraphText.{endWithNumber, simplifiedIn, graphMost, Printable}
 use Rattle.graph_text.proofs.GraphLaws.{end-back}
-use Rattle.show.specs.Show.{Bounded, readText, answerText, Printing, Shown}
+use Rattle.show.specs.Show.{ShowBounded, readText, answerText, Printing, Shown}
 
 -- ---- the number
 
@@ -56,13 +56,13 @@ unfolding printedAnswer
 accepted-text result z = refl
 
 module _ {made : Rewritten} {es vs p text : List ℕ} (P : Printing made es vs p text) where
-  pub answer-refused : {n : ℕ} → made .read ≡ Refused n → {text′ : List ℕ} {r : ℕ} → Put 19 (printedRefusal n) text 0 r text′
-      → Put 340000 (answerText made es vs p) text 0 r text′
+  pub answer-refused : {n : ℕ} → made .read ≡ Refused n → {text′ : List ℕ} {r : ℕ} → TextPut 19 (printedRefusal n) text 0 r text′
+      → TextPut 340000 (answerText made es vs p) text 0 r text′
   unfolding readText
   answer-refused f W = put-as (sym (ap (λ (x : Read). readText x (made .rewrites) (made .rounds) (made .end) es vs p) f)) (put-most (omega arith) W)
 
   module _ {h : Held} (ok : made .read ≡ Graph h) where
-    B : Bounded h es vs p
+    B : ShowBounded h es vs p
     B = P .bounded h ok
 
     long-is : length (encode sequenceGraph 0 (graphOf h es vs p)) ≡ 32 + 2 * h .n + 9 * h .m + bytesIn (h .n) vs
@@ -79,8 +79,8 @@ module _ {made : Rewritten} {es vs p text : List ℕ} (P : Printing made es vs p
     answer-measured = record { vs-room = B .vs-room; small = omega (arith, B .vertices, B .edges, B .bytes) }
 
     module _ {len : ℕ} (q : len ≡ 32 + 2 * h .n + 9 * h .m + bytesIn (h .n) vs) where
-      pub answer-over : {text′ : List ℕ} {r : ℕ} → 65536 < len → Put 19 (printedRefusal 11) text 0 r text′
-          → Put 340000 (answerText made es vs p) text 0 r text′
+      pub answer-over : {text′ : List ℕ} {r : ℕ} → 65536 < len → TextPut 19 (printedRefusal 11) text 0 r text′
+          → TextPut 340000 (answerText made es vs p) text 0 r text′
       answer-over l W = put-as (sym (text-is (fits-short 65536 _ (omega (arith, long-is, q))) ∙ refused-text 11 _)) (put-most (omega arith) W)
 
       module _ (l : len ≤ 65536) where
@@ -98,9 +98,9 @@ module _ {made : Rewritten} {es vs p text : List ℕ} (P : Printing made es vs p
           room = omega (arith, text-fits, P .room);
         }
 
-        pub answer-graph : {text′ : List ℕ} {r : ℕ} → Put (graphMost h vs)
+        pub answer-graph : {text′ : List ℕ} {r : ℕ} → TextPut (graphMost h vs)
             (printedGraph (simplifiedIn h (made .rewrites) (made .rounds) (made .end) es vs p)) text 0 r text′
-            → Put 340000 (answerText made es vs p) text 0 r text′
+            → TextPut 340000 (answerText made es vs p) text 0 r text′
         answer-graph W =
             put-as (sym (text-is (fits-enough 65536 _ (omega (arith, long-is, q))) ∙ accepted-text _ _)) (put-most text-fits W)
 
@@ -108,7 +108,7 @@ module _ {made : Rewritten} {es vs p text : List ℕ} (P : Printing made es vs p
 
 module _ {bs es vs p heads nexts nodes mp starts tried sig : List ℕ} (Z : Lent bs es vs p heads nexts nodes mp starts tried sig) where
   bounded : {h : Held} {es′ vs′ p′ : List ℕ} → Holds h es′ vs′ p′ heads nexts → length es′ ≡ length es → length vs′ ≡ length vs → length p′
-      ≡ length p → Bounded h es′ vs′ p′
+      ≡ length p → ShowBounded h es′ vs′ p′
   bounded {h} {es′} {vs′} {p′} H a b c = record {
     vertices = omega (arith, held-vertices H, Z .graph .vertices-most);
     edges = omega (arith, held-edges H, Z .graph .edges-most);
@@ -133,13 +133,13 @@ simplified-is h r es vs p g q = λ i. record {
   graph = q i .graph;
   rewrites = q i .rewrites;
   rounds = q i .rounds;
-  end = (ap (λ (z : Result). endOf (z .end)) q ∙ end-back ((simplifyGraphFull minTailSuffixLen g) .end)) i;
+  end = (ap (λ (z : Result). endWithNumber (z .end)) q ∙ end-back ((simplifyGraphFull minTailSuffixLen g) .end)) i;
 }
 
 abbrev answerFor : List ℕ → S.Simplified
 answerFor bs = simplifyGraphFull minTailSuffixLen (decode bs)
 
-put-front : {s text text′ : List ℕ} {r : ℕ} → 340000 ≤ length text → Put 340000 s text 0 r text′ → text′ ≡ s ++ drop r text
+put-front : {s text text′ : List ℕ} {r : ℕ} → 340000 ≤ length text → TextPut 340000 s text 0 r text′ → text′ ≡ s ++ drop r text
 put-front {s} {text} {text′} {r} h P =
     let e : 0 + length s ≡ r = omega (arith, P .end) in
     P .is ∙ sets-eq s text 0 (omega (arith, P .size)) ∙ ap (λ (x : ℕ). s ++ drop x text) e
@@ -158,11 +158,11 @@ shown-fitting bs q =
     sym (ap (λ (a : Response). printedAnswer a (answerFor bs))
     (respond-fits (inputCauses bs) 65536 (encode sequenceGraph 0 (answerFor bs .graph)) q))
 
-put-shown : {bs text text′ : List ℕ} {r m : ℕ} {s : List ℕ} → s ≡ shown bs → m ≤ 340000 → 340000 ≤ length text → Put m s text 0 r text′
+put-shown : {bs text text′ : List ℕ} {r m : ℕ} {s : List ℕ} → s ≡ shown bs → m ≤ 340000 → 340000 ≤ length text → TextPut m s text 0 r text′
     → Shown bs text r text′
 put-shown e l h P = let Q = put-as e (put-most l P) in record { long = omega (arith, Q .end); is = put-front h Q }
 
-pub long-shown : (bs : List ℕ) {text text′ : List ℕ} {r : ℕ} → 65536 < length bs → 340000 ≤ length text → Put 19 (printedRefusal 1) text 0 r text′
+pub long-shown : (bs : List ℕ) {text text′ : List ℕ} {r : ℕ} → 65536 < length bs → 340000 ≤ length text → TextPut 19 (printedRefusal 1) text 0 r text′
     → Shown bs text r text′
 long-shown bs l h P = put-shown (shown-refused bs (sym (causes-long bs l)) (λ z. omega arith)) (omega arith) h P
 
@@ -174,7 +174,7 @@ module _ {bs heads nexts : List ℕ} {made : Rewritten} {es vs p : List ℕ} (A 
       ∙ shown-fitting bs (sym (causes-record bs short) ∙ sym (A .number) ∙ number-graph f)
   made-is (Refused n) f = shown-refused bs (sym (causes-record bs short) ∙ sym (A .number) ∙ number-refused f) (A .refused n f)
 
-  pub made-shown : {text text′ : List ℕ} {r : ℕ} → 340000 ≤ length text → Put 340000 (answerText made es vs p) text 0 r text′ → Shown bs text r text′
+  pub made-shown : {text text′ : List ℕ} {r : ℕ} → 340000 ≤ length text → TextPut 340000 (answerText made es vs p) text 0 r text′ → Shown bs text r text′
   made-shown h P = put-shown (made-is (made .read) refl) (omega arith) h P
 
 -- the text ends within the slice

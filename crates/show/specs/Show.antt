@@ -16,7 +16,7 @@ use Rattle.text.specs.Printed.{printedRefusal, printedAnswer, shown}
 use Rattle.graph_text.specs.GraphText.{simplifiedIn}
 
 -- a held graph of at most 10,240 vertices, 16,384 edges and 10,240 bytes
-pub record Bounded (h : Held) (es vs p : List ℕ) : Type 0 where
+pub record ShowBounded (h : Held) (es vs p : List ℕ) : Type 0 where
   pub vertices : h .n ≤ 10240
   pub edges : h .m ≤ 16384
   pub bytes : bytesIn (h .n) vs ≤ 10240
@@ -35,7 +35,7 @@ answerText made es vs p = readText (made .read) (made .rewrites) (made .rounds) 
 
 -- room for every text
 pub record Printing (made : Rewritten) (es vs p text : List ℕ) : Type 0 where
-  pub bounded : (h : Held) → made .read ≡ Graph h → Bounded h es vs p
+  pub bounded : (h : Held) → made .read ≡ Graph h → ShowBounded h es vs p
   pub room : 340000 ≤ length text
 
 -- the text stands at the front, r bytes long; the rest is as it was

@@ -2,7 +2,7 @@
 ghost use Prim.Native.Nat.{_≤_};
 ghost use lib.ListN.{length};
 ghost use Rattle.arrays.specs.Sized.{Lent};
-ghost use Rattle.text.specs.Put.{Put};
+ghost use Rattle.text.specs.Put.{TextPut};
 ghost use Rattle.show.specs.Show.{answerText, Printing, Shown};
 use accept::Read;
 use arrays::LARGE_EDGES;
@@ -19,7 +19,7 @@ pub const TEXT_MOST: usize = 340000;
 // The text of what became of a record, at the front. An answer record over 65,536 bytes is told as 11, though none is written here.
 fn put_answer(text: &mut [u8], made: Rewritten, es: &[u32], vs: &[u32], p: &[u8]) -> usize
     requires { ⌜ Printing made (now es) (now vs) (now p) (now text) ⌝ }
-    ensures { λ r. ⌜ Put 340000 (answerText made (now (es .entry)) (now (vs .entry)) (now (p .entry))) (now (text .entry)) 0 r (now (text .exit)) ⌝ }
+    ensures { λ r. ⌜ TextPut 340000 (answerText made (now (es .entry)) (now (vs .entry)) (now (p .entry))) (now (text .entry)) 0 r (now (text .exit)) ⌝ }
 {
     let read = made.read;
     let held = match read {

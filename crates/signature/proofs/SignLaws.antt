@@ -21,7 +21,7 @@ use Rattle.tabs.proofs.SumTabs.{sum-none, sum-more, sum-below, concat-snoc, map
 use Rattle.store.specs.Store.{part, numsIn, seqIn, seqsIn, Within}
 use Rattle.store.proofs.VertexLaws.{part-long}
 use Rattle.memory.specs.declared.Held.{Held}
-use Rattle.signature.specs.Signature.{sameAt, sameFrom, Over, Put, Sequence, Entering, Entered, Writable, Signature}
+use Rattle.signature.specs.Signature.{sameAt, sameFrom, WrittenOver, NumberPut, SequenceSigned, Entering, VertexSigned, SignatureWritable, Signature}
 use Rattle.signature.specs.declared.Signed.{Signed}
 
 -- ---- one after another
@@ -47,15 +47,15 @@ and-more : (a b c d : Bool) → d ≡ (a && b) && c → d ≡ a && (b && c)
 and-more true b c d e = e
 and-more false b c d e = e
 
-pub over-none : (l : List ℕ) (old : ℕ) (s : Signed) → Over l old s [] s l
+pub over-none : (l : List ℕ) (old : ℕ) (s : Signed) → WrittenOver l old s [] s l
 over-none l old s = record { at = omega arith; same = and-true (s .same); is = λ i h. absurd (omega arith); before = λ k h. refl; behind = λ k h. refl }
   where
     and-true : (b : Bool) → b ≡ b && true
     and-true true = refl
     and-true false = refl
 
-pub over-then : {l l₁ l₂ : List ℕ} {old : ℕ} {s r₁ r₂ : Signed} {xs ys : List ℕ} → Over l old s xs r₁ l₁ → Over l₁ old r₁ ys r₂ l₂
-    → Over l old s (xs ++ ys) r₂ l₂
+pub over-then : {l l₁ l₂ : List ℕ} {old : ℕ} {s r₁ r₂ : Signed} {xs ys : List ℕ} → WrittenOver l old s xs r₁ l₁ → WrittenOver l₁ old r₁ ys r₂ l₂
+    → WrittenOver l old s (xs ++ ys) r₂ l₂
 over-then {l} {l₁} {l₂} {old} {s} {r₁} {r₂} {xs} {ys} A B = record {
   at = omega (arith, A .at, B .at, length-append xs ys);
   same = and-more (s .same) (sameFrom l old (s .at) xs) (sameFrom l old (s .at + length xs) ys) (r₂ .same)
@@ -82,7 +82,7 @@ here-is true = refl
 here-is false = refl
 
 pub put-over : {l : List ℕ} {old : ℕ} {s : Signed} {x : ℕ} {here : Bool} → s .at < length l → here ≡ sameAt l old (s .at) x → (r : Signed)
-    → r .at ≡ s .at + 1 → r .same ≡ s .same && here → Put l old s x r (set l (s .at) x)
+    → r .at ≡ s .at + 1 → r .same ≡ s .same && here → NumberPut l old s x r (set l (s .at) x)
 put-over {l} {old} {s} {x} {here} h e r a b = record {
   over = record {
     at = a;
@@ -99,43 +99,43 @@ put-over {l} {old} {s} {x} {here} h e r a b = record {
 
 -- ---- bytes
 
-pub record Bytes (l₀ : List ℕ) (old : ℕ) (s : Signed) (seq l : List ℕ) (t : Signed) (i : ℕ) : Type 0 where
+pub record SequenceBytes (l₀ : List ℕ) (old : ℕ) (s : Signed) (seq l : List ℕ) (t : Signed) (i : ℕ) : Type 0 where
   pub high : i ≤ length seq
   pub len : length l ≡ length l₀
-  pub over : Over l₀ old s (take i seq) t l
+  pub over : WrittenOver l₀ old s (take i seq) t l
 
 module _ {l₀ : List ℕ} {old : ℕ} {s : Signed} {seq : List ℕ} where
-  pub bytes-start : Bytes l₀ old s seq l₀ s 0
+  pub bytes-start : SequenceBytes l₀ old s seq l₀ s 0
   bytes-start = record { high = omega arith; len = refl; over = over-none l₀ old s }
 
-  pub bytes-more : {l l′ : List ℕ} {t r : Signed} {i : ℕ} → Bytes l₀ old s seq l t i → i < length seq → Put l old t (getD seq i 0) r l′
-      → length l′ ≡ length l → Bytes l₀ old s seq l′ r (i + 1)
+  pub bytes-more : {l l′ : List ℕ} {t r : Signed} {i : ℕ} → SequenceBytes l₀ old s seq l t i → i < length seq → NumberPut l old t (getD seq i 0) r l′
+      → length l′ ≡ length l → SequenceBytes l₀ old s seq l′ r (i + 1)
   bytes-more {l} {l′} {t} {r} {i} B h P q = record {
     high = omega arith;
     len = q ∙ B .len;
-    over = subst (λ (x : List ℕ). Over l₀ old s x r l′) (sym (ap (λ (k : ℕ). take k seq) (add-one i) ∙ take-suc seq i 0 h)) (over-then (B .over) (P .over));
+    over = subst (λ (x : List ℕ). WrittenOver l₀ old s x r l′) (sym (ap (λ (k : ℕ). take k seq) (add-one i) ∙ take-suc seq i 0 h)) (over-then (B .over) (P .over));
   }
 
   -- where the next byte goes
-  pub bytes-at : {l : List ℕ} {t : Signed} {i : ℕ} → Bytes l₀ old s seq l t i → t .at ≡ s .at + i
+  pub bytes-at : {l : List ℕ} {t : Signed} {i : ℕ} → SequenceBytes l₀ old s seq l t i → t .at ≡ s .at + i
   bytes-at {l} {t} {i} B = B .over .at ∙ ap (λ (x : ℕ). s .at + x) (length-take-le i seq (B .high))
 
-  pub bytes-end : {l : List ℕ} {t : Signed} {i : ℕ} → Bytes l₀ old s seq l t i → length seq ≤ i → Sequence l₀ old s seq t l
-  bytes-end {l} {t} {i} B h = record { over = subst (λ (x : List ℕ). Over l₀ old s x t l) (take-all i seq h) (B .over) }
+  pub bytes-end : {l : List ℕ} {t : Signed} {i : ℕ} → SequenceBytes l₀ old s seq l t i → length seq ≤ i → SequenceSigned l₀ old s seq t l
+  bytes-end {l} {t} {i} B h = record { over = subst (λ (x : List ℕ). WrittenOver l₀ old s x t l) (take-all i seq h) (B .over) }
 
 -- ---- all vertices
 
 abbrev pub entry : List ℕ → List ℕ
 entry q = length q ∷ q
 
-abbrev pub entries : ℕ → List ℕ → List ℕ → List ℕ
-entries v vs p = concat (map entry (seqsIn v vs p))
+abbrev pub signature-entries : ℕ → List ℕ → List ℕ → List ℕ
+signature-entries v vs p = concat (map entry (seqsIn v vs p))
 
-entries-none : (vs p : List ℕ) → entries 0 vs p ≡ []
+entries-none : (vs p : List ℕ) → signature-entries 0 vs p ≡ []
 unfolding concat
 entries-none vs p = ap (λ (l : List (List ℕ)). concat (map entry l)) (tab-zero (seqIn vs p))
 
-entries-more : (v : ℕ) (vs p : List ℕ) → entries (v + 1) vs p ≡ entries v vs p ++ entry (seqIn vs p v)
+entries-more : (v : ℕ) (vs p : List ℕ) → signature-entries (v + 1) vs p ≡ signature-entries v vs p ++ entry (seqIn vs p v)
 entries-more v vs p = ap (λ (l : List (List ℕ)). concat (map entry l)) (tab-snoc v (seqIn vs p))
     ∙ ap concat (mathlib-map-append (seqsIn v vs p) (seqIn vs p v)) ∙ concat-snoc (map entry (seqsIn v vs p)) (entry (seqIn vs p v))
   where
@@ -147,7 +147,7 @@ pub record Entries (l₀ : List ℕ) (old : ℕ) (s₀ : Signed) (n : ℕ) (vs p
   pub high : v ≤ n
   pub len : length l ≡ length l₀
   pub at : s .at ≡ s₀ .at + (v + sum (tab v (λ (u : ℕ). getD vs (2 * u + 1) 0)))
-  pub over : Over l₀ old s₀ (entries v vs p) s l
+  pub over : WrittenOver l₀ old s₀ (signature-entries v vs p) s l
 
 module _ {l₀ : List ℕ} {old : ℕ} {s₀ : Signed} {n : ℕ} {vs p : List ℕ} where
   pub entries-start : Entries l₀ old s₀ n vs p l₀ s₀ 0
@@ -155,24 +155,24 @@ module _ {l₀ : List ℕ} {old : ℕ} {s₀ : Signed} {n : ℕ} {vs p : List �
     high = omega arith;
     len = refl;
     at = omega (arith, sum-none (λ (u : ℕ). getD vs (2 * u + 1) 0));
-    over = subst (λ (x : List ℕ). Over l₀ old s₀ x s₀ l₀) (sym (entries-none vs p)) (over-none l₀ old s₀);
+    over = subst (λ (x : List ℕ). WrittenOver l₀ old s₀ x s₀ l₀) (sym (entries-none vs p)) (over-none l₀ old s₀);
   }
 
-  pub entries-step : {l l′ : List ℕ} {s r : Signed} {v : ℕ} → Entries l₀ old s₀ n vs p l s v → v < n → Entered l old s vs p v r l′
+  pub entries-step : {l l′ : List ℕ} {s r : Signed} {v : ℕ} → Entries l₀ old s₀ n vs p l s v → v < n → VertexSigned l old s vs p v r l′
       → length l′ ≡ length l → Entries l₀ old s₀ n vs p l′ r (v + 1)
   entries-step {l} {l′} {s} {r} {v} E b D q = record {
     high = omega arith;
     len = q ∙ E .len;
     at = omega (arith, D .at, E .at, sum-more v (λ (u : ℕ). getD vs (2 * u + 1) 0));
-    over = subst (λ (x : List ℕ). Over l₀ old s₀ x r l′) (sym (entries-more v vs p)) (over-then (E .over) (D .over));
+    over = subst (λ (x : List ℕ). WrittenOver l₀ old s₀ x r l′) (sym (entries-more v vs p)) (over-then (E .over) (D .over));
   }
 
 -- one vertex
 pub entered : {l l₁ l₂ : List ℕ} {old : ℕ} {s t r : Signed} {vs p : List ℕ} {v start len : ℕ} → Entering l old s vs p v → start
     ≡ getD vs (2 * v) 0 → len ≡ getD vs (2 * v + 1) 0
-    → Put l old s len t l₁ → Sequence l₁ old t (part p start len) r l₂ → Entered l old s vs p v r l₂
+    → NumberPut l old s len t l₁ → SequenceSigned l₁ old t (part p start len) r l₂ → VertexSigned l old s vs p v r l₂
 entered {l} {l₁} {l₂} {old} {s} {t} {r} {vs} {p} {v} {start} {len} F qs ql P S = record {
-  over = subst (λ (x : List ℕ). Over l old s x r l₂) whole (over-then (P .over) (S .over));
+  over = subst (λ (x : List ℕ). WrittenOver l old s x r l₂) whole (over-then (P .over) (S .over));
   at = omega (arith, S .over .at, P .over .at, long);
 }
   where
@@ -224,16 +224,16 @@ other-length l old xs o = sym (byTest (sameList (numsIn old l) xs)
     (λ s. s))
 
 module _ {sig : List ℕ} {old : ℕ} {h : Held} {vs p : List ℕ} {r₁ r₂ r₃ : Signed} {l₁ l₂ l₃ : List ℕ} {v : ℕ}
-    (A : Put sig old record { at = 0; same = true } (h .n) r₁ l₁) (B : Put l₁ old r₁ (h .m) r₂ l₂) (E :
-    Entries l₂ old r₂ (h .n) vs p l₃ r₃ v) (done : h .n ≤ v) (F : Writable sig old h vs p) where
+    (A : NumberPut sig old record { at = 0; same = true } (h .n) r₁ l₁) (B : NumberPut l₁ old r₁ (h .m) r₂ l₂) (E :
+    Entries l₂ old r₂ (h .n) vs p l₃ r₃ v) (done : h .n ≤ v) (F : SignatureWritable sig old h vs p) where
   abbrev written : List ℕ
-  written = ((h .n ∷ []) ++ (h .m ∷ [])) ++ entries (h .n) vs p
+  written = ((h .n ∷ []) ++ (h .m ∷ [])) ++ signature-entries (h .n) vs p
 
   v-is : v ≡ h .n
   v-is = omega (arith, E .high)
 
-  all : Over sig old record { at = 0; same = true } written r₃ l₃
-  all = over-then (over-then (A .over) (B .over)) (subst (λ (x : ℕ). Over l₂ old r₂ (entries x vs p) r₃ l₃) v-is (E .over))
+  all : WrittenOver sig old record { at = 0; same = true } written r₃ l₃
+  all = over-then (over-then (A .over) (B .over)) (subst (λ (x : ℕ). WrittenOver l₂ old r₂ (signature-entries x vs p) r₃ l₃) v-is (E .over))
 
   sig-is : (g : Graph) → g .verts ≡ seqsIn (h .n) vs p → length (g .edges) ≡ h .m → written ≡ graphTopologySignature g
   unfolding graphTopologySignature nodeCount
@@ -265,8 +265,8 @@ module _ {sig : List ℕ} {old : ℕ} {h : Held} {vs p : List ℕ} {r₁ r₂ r�
 
 -- a part by its start and its end
 pub part-sub : {l : List ℕ} {old : ℕ} {s : Signed} {r : Signed} {l′ : List ℕ} (p : List ℕ) (start len : ℕ)
-    → Sequence l old s (take (start + len - start) (drop start p)) r l′ → Sequence l old s (part p start len) r l′
-part-sub {l} {old} {s} {r} {l′} p start len S = subst (λ (n : ℕ). Sequence l old s (take n (drop start p)) r l′) size S
+    → SequenceSigned l old s (take (start + len - start) (drop start p)) r l′ → SequenceSigned l old s (part p start len) r l′
+part-sub {l} {old} {s} {r} {l′} p start len S = subst (λ (n : ℕ). SequenceSigned l old s (take n (drop start p)) r l′) size S
   where
     size : start + len - start ≡ len
     size = omega arith

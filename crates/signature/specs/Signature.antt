@@ -22,18 +22,18 @@ sameFrom l old at [] = true
 sameFrom l old at (x ∷ xs) = sameAt l old at x && sameFrom l old (suc at) xs
 
 -- xs written from s .at on over l
-pub record Over (l : List ℕ) (old : ℕ) (s : Signed) (xs : List ℕ) (r : Signed) (l′ : List ℕ) : Type 0 where
+pub record WrittenOver (l : List ℕ) (old : ℕ) (s : Signed) (xs : List ℕ) (r : Signed) (l′ : List ℕ) : Type 0 where
   pub at : r .at ≡ s .at + length xs
   pub same : r .same ≡ s .same && sameFrom l old (s .at) xs
   pub is : (i : ℕ) → i < length xs → getD l′ (s .at + i) 0 ≡ getD xs i 0
   pub before : (k : ℕ) → k < s .at → getD l′ k 0 ≡ getD l k 0
   pub behind : (k : ℕ) → s .at + length xs ≤ k → getD l′ k 0 ≡ getD l k 0
 
-pub record Put (l : List ℕ) (old : ℕ) (s : Signed) (x : ℕ) (r : Signed) (l′ : List ℕ) : Type 0 where
-  pub over : Over l old s (x ∷ []) r l′
+pub record NumberPut (l : List ℕ) (old : ℕ) (s : Signed) (x : ℕ) (r : Signed) (l′ : List ℕ) : Type 0 where
+  pub over : WrittenOver l old s (x ∷ []) r l′
 
-pub record Sequence (l : List ℕ) (old : ℕ) (s : Signed) (xs : List ℕ) (r : Signed) (l′ : List ℕ) : Type 0 where
-  pub over : Over l old s xs r l′
+pub record SequenceSigned (l : List ℕ) (old : ℕ) (s : Signed) (xs : List ℕ) (r : Signed) (l′ : List ℕ) : Type 0 where
+  pub over : WrittenOver l old s xs r l′
 
 -- v's sequence is in the pool, and there is room for its length and bytes
 pub record Entering (l : List ℕ) (old : ℕ) (s : Signed) (vs p : List ℕ) (v : ℕ) : Type 0 where
@@ -42,12 +42,12 @@ pub record Entering (l : List ℕ) (old : ℕ) (s : Signed) (vs p : List ℕ) (v
   pub within : getD vs (2 * v) 0 + getD vs (2 * v + 1) 0 ≤ length p
   pub room : s .at + 1 + getD vs (2 * v + 1) 0 ≤ length l
 
-pub record Entered (l : List ℕ) (old : ℕ) (s : Signed) (vs p : List ℕ) (v : ℕ) (r : Signed) (l′ : List ℕ) : Type 0 where
-  pub over : Over l old s (length (seqIn vs p v) ∷ seqIn vs p v) r l′
+pub record VertexSigned (l : List ℕ) (old : ℕ) (s : Signed) (vs p : List ℕ) (v : ℕ) (r : Signed) (l′ : List ℕ) : Type 0 where
+  pub over : WrittenOver l old s (length (seqIn vs p v) ∷ seqIn vs p v) r l′
   pub at : r .at ≡ s .at + 1 + getD vs (2 * v + 1) 0
 
 -- room for the counts, and for each vertex a length and its bytes
-pub record Writable (sig : List ℕ) (old : ℕ) (h : Held) (vs p : List ℕ) : Type 0 where
+pub record SignatureWritable (sig : List ℕ) (old : ℕ) (h : Held) (vs p : List ℕ) : Type 0 where
   pub old-room : old ≤ length sig
   pub vs-room : 2 * h .n ≤ length vs
   pub within : Within (length p) (h .n) vs

@@ -2,7 +2,7 @@
 ghost use mathlib.Core.Path.{_≡_};
 ghost use Prim.Native.Nat.{ℕ, _+_, _*_, _<_, _≤_};
 ghost use lib.ListN.{length, getD};
-ghost use Rattle.signature.specs.Signature.{sameAt, Put, Sequence, Entering, Entered, Writable, Signature};
+ghost use Rattle.signature.specs.Signature.{sameAt, NumberPut, SequenceSigned, Entering, VertexSigned, SignatureWritable, Signature};
 use memory::Held;
 
 // How far the signature is written, and whether all of it is as the previous one.
@@ -25,7 +25,7 @@ fn same_at(sig: &[u32], at: usize, x: u32, old: usize) -> bool
 // Writes one number.
 fn put(sig: &mut [u32], old: usize, s: Signed, x: u32) -> Signed
     requires { ⌜ (old ≤ length (now sig)) × (s .at < length (now sig)) ⌝ }
-    ensures { λ r. ⌜ Put (now (sig .entry)) old s x r (now (sig .exit)) ⌝ }
+    ensures { λ r. ⌜ NumberPut (now (sig .entry)) old s x r (now (sig .exit)) ⌝ }
 {
     let at = s.at;
     let same = s.same;
@@ -46,7 +46,7 @@ fn put(sig: &mut [u32], old: usize, s: Signed, x: u32) -> Signed
 // Writes the bytes of a part.
 fn put_bytes(sig: &mut [u32], old: usize, s: Signed, seq: &[u8]) -> Signed
     requires { ⌜ (old ≤ length (now sig)) × (s .at + length (now seq) ≤ length (now sig)) ⌝ }
-    ensures { λ r. ⌜ Sequence (now (sig .entry)) old s (now (seq .entry)) r (now (sig .exit)) ⌝ }
+    ensures { λ r. ⌜ SequenceSigned (now (sig .entry)) old s (now (seq .entry)) r (now (sig .exit)) ⌝ }
 {
     let mut t = s;
     let mut i = 0;
@@ -60,7 +60,7 @@ fn put_bytes(sig: &mut [u32], old: usize, s: Signed, seq: &[u8]) -> Signed
 // Writes the length and the bytes of v's sequence.
 fn put_entry(sig: &mut [u32], old: usize, s: Signed, vs: &[u32], p: &[u8], v: u32) -> Signed
     requires { ⌜ Entering (now sig) old s (now vs) (now p) v ⌝ }
-    ensures { λ r. ⌜ Entered (now (sig .entry)) old s (now (vs .entry)) (now (p .entry)) v r (now (sig .exit)) ⌝ }
+    ensures { λ r. ⌜ VertexSigned (now (sig .entry)) old s (now (vs .entry)) (now (p .entry)) v r (now (sig .exit)) ⌝ }
 {
     let start = store::vertex_start(vs, v);
     let len = store::vertex_len(vs, v);
@@ -70,7 +70,7 @@ fn put_entry(sig: &mut [u32], old: usize, s: Signed, vs: &[u32], p: &[u8], v: u3
 
 // Writes the signature of the held graph over the previous one, of `old` numbers.
 pub fn replace_signature(sig: &mut [u32], old: usize, held: Held, vs: &[u32], p: &[u8]) -> Signed
-    requires { ⌜ Writable (now sig) old held (now vs) (now p) ⌝ }
+    requires { ⌜ SignatureWritable (now sig) old held (now vs) (now p) ⌝ }
     ensures { λ r. ⌜ Signature (now (sig .entry)) old held (now (vs .entry)) (now (p .entry)) r (now (sig .exit)) ⌝ }
 {
     let first = put(sig, old, Signed { at: 0, same: true }, held.n as u32);

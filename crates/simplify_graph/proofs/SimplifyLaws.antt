@@ -27,12 +27,12 @@ use Rattle.calls.specs.declared.SimplifyAnswer.{SimplifyAnswer}
 use Rattle.calls.proofs.ResponseLaws.{answered, room-enough, field-most}
 use Rattle.rewriting.specs.Rewriting.{resultOf}
 use Rattle.rewriting.specs.declared.RewritingCall.the-variants.{SimplifyGraph}
-use Rattle.rewriting_calls.specs.Answered.{Answered}
+use Rattle.rewriting_calls.specs.Answered.{RewritingAnswered}
 use Rattle.rewriting_calls.specs.declared.RewritingAnswer.{RewritingAnswer}
 use Rattle.simplify_graph.specs.Simplifies.{Simplifies}
 
 module _ {bs out : List ℕ} {t : Tally} {r : RewritingAnswer} {a : SimplifyAnswer} {out′ : List ℕ} (small : Bytes bs)
-    (A : Answered SimplifyGraph bs out r out′) (T : TalliesSimplify (r .sent) (r .rewrites) (r .rounds) (r .end) t a) where
+    (A : RewritingAnswered SimplifyGraph bs out r out′) (T : TalliesSimplify (r .sent) (r .rewrites) (r .rounds) (r .end) t a) where
   abbrev z : S.Simplified
   z = simplifyGraphFull minTailSuffixLen (decode bs)
 

@@ -31,7 +31,7 @@ use Rattle.record.proofs.Accepted.{well-formed}
 use Rattle.record.proofs.Sequences.{length-sequence}
 use Rattle.cycle.proofs.CycleLaws.{cycle-closed, closed-cycle, no-cycle-ranked}
 use Rattle.sound.specs.Alike.{noEdge, SameEnds, SameKmers}
-use Rattle.sound.proofs.Causes.{Numbered, refusal-later, refusal-earlier, refusal-most}
+use Rattle.sound.proofs.Causes.{CausesNumbered, refusal-later, refusal-earlier, refusal-most}
 use Rattle.sound.proofs.Pairs.{pair-of, of-pair}
 
 -- ---- the causes 6 and 7 behind the five of the layout
@@ -69,7 +69,7 @@ module _ (t : Takes) (bs : List ℕ) where
           (List·Memᴰ·cases-cons m1))
           (List·Memᴰ·cases-cons m0)
 
-  layout-numbered : Numbered layout
+  layout-numbered : CausesNumbered layout
   layout-numbered = record { at = λ c m. layout-numbers c m .0 }
 
   layout-most : refusalOf layout ≤ 5

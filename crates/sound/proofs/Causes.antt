@@ -8,7 +8,7 @@ use Rattle.defs.specs.Refusals.{Cause, refusalOf}
 use Rattle.laws.proofs.Walks.{byTest}
 
 -- a cause's number is not 0, which means accepted
-pub record Numbered (cs : List Cause) : Type 0 where
+pub record CausesNumbered (cs : List Cause) : Type 0 where
   pub at : (c : Cause) → List·Memᴰ c cs → 0 < c .number
 
 module _ (c : Cause) (cs : List Cause) where
@@ -21,7 +21,7 @@ module _ (c : Cause) (cs : List Cause) where
   refusal-absent t = rw (t, refusalOf)
 
 -- the later causes count where the earlier ones are absent
-pub refusal-later : (cs ds : List Cause) → Numbered cs → refusalOf cs ≡ 0 → refusalOf (cs ++ ds) ≡ refusalOf ds
+pub refusal-later : (cs ds : List Cause) → CausesNumbered cs → refusalOf cs ≡ 0 → refusalOf (cs ++ ds) ≡ refusalOf ds
 refusal-later [] ds n z = refl
 refusal-later (c ∷ cs) ds n z = byTest (c .present)
     (λ t. absurd (omega (arith, refusal-there c cs t, n .at c (List·Memᴰ·head refl))))

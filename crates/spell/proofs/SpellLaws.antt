@@ -14,7 +14,8 @@ use Rattle.tabs.proofs.Tabs.{tab-snoc, tab-zero}
 use Rattle.tabs.proofs.SumTabs.{sum-none, sum-more, sum-below, concat-snoc}
 use Rattle.store.specs.Store.{part, seqIn, numsIn}
 use Rattle.store.proofs.VertexLaws.{part-long}
-use Rattle.spell.specs.Spell.{Fits, Puttable, Put, bytesAt, spelledIn, Listed, Written, Answered, countOf, countIn, withFront, Told}
+use Rattle.spell.specs.Spell.{BytesFit, Puttable, SequencePut, spelledIn, Listed, BytesWritten, Answered, countOf, countIn, withFront, Told}
+use Rattle.store.specs.Store.{nodesLength}
 use Rattle.spell.specs.declared.OptionBytes.{OptionBytes}
 use Rattle.spell.specs.declared.OptionBytes.the-variants.{Some, None}
 
@@ -28,7 +29,7 @@ module _ {p : List ℕ} {from n : ℕ} {out₀ : List ℕ} {to : ℕ} where
   pub pasting-start : Pasting p from n out₀ to out₀ 0
   pasting-start = record { high = omega arith; is = paste-zero out₀ to (drop from p) }
 
-  module _ (F : Fits p from n out₀ to) {out : List ℕ} {i : ℕ} (P : Pasting p from n out₀ to out i) where
+  module _ (F : BytesFit p from n out₀ to) {out : List ℕ} {i : ℕ} (P : Pasting p from n out₀ to out i) where
     pub pasting-long : length out ≡ length out₀
     pasting-long = ap length (P .is) ∙ length-paste out₀ to (drop from p) i (omega (arith, F .to-room, P .high))
         (omega (arith, F .from-room, P .high, length-drop from p))
@@ -47,34 +48,34 @@ module _ {p : List ℕ} {from n : ℕ} {out₀ : List ℕ} {to : ℕ} where
 -- ---- one sequence
 
 pub put-is : {vs p : List ℕ} {v : ℕ} {out out′ : List ℕ} {at start len : ℕ} → start ≡ getD vs (2 * v) 0 → len ≡ getD vs (2 * v + 1) 0 → out′
-    ≡ paste out at (drop start p) len → Put vs p v out at (at + len) out′
+    ≡ paste out at (drop start p) len → SequencePut vs p v out at (at + len) out′
 put-is {vs} {p} {v} {out} {out′} {at} s l e = record { end = omega arith; is = e ∙ (λ j. paste out at (drop (s j) p) (l j)) }
 
 -- ---- the lengths
 
-pub record Adding (vs nodes : List ℕ) (c len i : ℕ) : Type 0 where
+pub record AddingNodes (vs nodes : List ℕ) (c len i : ℕ) : Type 0 where
   pub high : i ≤ c
-  pub is : len ≡ bytesAt vs nodes i
+  pub is : len ≡ nodesLength vs nodes i
 
-pub adding-start : (vs nodes : List ℕ) (c : ℕ) → Adding vs nodes c 0 0
+pub adding-start : (vs nodes : List ℕ) (c : ℕ) → AddingNodes vs nodes c 0 0
 adding-start vs nodes c = record { high = omega arith; is = sym (sum-none (λ (i : ℕ). getD vs (2 * getD nodes i 0 + 1) 0)) }
 
-module _ {vs p nodes : List ℕ} {c : ℕ} (L : Listed vs p nodes c) {len i l : ℕ} (A : Adding vs nodes c len i) (h : i < c) (q : l
+module _ {vs p nodes : List ℕ} {c : ℕ} (L : Listed vs p nodes c) {len i l : ℕ} (A : AddingNodes vs nodes c len i) (h : i < c) (q : l
     ≡ getD vs (2 * getD nodes i 0 + 1) 0) where
   pub adding-small : len + l ≤ length p
   adding-small = omega (arith, A .is, L .total, sum-below c i (λ (i : ℕ). getD vs (2 * getD nodes i 0 + 1) 0) h)
 
-  pub adding-more : Adding vs nodes c (len + l) (i + 1)
+  pub adding-more : AddingNodes vs nodes c (len + l) (i + 1)
   adding-more = record { high = omega arith; is = omega (arith, A .is, sum-more i (λ (i : ℕ). getD vs (2 * getD nodes i 0 + 1) 0)) }
 
-pub adding-end : {vs nodes : List ℕ} {c len i : ℕ} → Adding vs nodes c len i → c ≤ i → len ≡ bytesAt vs nodes c
-adding-end {vs} {nodes} {c} {len} {i} A h = let q : i ≡ c = omega (arith, A .high) in A .is ∙ ap (bytesAt vs nodes) q
+pub adding-end : {vs nodes : List ℕ} {c len i : ℕ} → AddingNodes vs nodes c len i → c ≤ i → len ≡ nodesLength vs nodes c
+adding-end {vs} {nodes} {c} {len} {i} A h = let q : i ≡ c = omega (arith, A .high) in A .is ∙ ap (nodesLength vs nodes) q
 
 -- ---- writing
 
 pub record Spelling (vs p nodes : List ℕ) (c : ℕ) (out₀ out : List ℕ) (at i : ℕ) : Type 0 where
   pub high : i ≤ c
-  pub end : at ≡ bytesAt vs nodes i
+  pub end : at ≡ nodesLength vs nodes i
   pub size : length (spelledIn vs p nodes i) ≡ at
   pub len : length out ≡ length out₀
   pub is : out ≡ spelledIn vs p nodes i ++ drop at out₀
@@ -105,7 +106,7 @@ paste-behind d out₀ s at n q = λ j. (take-at d (drop at out₀) at q j ++ tak
     rest : drop (at + n) (d ++ drop at out₀) ≡ drop (at + n) out₀
     rest = ap (λ (x : ℕ). drop (x + n) (d ++ drop at out₀)) (sym q) ∙ drop-append-add d (drop at out₀) n ∙ drop-drop n at out₀
 
-module _ {vs p nodes : List ℕ} {c : ℕ} {out₀ : List ℕ} (L : Listed vs p nodes c) (room : bytesAt vs nodes c ≤ length out₀) {out :
+module _ {vs p nodes : List ℕ} {c : ℕ} {out₀ : List ℕ} (L : Listed vs p nodes c) (room : nodesLength vs nodes c ≤ length out₀) {out :
     List ℕ} {at i : ℕ} (S : Spelling vs p nodes c out₀ out at i) where
   pub spelling-puttable : i < c → Puttable vs p (getD nodes i 0) out at
   spelling-puttable h = record {
@@ -114,7 +115,7 @@ module _ {vs p nodes : List ℕ} {c : ℕ} {out₀ : List ℕ} (L : Listed vs p 
     room = omega (arith, S .end, S .len, sum-below c i (λ (i : ℕ). getD vs (2 * getD nodes i 0 + 1) 0) h);
   }
 
-  pub spelling-more : {out′ : List ℕ} {at′ : ℕ} → i < c → Put vs p (getD nodes i 0) out at at′ out′ → length out′ ≡ length out
+  pub spelling-more : {out′ : List ℕ} {at′ : ℕ} → i < c → SequencePut vs p (getD nodes i 0) out at at′ out′ → length out′ ≡ length out
       → Spelling vs p nodes c out₀ out′ at′ (i + 1)
   spelling-more {out′} {at′} h P q = record {
     high = omega arith;
@@ -127,7 +128,7 @@ module _ {vs p nodes : List ℕ} {c : ℕ} {out₀ : List ℕ} (L : Listed vs p 
         ∙ (λ j. sym (spelled-more vs p nodes i) j ++ drop (sym (P .end) j) out₀);
   }
 
-  pub spelling-end : c ≤ i → Written (spelledIn vs p nodes c) out₀ at out
+  pub spelling-end : c ≤ i → BytesWritten (spelledIn vs p nodes c) out₀ at out
   spelling-end h =
       let q : i ≡ c = omega (arith, S .high) in
       record {
@@ -138,23 +139,23 @@ module _ {vs p nodes : List ℕ} {c : ℕ} {out₀ : List ℕ} (L : Listed vs p 
 -- ---- the answer
 
 -- the sum of the lengths is the length of the whole
-spelled-long : {vs p nodes : List ℕ} {c : ℕ} → Listed vs p nodes c → (i : ℕ) → i ≤ c → bytesAt vs nodes i ≡ length (spelledIn vs p nodes i)
+spelled-long : {vs p nodes : List ℕ} {c : ℕ} → Listed vs p nodes c → (i : ℕ) → i ≤ c → nodesLength vs nodes i ≡ length (spelledIn vs p nodes i)
 spelled-long {vs} {p} {nodes} L zero h = sum-none (λ (i : ℕ). getD vs (2 * getD nodes i 0 + 1) 0) ∙ sym (ap length (spelled-none vs p nodes))
 spelled-long {vs} {p} {nodes} L (suc i) h =
-    ap (bytesAt vs nodes) (sym (add-one i)) ∙ sum-more i (λ (i : ℕ). getD vs (2 * getD nodes i 0 + 1) 0)
+    ap (nodesLength vs nodes) (sym (add-one i)) ∙ sum-more i (λ (i : ℕ). getD vs (2 * getD nodes i 0 + 1) 0)
     ∙ (λ j. spelled-long L i (omega arith) j + sym (part-long p (getD vs (2 * getD nodes i 0) 0) (getD vs (2 * getD nodes i 0 + 1) 0)
     (L .within i (omega arith))) j)
     ∙ sym (length-append (spelledIn vs p nodes i) (seqIn vs p (getD nodes i 0)))
     ∙ sym (ap length (ap (spelledIn vs p nodes) (sym (add-one i)) ∙ spelled-more vs p nodes i))
 
-pub too-long : {vs p nodes : List ℕ} {c len : ℕ} (out : List ℕ) → Listed vs p nodes c → len ≡ bytesAt vs nodes c → length out < len
+pub too-long : {vs p nodes : List ℕ} {c len : ℕ} (out : List ℕ) → Listed vs p nodes c → len ≡ nodesLength vs nodes c → length out < len
     → Answered (spelledIn vs p nodes c) out len out
 too-long {c = c} out L q h = record { size = q ∙ spelled-long L c (omega arith); is = λ b. absurd (omega arith); kept = λ b. refl }
 
-pub written-whole : {s out out′ : List ℕ} {len r : ℕ} → len ≤ length out → len ≡ length s → Written s out r out′ → Answered s out r out′
+pub written-whole : {s out out′ : List ℕ} {len r : ℕ} → len ≤ length out → len ≡ length s → BytesWritten s out r out′ → Answered s out r out′
 written-whole h q W = record { size = W .size; is = λ b. W .is; kept = λ b. absurd (omega (arith, W .size)) }
 
-pub listed-long : {vs p nodes : List ℕ} {c len : ℕ} → Listed vs p nodes c → len ≡ bytesAt vs nodes c → len ≡ length (spelledIn vs p nodes c)
+pub listed-long : {vs p nodes : List ℕ} {c len : ℕ} → Listed vs p nodes c → len ≡ nodesLength vs nodes c → len ≡ length (spelledIn vs p nodes c)
 listed-long {c = c} L q = q ∙ spelled-long L c (omega arith)
 
 -- ---- bytes that are there or not

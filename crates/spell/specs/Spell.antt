@@ -8,12 +8,13 @@ use lib.ListN.{length, getD, drop}
 use lib.Dec.{leb}
 use lib.Seq.{paste}
 use Rattle.defs.specs.Lists.{tab, concat, sum}
+use Rattle.store.specs.Store.{nodesLength}
 use Rattle.store.specs.Store.{seqIn, numsIn}
 use Rattle.spell.specs.declared.OptionBytes.{OptionBytes}
 use Rattle.spell.specs.declared.OptionBytes.the-variants.{Some, None}
 
 -- n bytes from `from` on are there, and there is room for them at `to`
-pub record Fits (p : List ℕ) (from n : ℕ) (out : List ℕ) (to : ℕ) : Type 0 where
+pub record BytesFit (p : List ℕ) (from n : ℕ) (out : List ℕ) (to : ℕ) : Type 0 where
   pub from-room : from + n ≤ length p
   pub to-room : to + n ≤ length out
 
@@ -24,13 +25,9 @@ pub record Puttable (vs p : List ℕ) (v : ℕ) (out : List ℕ) (at : ℕ) : Ty
   pub room : at + getD vs (2 * v + 1) 0 ≤ length out
 
 -- it stands at `at` to r, and nothing else changed
-pub record Put (vs p : List ℕ) (v : ℕ) (out : List ℕ) (at r : ℕ) (out′ : List ℕ) : Type 0 where
+pub record SequencePut (vs p : List ℕ) (v : ℕ) (out : List ℕ) (at r : ℕ) (out′ : List ℕ) : Type 0 where
   pub end : r ≡ at + getD vs (2 * v + 1) 0
   pub is : out′ ≡ paste out at (drop (getD vs (2 * v) 0) p) (getD vs (2 * v + 1) 0)
-
--- the lengths of the first c of the nodes together
-abbrev pub bytesAt : List ℕ → List ℕ → ℕ → ℕ
-bytesAt vs nodes c = sum (tab c (λ (i : ℕ). getD vs (2 * getD nodes i 0 + 1) 0))
 
 -- the sequences of the first c of the nodes, joined
 abbrev pub spelledIn : List ℕ → List ℕ → List ℕ → ℕ → List ℕ
@@ -41,10 +38,10 @@ pub record Listed (vs p nodes : List ℕ) (c : ℕ) : Type 0 where
   pub nodes-room : c ≤ length nodes
   pub vs-room : (i : ℕ) → i < c → 2 * getD nodes i 0 + 2 ≤ length vs
   pub within : (i : ℕ) → i < c → getD vs (2 * getD nodes i 0) 0 + getD vs (2 * getD nodes i 0 + 1) 0 ≤ length p
-  pub total : bytesAt vs nodes c ≤ length p
+  pub total : nodesLength vs nodes c ≤ length p
 
 -- the r bytes s stand at the front, and the rest is as it was
-pub record Written (s out : List ℕ) (r : ℕ) (out′ : List ℕ) : Type 0 where
+pub record BytesWritten (s out : List ℕ) (r : ℕ) (out′ : List ℕ) : Type 0 where
   pub size : r ≡ length s
   pub is : out′ ≡ s ++ drop r out
 

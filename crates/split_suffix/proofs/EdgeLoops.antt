@@ -19,13 +19,13 @@ use Rattle.tabs.proofs.SumTabs.{concat-append, concat-snoc}
 use Rattle.store.specs.Store.{isSet, edge, edgeIn, edgesIn, putEdge, EndsBelow}
 use Rattle.store.proofs.EdgeLaws.{no-edge, length-put, put-other, packed-miss}
 use Rattle.compact.proofs.CompactLaws.{ends-mem, mem-ends}
-use Rattle.index.specs.Index.{endOf}
+use Rattle.index.specs.Index.{edgeEnd}
 use Rattle.redirect.specs.Redirect.{redirectedAll, Redirectable, Redirected}
 use Rattle.redirect.proofs.RaiseLaws.{first-missing, raise-longer, raiseAll-longer, raiseAll-ends}
 use Rattle.redirect.proofs.RedirectLaws.{marks-start}
 use Rattle.redirect.proofs.SameLaws.{all-same, indexed-same, into-ends}
-use Rattle.split_suffix.specs.Split.{hasPrefix, entry, linkEdges, blockEdges, numberOf, edgesOf, newEdges, Linkable, LinksDone}
-use Rattle.split_suffix.specs.Split.{MarksLow, BlockReady, BlockDone, EdgesReady, EdgesDone}
+use Rattle.split_suffix.specs.Split.{hasPrefix, entryNumber, linkEdges, blockEdges, suffixNumber, nodeEdges, suffixEdges, Linkable, LinksDone}
+use Rattle.split_suffix.specs.Split.{MarksLow, BlockReady, BlockDone, SplitEdgesReady, SplitEdgesDone}
 
 -- ---- new edges behind the old ones
 
@@ -97,13 +97,13 @@ links-one {s = s} {f = f} L t a = rw (t, a) (link-one L s f)
 
 -- ---- one predecessor
 
-entry-low : (prefix : Bool) (y : ℕ) → (y ≤ entry prefix y) × (entry prefix y ≤ y + 1)
+entry-low : (prefix : Bool) (y : ℕ) → (y ≤ entryNumber prefix y) × (entryNumber prefix y ≤ y + 1)
 entry-low true y = (omega arith, omega arith)
 entry-low false y = (omega arith, omega arith)
 
--- the links end at the bottom or at the suffix vertex, so none enters the entry, and all ends are new or the bottom
+-- the links end at the bottom or at the suffix vertex, so none enters the entryNumber, and all ends are new or the bottom
 links-to : (prefix : Bool) (y bottom : ℕ) (d e : Edge) → bottom < y → List·Memᴰ e (linkEdges prefix y bottom d)
-    → (e .from < entry prefix y + 1) × (e .to < entry prefix y + 1) × (e .to ≡ entry prefix y → ⊥)
+    → (e .from < entryNumber prefix y + 1) × (e .to < entryNumber prefix y + 1) × (e .to ≡ entryNumber prefix y → ⊥)
 links-to true y bottom d e h m = ⊎-elim
     (λ (i : e ≡ record { from = y + 1; to = y; support = 1; isRef = d .isRef }). (
       omega (arith, ap (λ (x : Edge). x .from) i),
@@ -153,14 +153,14 @@ module _ {prefix : Bool} {y bottom m n : ℕ} {es heads nexts : List ℕ} {v k :
   links = linkEdges prefix y bottom out
 
   both-is : addOrUpdateEdges (blockEdges y bottom prefix heads m es v) (edgesIn k es)
-      ≡ addOrUpdateEdges (redirectedAll 1 (entry prefix y) m es v) (addOrUpdateEdges links (edgesIn k es))
-  both-is = raiseAll-append links (redirectedAll 1 (entry prefix y) m es v) (edgesIn k es)
+      ≡ addOrUpdateEdges (redirectedAll 1 (entryNumber prefix y) m es v) (addOrUpdateEdges links (edgesIn k es))
+  both-is = raiseAll-append links (redirectedAll 1 (entryNumber prefix y) m es v) (edgesIn k es)
 
   pub block-link : Linkable y bottom k es
   block-link = record { ends = B .ends; below = omega (arith, B .bottom-below, B .new); room = omega (arith, more, B .roomy .room); small = B .small }
     where
       all : length (addOrUpdateEdges links (edgesIn k es)) ≤ length (addOrUpdateEdges (blockEdges y bottom prefix heads m es v) (edgesIn k es))
-      all = omega (arith, ap length both-is, raiseAll-longer (redirectedAll 1 (entry prefix y) m es v) (addOrUpdateEdges links (edgesIn k es)))
+      all = omega (arith, ap length both-is, raiseAll-longer (redirectedAll 1 (entryNumber prefix y) m es v) (addOrUpdateEdges links (edgesIn k es)))
 
       one : 4 * k + 4 ≤ length es
       one = omega (arith, all, B .roomy .room, raiseAll-longer links (edgesIn k es), length-tab k (edgeIn es))
@@ -184,29 +184,29 @@ module _ {prefix : Bool} {y bottom m n : ℕ} {es heads nexts : List ℕ} {v k :
     old₁ : (i : ℕ) → i < m → edgeIn es₁ i ≡ edgeIn es i
     old₁ i b = D .old i (omega (arith, B .behind))
 
-    last-is : addOrUpdateEdges (redirectedAll 1 (entry prefix y) m es₁ v) (edgesIn j es₁)
+    last-is : addOrUpdateEdges (redirectedAll 1 (entryNumber prefix y) m es₁ v) (edgesIn j es₁)
         ≡ addOrUpdateEdges (blockEdges y bottom prefix heads m es v) (edgesIn k es)
-    last-is = (λ i. addOrUpdateEdges (all-same m es es₁ old₁ 1 (entry prefix y) v (omega arith) i) (links-are i)) ∙ sym both-is
+    last-is = (λ i. addOrUpdateEdges (all-same m es es₁ old₁ 1 (entryNumber prefix y) v (omega arith) i) (links-are i)) ∙ sym both-is
 
-    not-entry : (i : ℕ) → i < j → endOf 1 es₁ i ≡ entry prefix y → ⊥
-    not-entry i b q = raiseAll-ends (λ x z. z ≡ entry prefix y → ⊥) links (edgesIn k es)
+    not-entry : (i : ℕ) → i < j → edgeEnd 1 es₁ i ≡ entryNumber prefix y → ⊥
+    not-entry i b q = raiseAll-ends (λ x z. z ≡ entryNumber prefix y → ⊥) links (edgesIn k es)
         (λ e o r. omega (arith, r, (ends-mem (B .ends) e o) .1, (entry-low prefix y) .0))
         (λ e o. (links-to prefix y bottom out e (omega (arith, B .bottom-below, B .new)) o) .2)
         (edgeIn es₁ i) (rw links-are at (mem-tab j (edgeIn es₁) i b)) q
 
-    pub block-redirectable : {into : ℕ} → into ≡ entry prefix y → length es₁ ≡ length es → Redirectable 1 into n j m j es₁ heads nexts mp v
+    pub block-redirectable : {into : ℕ} → into ≡ entryNumber prefix y → length es₁ ≡ length es → Redirectable 1 into n j m j es₁ heads nexts mp v
     block-redirectable e l = rw e (record {
       off-low = omega arith;
       below = B .below;
       new = omega (arith, B .new, (entry-low prefix y) .0);
       behind = omega (arith, B .behind, longer);
       indexed = indexed-same m es es₁ old₁ l (B .indexed);
-      marks = marks-start 1 (entry prefix y) n j es₁ mp (omega arith) (B .marks .room) (λ x b. omega (arith, B .marks .most x b, longer)) not-entry;
+      marks = marks-start 1 (entryNumber prefix y) n j es₁ mp (omega arith) (B .marks .room) (λ x b. omega (arith, B .marks .most x b, longer)) not-entry;
       room = omega (arith, ap length last-is, B .roomy .room, l);
       small = omega (arith, ap length last-is, B .roomy .small);
     })
 
-    pub block-done : {into r : ℕ} {es₂ mp₂ : List ℕ} → into ≡ entry prefix y → Redirected 1 into n j m j es₁ v r es₂ mp₂
+    pub block-done : {into r : ℕ} {es₂ mp₂ : List ℕ} → into ≡ entryNumber prefix y → Redirected 1 into n j m j es₁ v r es₂ mp₂
         → BlockDone prefix y bottom m n es heads v k r es₂ mp₂
     block-done e D₁ = let R = rw e at D₁ in record {
       is = R .is ∙ last-is;
@@ -216,24 +216,24 @@ module _ {prefix : Bool} {y bottom m n : ℕ} {es heads nexts : List ℕ} {v k :
 
 -- ---- all predecessors
 
-pub number-more : (vs nodes : List ℕ) (s n i : ℕ) → numberOf vs nodes s n (i + 1) ≡ entry (hasPrefix vs s (getD nodes i 0)) (numberOf vs nodes s n i) + 1
-unfolding numberOf
-number-more vs nodes s n i = ap (numberOf vs nodes s n) (add-one i)
+pub number-more : (vs nodes : List ℕ) (s n i : ℕ) → suffixNumber vs nodes s n (i + 1) ≡ entryNumber (hasPrefix vs s (getD nodes i 0)) (suffixNumber vs nodes s n i) + 1
+unfolding suffixNumber
+number-more vs nodes s n i = ap (suffixNumber vs nodes s n) (add-one i)
 
-pub number-low : (vs nodes : List ℕ) (s n i : ℕ) → n ≤ numberOf vs nodes s n i
-unfolding numberOf
+pub number-low : (vs nodes : List ℕ) (s n i : ℕ) → n ≤ suffixNumber vs nodes s n i
+unfolding suffixNumber
 number-low vs nodes s n zero = omega arith
-number-low vs nodes s n (suc i) = omega (arith, number-low vs nodes s n i, (entry-low (hasPrefix vs s (getD nodes i 0)) (numberOf vs nodes s n i)) .0)
+number-low vs nodes s n (suc i) = omega (arith, number-low vs nodes s n i, (entry-low (hasPrefix vs s (getD nodes i 0)) (suffixNumber vs nodes s n i)) .0)
 
-number-up : (vs nodes : List ℕ) (s n i d : ℕ) → numberOf vs nodes s n i ≤ numberOf vs nodes s n (i + d)
-unfolding numberOf
+number-up : (vs nodes : List ℕ) (s n i d : ℕ) → suffixNumber vs nodes s n i ≤ suffixNumber vs nodes s n (i + d)
+unfolding suffixNumber
 number-up vs nodes s n i zero = rw (add-zero i) (omega arith)
 number-up vs nodes s n i (suc d) =
     let q : i + suc d ≡ suc (i + d) = omega arith in
-    rw q (omega (arith, number-up vs nodes s n i d, (entry-low (hasPrefix vs s (getD nodes (i + d) 0)) (numberOf vs nodes s n (i + d))) .0))
+    rw q (omega (arith, number-up vs nodes s n i d, (entry-low (hasPrefix vs s (getD nodes (i + d) 0)) (suffixNumber vs nodes s n (i + d))) .0))
 
-pub number-most : (vs nodes : List ℕ) (s n i c : ℕ) → i ≤ c → numberOf vs nodes s n i ≤ numberOf vs nodes s n c
-number-most vs nodes s n i c h = let q : i + (c - i) ≡ c = omega arith in omega (arith, number-up vs nodes s n i (c - i), ap (numberOf vs nodes s n) q)
+pub number-most : (vs nodes : List ℕ) (s n i c : ℕ) → i ≤ c → suffixNumber vs nodes s n i ≤ suffixNumber vs nodes s n c
+number-most vs nodes s n i c h = let q : i + (c - i) ≡ c = omega arith in omega (arith, number-up vs nodes s n i (c - i), ap (suffixNumber vs nodes s n) q)
 
 -- fewer lists of new edges make no more edges
 lists-most : (f : ℕ → List Edge) (i d : ℕ) (l : List Edge)
@@ -248,25 +248,25 @@ lists-most f i d l =
       raiseAll-longer r (addOrUpdateEdges (concat (tab i f)) l),
     )
 
-pub record Adding (m n s : ℕ) (es₀ mp₀ heads vs nodes : List ℕ) (c bottom y k : ℕ) (es mp : List ℕ) (i : ℕ) : Type 0 where
+pub record AddingEdges (m n s : ℕ) (es₀ mp₀ heads vs nodes : List ℕ) (c bottom y k : ℕ) (es mp : List ℕ) (i : ℕ) : Type 0 where
   pub high : i ≤ c
   pub len : length es ≡ length es₀
   pub mp-len : length mp ≡ length mp₀
-  pub number : y ≡ numberOf vs nodes s n i
-  pub is : edgesIn k es ≡ addOrUpdateEdges (newEdges heads m n s es₀ vs nodes bottom i) (edgesIn m es₀)
+  pub number : y ≡ suffixNumber vs nodes s n i
+  pub is : edgesIn k es ≡ addOrUpdateEdges (suffixEdges heads m n s es₀ vs nodes bottom i) (edgesIn m es₀)
   pub old : (j : ℕ) → j < m → edgeIn es j ≡ edgeIn es₀ j
   pub ends : EndsBelow y k es
   pub marks : MarksLow n k mp
 
-module _ {m n s : ℕ} {es₀ heads nexts vs nodes : List ℕ} {c bottom : ℕ} {mp₀ : List ℕ} (F : EdgesReady m n s es₀ heads nexts vs nodes c bottom mp₀) where
+module _ {m n s : ℕ} {es₀ heads nexts vs nodes : List ℕ} {c bottom : ℕ} {mp₀ : List ℕ} (F : SplitEdgesReady m n s es₀ heads nexts vs nodes c bottom mp₀) where
   abbrev listOf : ℕ → List Edge
-  listOf = edgesOf heads m n s es₀ vs nodes bottom
+  listOf = nodeEdges heads m n s es₀ vs nodes bottom
 
   pub first-small : n < 4294967296
   first-small = omega (arith, F .small, number-low vs nodes s n c)
 
-  pub adding-start : {mp : List ℕ} → length mp ≡ length mp₀ → ((x : ℕ) → x < n → getD mp x 0 ≡ 0) → Adding m n s es₀ mp heads vs nodes c bottom n m es₀ mp 0
-  unfolding numberOf concat
+  pub adding-start : {mp : List ℕ} → length mp ≡ length mp₀ → ((x : ℕ) → x < n → getD mp x 0 ≡ 0) → AddingEdges m n s es₀ mp heads vs nodes c bottom n m es₀ mp 0
+  unfolding suffixNumber concat
   adding-start {mp} l z = record {
     high = omega arith;
     len = refl;
@@ -278,14 +278,14 @@ module _ {m n s : ℕ} {es₀ heads nexts vs nodes : List ℕ} {c bottom : ℕ} 
     marks = record { room = omega (arith, l, F .mp-room); most = λ x b. omega (arith, z x b) };
   }
 
-  module _ {mp₁ : List ℕ} {y k : ℕ} {es mp : List ℕ} {i : ℕ} (A : Adding m n s es₀ mp₁ heads vs nodes c bottom y k es mp i) where
+  module _ {mp₁ : List ℕ} {y k : ℕ} {es mp : List ℕ} {i : ℕ} (A : AddingEdges m n s es₀ mp₁ heads vs nodes c bottom y k es mp i) where
     grown : m ≤ k
     grown = omega (
       arith,
       ap length (A .is),
       length-tab k (edgeIn es),
       length-tab m (edgeIn es₀),
-      raiseAll-longer (newEdges heads m n s es₀ vs nodes bottom i) (edgesIn m es₀),
+      raiseAll-longer (suffixEdges heads m n s es₀ vs nodes bottom i) (edgesIn m es₀),
     )
 
     module _ (h : i < c) {prefix : Bool} (q : prefix ≡ hasPrefix vs s (getD nodes i 0)) where
@@ -294,18 +294,18 @@ module _ {m n s : ℕ} {es₀ heads nexts vs nodes : List ℕ} {c bottom : ℕ} 
 
       block-is : blockEdges y bottom prefix heads m es v ≡ listOf i
       block-is =
-          (λ j. linkEdges prefix y bottom (A .old (getD heads (2 * v) 0) (F .outs i h) j) ++ all-same m es₀ es (A .old) 1 (entry prefix y) v (omega arith) j)
+          (λ j. linkEdges prefix y bottom (A .old (getD heads (2 * v) 0) (F .outs i h) j) ++ all-same m es₀ es (A .old) 1 (entryNumber prefix y) v (omega arith) j)
           ∙ (λ j. blockEdges (A .number j) bottom (q j) heads m es₀ v)
 
       next-is : addOrUpdateEdges (blockEdges y bottom prefix heads m es v) (edgesIn k es)
-          ≡ addOrUpdateEdges (newEdges heads m n s es₀ vs nodes bottom (i + 1)) (edgesIn m es₀)
+          ≡ addOrUpdateEdges (suffixEdges heads m n s es₀ vs nodes bottom (i + 1)) (edgesIn m es₀)
       next-is =
           (λ j. addOrUpdateEdges (block-is j) (A .is j))
           ∙ sym (raiseAll-append (concat (tab i listOf)) (listOf i) (edgesIn m es₀))
           ∙ ap (λ (x : List Edge). addOrUpdateEdges x (edgesIn m es₀)) (sym (ap concat (tab-snoc i listOf) ∙ concat-snoc (tab i listOf) (listOf i)))
 
       next-most : length (addOrUpdateEdges (blockEdges y bottom prefix heads m es v) (edgesIn k es)) ≤ length
-          (addOrUpdateEdges (newEdges heads m n s es₀ vs nodes bottom c) (edgesIn m es₀))
+          (addOrUpdateEdges (suffixEdges heads m n s es₀ vs nodes bottom c) (edgesIn m es₀))
       next-most =
           let z : i + 1 + (c - (i + 1)) ≡ c = omega arith in
           omega (
@@ -315,10 +315,10 @@ module _ {m n s : ℕ} {es₀ heads nexts vs nodes : List ℕ} {c bottom : ℕ} 
             ap (λ (x : ℕ). length (addOrUpdateEdges (concat (tab x listOf)) (edgesIn m es₀))) z,
           )
 
-      number-is : entry prefix y + 1 ≡ numberOf vs nodes s n (i + 1)
-      number-is = (λ j. entry (q j) (A .number j) + 1) ∙ sym (number-more vs nodes s n i)
+      number-is : entryNumber prefix y + 1 ≡ suffixNumber vs nodes s n (i + 1)
+      number-is = (λ j. entryNumber (q j) (A .number j) + 1) ∙ sym (number-more vs nodes s n i)
 
-      pub next-small : entry prefix y + 1 < 4294967296
+      pub next-small : entryNumber prefix y + 1 < 4294967296
       next-small = omega (arith, number-is, number-most vs nodes s n (i + 1) c (omega arith), F .small)
 
       pub adding-block : BlockReady prefix y bottom m n es heads nexts v k mp
@@ -336,7 +336,7 @@ module _ {m n s : ℕ} {es₀ heads nexts vs nodes : List ℕ} {c bottom : ℕ} 
       }
 
       pub adding-more : {k′ : ℕ} {es′ mp′ : List ℕ} → BlockDone prefix y bottom m n es heads v k k′ es′ mp′ → length es′ ≡ length es → length mp′ ≡ length mp
-          → Adding m n s es₀ mp₁ heads vs nodes c bottom (entry prefix y + 1) k′ es′ mp′ (i + 1)
+          → AddingEdges m n s es₀ mp₁ heads vs nodes c bottom (entryNumber prefix y + 1) k′ es′ mp′ (i + 1)
       adding-more {k′} {es′} {mp′} D a b = record {
         high = omega arith;
         len = a ∙ A .len;
@@ -344,27 +344,27 @@ module _ {m n s : ℕ} {es₀ heads nexts vs nodes : List ℕ} {c bottom : ℕ} 
         number = number-is;
         is = D .is ∙ next-is;
         old = λ j d. D .old j d ∙ A .old j d;
-        ends = mem-ends (entry prefix y + 1) k′ es′ (λ e o. raiseAll-ends (λ x z. (x < entry prefix y + 1) × (z < entry prefix y + 1))
+        ends = mem-ends (entryNumber prefix y + 1) k′ es′ (λ e o. raiseAll-ends (λ x z. (x < entryNumber prefix y + 1) × (z < entryNumber prefix y + 1))
             (blockEdges y bottom prefix heads m es v) (edgesIn k es) old-ends new-ends e (rw (D .is) at o));
         marks = D .marks;
       }
         where
-          old-ends : (e : Edge) → List·Memᴰ e (edgesIn k es) → (e .from < entry prefix y + 1) × (e .to < entry prefix y + 1)
+          old-ends : (e : Edge) → List·Memᴰ e (edgesIn k es) → (e .from < entryNumber prefix y + 1) × (e .to < entryNumber prefix y + 1)
           old-ends e o = let z = ends-mem (A .ends) e o in (omega (arith, z .0, (entry-low prefix y) .0), omega (arith, z .1, (entry-low prefix y) .0))
 
-          new-ends : (e : Edge) → List·Memᴰ e (blockEdges y bottom prefix heads m es v) → (e .from < entry prefix y + 1) × (e .to < entry prefix y + 1)
+          new-ends : (e : Edge) → List·Memᴰ e (blockEdges y bottom prefix heads m es v) → (e .from < entryNumber prefix y + 1) × (e .to < entryNumber prefix y + 1)
           new-ends e o = ⊎-elim
               (λ l. let z = links-to prefix y bottom (edgeIn es (getD heads (2 * v) 0)) e
               (omega (arith, F .bottom-below, A .number, number-low vs nodes s n i)) l in (z .0, z .1))
-              (λ l. let z = into-ends (indexed-same m es₀ es (A .old) (A .len) (F .indexed) .ends) (entry prefix y) v e l in
+              (λ l. let z = into-ends (indexed-same m es₀ es (A .old) (A .len) (F .indexed) .ends) (entryNumber prefix y) v e l in
               (omega (arith, z .0, (entry-low prefix y) .0, A .number, number-low vs nodes s n i), omega (arith, z .1)))
               (List·Memᴰ·append-cases (linkEdges prefix y bottom (edgeIn es (getD heads (2 * v) 0))) o)
 
-    pub adding-end : c ≤ i → EdgesDone m n s es₀ heads vs nodes c bottom k es
+    pub adding-end : c ≤ i → SplitEdgesDone m n s es₀ heads vs nodes c bottom k es
     adding-end h = let z : i ≡ c = omega (arith, A .high) in
-        record { is = A .is ∙ ap (λ (x : ℕ). addOrUpdateEdges (newEdges heads m n s es₀ vs nodes bottom x) (edgesIn m es₀)) z }
+        record { is = A .is ∙ ap (λ (x : ℕ). addOrUpdateEdges (suffixEdges heads m n s es₀ vs nodes bottom x) (edgesIn m es₀)) z }
 
 -- the number that the code counts on
 pub entries : {m n s : ℕ} {es₀ mp₀ heads vs nodes : List ℕ} {c bottom y x k : ℕ} {es mp : List ℕ} {i : ℕ} → x ≡ y
-    → Adding m n s es₀ mp₀ heads vs nodes c bottom (y + 1) k es mp i → Adding m n s es₀ mp₀ heads vs nodes c bottom (x + 1) k es mp i
+    → AddingEdges m n s es₀ mp₀ heads vs nodes c bottom (y + 1) k es mp i → AddingEdges m n s es₀ mp₀ heads vs nodes c bottom (x + 1) k es mp i
 entries q A = rw q A

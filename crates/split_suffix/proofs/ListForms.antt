@@ -21,7 +21,7 @@ use Rattle.compact.specs.Compact.{Below}
 use Rattle.index.specs.Index.{Indexed}
 use Rattle.index.proofs.IndexLaws.{from-is, at-first, pair-first}
 use Rattle.redirect.proofs.SameLaws.{into-all}
-use Rattle.split_suffix.specs.Split.{hasPrefix, entry, blockEdges, numberOf, edgesOf, newEdges, newSeqs, newVerts}
+use Rattle.split_suffix.specs.Split.{hasPrefix, entryNumber, blockEdges, suffixNumber, nodeEdges, suffixEdges, newSeqs, suffixVerts}
 
 -- ---- one predecessor more
 
@@ -84,7 +84,7 @@ module _ (k n m s from : ℕ) (es vs p heads nexts nodes : List ℕ) (c bottom :
       (λ e t. rw (t, e) (ap (λ (l : List ℕ). l ∷ []) (sym suffix-is)))
       (λ x xs e t. rw (t, e) (λ i. sym suffix-is i ∷ (sym (rest-is v b) ∙ e) i ∷ []))
 
-  count-is : (v : ℕ) → v < n → s ≤ size v → (y : ℕ) → entry (hasPrefix vs s v) y + 1 ≡ length (suffixAndPrefix suffix (withoutSuffix g (length suffix) v)) + y
+  count-is : (v : ℕ) → v < n → s ≤ size v → (y : ℕ) → entryNumber (hasPrefix vs s v) y + 1 ≡ length (suffixAndPrefix suffix (withoutSuffix g (length suffix) v)) + y
   unfolding suffixAndPrefix
   count-is v b h y = cases v b h (λ e t. rw (t, e) (omega arith)) (λ x xs e t. rw (t, e) (omega arith))
 
@@ -103,16 +103,16 @@ module _ (k n m s from : ℕ) (es vs p heads nexts nodes : List ℕ) (c bottom :
       ∷ newEdge y bottom (sym (out-is v b o) i) ∷ (into-all (y + 1) k n m es vs p v
       ∙ ap (λ (z : ℕ). map (redirectedTo z) (edgesInto g v)) (add-one y)) i))
 
-  pub number-are : (i : ℕ) → i ≤ c → numberOf vs nodes s n i ≡ length (splitVertices g suffix (numsIn i nodes)) + n
-  unfolding numberOf splitVertices
+  pub number-are : (i : ℕ) → i ≤ c → suffixNumber vs nodes s n i ≡ length (splitVertices g suffix (numsIn i nodes)) + n
+  unfolding suffixNumber splitVertices
   number-are zero h = sym (zero-add n) ∙ ap (λ (l : List ℕ). length (splitVertices g suffix l) + n) (sym (tab-zero (λ (j : ℕ). getD nodes j 0)))
   number-are (suc i) h = step (number-are i (omega arith))
     where
-      step : numberOf vs nodes s n i ≡ length (splitVertices g suffix (numsIn i nodes)) + n → numberOf vs nodes s n (suc i)
+      step : suffixNumber vs nodes s n i ≡ length (splitVertices g suffix (numsIn i nodes)) + n → suffixNumber vs nodes s n (suc i)
           ≡ length (splitVertices g suffix (numsIn (suc i) nodes)) + n
       step ih =
           let v = getD nodes i 0 in
-          count-is v (B .at i (omega arith)) (all i (omega arith)) (numberOf vs nodes s n i)
+          count-is v (B .at i (omega arith)) (all i (omega arith)) (suffixNumber vs nodes s n i)
           ∙ omega (
             arith,
             ih,
@@ -121,7 +121,7 @@ module _ (k n m s from : ℕ) (es vs p heads nexts nodes : List ℕ) (c bottom :
             ap (λ (l : List ℕ). length (splitVertices g suffix l)) (ap (λ (x : ℕ). numsIn x nodes) (sym (add-one i)) ∙ tab-snoc i (λ (j : ℕ). getD nodes j 0)),
           )
 
-  pub verts-are : (i : ℕ) → i ≤ c → newVerts vs p nodes from s i ≡ splitVertices g suffix (numsIn i nodes)
+  pub verts-are : (i : ℕ) → i ≤ c → suffixVerts vs p nodes from s i ≡ splitVertices g suffix (numsIn i nodes)
   unfolding splitVertices concat
   verts-are zero h = ap concat (tab-zero (λ (j : ℕ). newSeqs vs p from s (getD nodes j 0)))
       ∙ ap (splitVertices g suffix) (sym (tab-zero (λ (j : ℕ). getD nodes j 0)))
@@ -130,28 +130,28 @@ module _ (k n m s from : ℕ) (es vs p heads nexts nodes : List ℕ) (c bottom :
       f : ℕ → List (List ℕ)
       f j = newSeqs vs p from s (getD nodes j 0)
 
-      step : newVerts vs p nodes from s i ≡ splitVertices g suffix (numsIn i nodes) → newVerts vs p nodes from s (suc i)
+      step : suffixVerts vs p nodes from s i ≡ splitVertices g suffix (numsIn i nodes) → suffixVerts vs p nodes from s (suc i)
           ≡ splitVertices g suffix (numsIn (suc i) nodes)
       step ih =
-          ap (λ (x : ℕ). newVerts vs p nodes from s x) (sym (add-one i)) ∙ ap concat (tab-snoc i f) ∙ concat-snoc (tab i f) (f i)
+          ap (λ (x : ℕ). suffixVerts vs p nodes from s x) (sym (add-one i)) ∙ ap concat (tab-snoc i f) ∙ concat-snoc (tab i f) (f i)
           ∙ (λ j. ih j ++ seqs-are (getD nodes i 0) (B .at i (omega arith)) (all i (omega arith)) j)
           ∙ sym (verts-snoc g bottom suffix (numsIn i nodes) (getD nodes i 0))
           ∙ ap (splitVertices g suffix) (sym (ap (λ (x : ℕ). numsIn x nodes) (sym (add-one i)) ∙ tab-snoc i (λ (j : ℕ). getD nodes j 0)))
 
-  pub edges-are : (i : ℕ) → i ≤ c → newEdges heads m n s es vs nodes bottom i ≡ splitEdges g bottom suffix n (numsIn i nodes)
+  pub edges-are : (i : ℕ) → i ≤ c → suffixEdges heads m n s es vs nodes bottom i ≡ splitEdges g bottom suffix n (numsIn i nodes)
   unfolding splitEdges concat
-  edges-are zero h = ap concat (tab-zero (edgesOf heads m n s es vs nodes bottom))
+  edges-are zero h = ap concat (tab-zero (nodeEdges heads m n s es vs nodes bottom))
       ∙ ap (splitEdges g bottom suffix n) (sym (tab-zero (λ (j : ℕ). getD nodes j 0)))
   edges-are (suc i) h = step (edges-are i (omega arith))
     where
       f : ℕ → List Edge
-      f = edgesOf heads m n s es vs nodes bottom
+      f = nodeEdges heads m n s es vs nodes bottom
 
-      step : newEdges heads m n s es vs nodes bottom i ≡ splitEdges g bottom suffix n (numsIn i nodes)
-          → newEdges heads m n s es vs nodes bottom (suc i) ≡ splitEdges g bottom suffix n (numsIn (suc i) nodes)
+      step : suffixEdges heads m n s es vs nodes bottom i ≡ splitEdges g bottom suffix n (numsIn i nodes)
+          → suffixEdges heads m n s es vs nodes bottom (suc i) ≡ splitEdges g bottom suffix n (numsIn (suc i) nodes)
       step ih =
-          ap (λ (x : ℕ). newEdges heads m n s es vs nodes bottom x) (sym (add-one i)) ∙ ap concat (tab-snoc i f) ∙ concat-snoc (tab i f) (f i)
+          ap (λ (x : ℕ). suffixEdges heads m n s es vs nodes bottom x) (sym (add-one i)) ∙ ap concat (tab-snoc i f) ∙ concat-snoc (tab i f) (f i)
           ∙ (λ j. ih j ++ (block-are (getD nodes i 0) (B .at i (omega arith)) (all i (omega arith)) (outs i (omega arith))
-          (numberOf vs nodes s n i) ∙ ap (λ (y : ℕ). block g bottom suffix y (getD nodes i 0)) (number-are i (omega arith))) j)
+          (suffixNumber vs nodes s n i) ∙ ap (λ (y : ℕ). block g bottom suffix y (getD nodes i 0)) (number-are i (omega arith))) j)
           ∙ sym (edges-snoc g bottom suffix (numsIn i nodes) n (getD nodes i 0))
           ∙ ap (splitEdges g bottom suffix n) (sym (ap (λ (x : ℕ). numsIn x nodes) (sym (add-one i)) ∙ tab-snoc i (λ (j : ℕ). getD nodes j 0)))

@@ -24,18 +24,18 @@ use Rattle.store.specs.Store.{part, edgeIn, edgesIn, seqsIn, graphIn, numsIn}
 use Rattle.compact.specs.Compact.{Compactable, Below, Removed}
 use Rattle.compact.specs.declared.Counts.{Counts}
 use Rattle.compact.proofs.CompactLaws.{order-in, mem-ends}
-use Rattle.index.specs.Index.{endOf, edgesAt, Indexed, Collected}
+use Rattle.index.specs.Index.{edgeEnd, incidentEdges, Indexed, Collected}
 use Rattle.index.proofs.IndexLaws.{at-none, pair-first}
 use Rattle.memory.specs.Memory.{graphOf, vertexRoom, edgeRoom, Room, Fit, Holds}
 use Rattle.memory.specs.declared.Held.{Held}
 use Rattle.memory.proofs.RoomLaws.{fit-vertices, fit-edges, fit-tame, held-vertices, held-pool}
 use Rattle.shared.specs.Shared.{startAt, lenAt, Suffix}
 use Rattle.merge_suffices.proofs.TryLaws.{prevs-are, prevs-below}
-use Rattle.split_tests.specs.SplitTests.{Testable, suffixOf, Before, suffixBy, Splits}
+use Rattle.split_tests.specs.SplitTests.{SplitTestable, suffixOf, BeforeBottom, suffixBy, Splits}
 use Rattle.split_tests.specs.declared.OptionSuffix.{OptionSuffix}
 use Rattle.split_tests.specs.declared.OptionSuffix.the-variants.{Some, None}
 use Rattle.split_tests.proofs.TestLaws as T
-use Rattle.split_suffix.specs.Split.{numberOf, newEdges, newVerts, EdgesReady, EdgesDone, VertsReady, VertsDone, Ending, SplitTried}
+use Rattle.split_suffix.specs.Split.{suffixNumber, suffixEdges, suffixVerts, SplitEdgesReady, SplitEdgesDone, VertsReady, VertsDone, Ending, SplitTried}
 use Rattle.split_suffix.proofs.EdgeLoops.{number-low}
 use Rattle.split_suffix.proofs.ListForms as F
 
@@ -65,11 +65,11 @@ module _ {h : Held} {es vs p heads nexts nodes mp : List ℕ} (R : Room es vs p 
   order : nodeCount g ≡ h .n
   order = order-in (h .k .0) (h .n) (h .m) es vs p
 
-  pub split-testable : Testable (h .n) (h .m) es vs p heads nexts prevs c
+  pub split-testable : SplitTestable (h .n) (h .m) es vs p heads nexts prevs c
   split-testable = record { indexed = I; vs-room = omega (arith, held-vertices H, R .vs-room); pool = held-pool H R; below = below }
 
   -- in a graph without cycles
-  before : Before g bottom (numsIn c prevs)
+  before : BeforeBottom g bottom (numsIn c prevs)
   before = record {
     other = λ v m e. omega (arith, up v m, ap (good .0 .rank) e);
     not-behind = λ v m. byTest (elemOf v (outgoingNodes g bottom)) (λ t.
@@ -161,27 +161,27 @@ module _ {h : Held} {es vs p heads nexts nodes mp : List ℕ} (R : Room es vs p 
       outs i b = byOrder (h .m) (getD heads (2 * getD prevs i 0) 0)
           (λ a. absurd (omega (
             arith,
-            eqb-true (length (edgesAt (endOf 0 es) (h .m) (getD prevs i 0))) 1 (S .by s found .single i b),
+            eqb-true (length (incidentEdges (edgeEnd 0 es) (h .m) (getD prevs i 0))) 1 (S .by s found .single i b),
             ap length (at-none (I .index 0 (omega arith)) (below .at i b) (getD heads (2 * getD prevs i 0) 0)
                 (pair-first heads (getD prevs i 0)) a),
           )))
           (λ a. a)
 
-      verts-are : newVerts vs p prevs start s c ≡ change .verts
+      verts-are : suffixVerts vs p prevs start s c ≡ change .verts
       verts-are = F.verts-are (h .k .0) (h .n) (h .m) s start es vs p heads nexts prevs c bottom suffix I (held-pool H R) below suffix-is
           suffix-long all outs c (omega arith) ∙ ap (splitVertices g suffix) are
 
-      edges-are : newEdges heads (h .m) (h .n) s es vs prevs bottom c ≡ change .edges
+      edges-are : suffixEdges heads (h .m) (h .n) s es vs prevs bottom c ≡ change .edges
       edges-are = F.edges-are (h .k .0) (h .n) (h .m) s start es vs p heads nexts prevs c bottom suffix I (held-pool H R) below suffix-is
           suffix-long all outs c (omega arith)
           ∙ (λ i. splitEdges g bottom suffix (sym order i) (are i))
 
-      number-is : numberOf vs prevs s (h .n) c ≡ nodeCount (withAdditions change g)
+      number-is : suffixNumber vs prevs s (h .n) c ≡ nodeCount (withAdditions change g)
       number-is = F.number-are (h .k .0) (h .n) (h .m) s start es vs p heads nexts prevs c bottom suffix I (held-pool H R) below suffix-is
           suffix-long all outs c (omega arith)
           ∙ omega (arith, order-grown g change, order, ap (λ (l : List ℕ). length (splitVertices g suffix l)) are)
 
-      edges-with : addOrUpdateEdges (newEdges heads (h .m) (h .n) s es vs prevs bottom c) (edgesIn (h .m) es) ≡ (withAdditions change g) .edges
+      edges-with : addOrUpdateEdges (suffixEdges heads (h .m) (h .n) s es vs prevs bottom c) (edgesIn (h .m) es) ≡ (withAdditions change g) .edges
       edges-with = ap (λ (x : List Edge). addOrUpdateEdges x (edgesIn (h .m) es)) edges-are ∙ unfold withAdditions in refl
 
       pub split-ending : Ending vs (getD prevs 0 0) s
@@ -194,7 +194,7 @@ module _ {h : Held} {es vs p heads nexts nodes mp : List ℕ} (R : Room es vs p 
       pub first-room : 0 < length prevs
       first-room = omega (arith, two, below .room)
 
-      pub split-edges-ready : bottom < h .n → EdgesReady (h .m) (h .n) s es heads nexts vs prevs c bottom mp
+      pub split-edges-ready : bottom < h .n → SplitEdgesReady (h .m) (h .n) s es heads nexts vs prevs c bottom mp
       split-edges-ready b = record {
         indexed = I;
         vs-room = omega (arith, held-vertices H, R .vs-room);
@@ -214,7 +214,7 @@ module _ {h : Held} {es vs p heads nexts nodes mp : List ℕ} (R : Room es vs p 
         s-small = omega (arith, split-ending .long, split-ending .small);
       }
 
-      module _ {k j from : ℕ} {es₁ vs₁ : List ℕ} (E : EdgesDone (h .m) (h .n) s es heads vs prevs c bottom k es₁) (V₁ :
+      module _ {k j from : ℕ} {es₁ vs₁ : List ℕ} (E : SplitEdgesDone (h .m) (h .n) s es heads vs prevs c bottom k es₁) (V₁ :
           VertsDone (h .n) vs prevs c from s j vs₁) (qf : from ≡ start) where
         j-is : j ≡ nodeCount (withAdditions change g)
         j-is = V₁ .count ∙ number-is
@@ -244,7 +244,7 @@ module _ {h : Held} {es vs p heads nexts nodes mp : List ℕ} (R : Room es vs p 
           removed-is = D .is (h .k .0) p ∙ (λ i. removeVerticesById (are i) record { k = h .k .0; verts = verts-with i; edges = (E .is ∙ edges-with) i })
             where
               verts-with : seqsIn j vs₁ p ≡ g .verts ++ change .verts
-              verts-with = V₁ .is p ∙ ap (λ (x : ℕ). seqsIn (h .n) vs p ++ newVerts vs p prevs x s c) qf ∙ ap (λ (x : List (List ℕ)). g .verts ++ x) verts-are
+              verts-with = V₁ .is p ∙ ap (λ (x : ℕ). seqsIn (h .n) vs p ++ suffixVerts vs p prevs x s c) qf ∙ ap (λ (x : List (List ℕ)). g .verts ++ x) verts-are
 
           pub left-done : SplitTried h es vs p heads nexts bottom record {
             done = true;

@@ -13,7 +13,7 @@ use Rattle.tabs.proofs.Tabs.{tab-snoc, tab-zero, tab-ext}
 use Rattle.tabs.proofs.SumTabs.{concat-snoc}
 use Rattle.store.specs.Store.{part, seqIn, seqsIn, Within, putVertex}
 use Rattle.store.proofs.VertexLaws.{length-put-vertex, put-start, put-len, put-before}
-use Rattle.split_suffix.specs.Split.{hasPrefix, entry, numberOf, newSeqs, newVerts, Cuttable, CutDone, VertsReady, VertsDone}
+use Rattle.split_suffix.specs.Split.{hasPrefix, entryNumber, suffixNumber, newSeqs, suffixVerts, Cuttable, CutDone, VertsReady, VertsDone}
 use Rattle.split_suffix.proofs.EdgeLoops.{number-low, number-most, number-more}
 
 -- ---- a vertex behind the k that are there
@@ -44,13 +44,13 @@ module _ {k : ℕ} {vs : List ℕ} {s v : ℕ} (C : Cuttable k vs s v) where
   pub cut-room : 2 * k + 2 ≤ length vs
   cut-room = less (hasPrefix vs s v) (C .room)
     where
-      less : (t : Bool) → 2 * (entry t k + 1) ≤ length vs → 2 * k + 2 ≤ length vs
+      less : (t : Bool) → 2 * (entryNumber t k + 1) ≤ length vs → 2 * k + 2 ≤ length vs
       less true h = omega arith
       less false h = omega arith
 
   pub cut-one : (from : ℕ) → size ≤ s → CutDone k vs from s v (k + 1) (putVertex vs k from s)
   cut-one from h = let t : hasPrefix vs s v ≡ false = le-ltb s size h in record {
-    count = ap (λ (x : Bool). entry x k + 1) (sym t);
+    count = ap (λ (x : Bool). entryNumber x k + 1) (sym t);
     is = λ p. push-vertex vs k from s cut-room p ∙ ap (λ (x : Bool). seqsIn k vs p
         ++ cond x (part p from s ∷ part p start (size - s) ∷ []) (part p from s ∷ [])) (sym t);
     same = put-before vs k from s;
@@ -62,14 +62,14 @@ module _ {k : ℕ} {vs : List ℕ} {s v : ℕ} (C : Cuttable k vs s v) where
     long = lt-ltb s size h
 
     room-two : 2 * k + 4 ≤ length vs
-    room-two = omega (arith, C .room, ap (λ (x : Bool). entry x k) long)
+    room-two = omega (arith, C .room, ap (λ (x : Bool). entryNumber x k) long)
 
     pub cut-room-two : (from : ℕ) → 2 * (k + 1) + 2 ≤ length (putVertex vs k from s)
     cut-room-two from = rw (length-put-vertex vs k from s) (omega (arith, room-two))
 
     pub cut-two : (from : ℕ) → CutDone k vs from s v (k + 2) (putVertex (putVertex vs k from s) (k + 1) start (size - s))
     cut-two from = record {
-      count = two ∙ ap (λ (x : Bool). entry x k + 1) (sym long);
+      count = two ∙ ap (λ (x : Bool). entryNumber x k + 1) (sym long);
       is = λ p. ap (λ (x : ℕ). seqsIn x vs₂ p) two ∙ push-vertex vs₁ (k + 1) start (size - s) (cut-room-two from) p
           ∙ ap (λ (l : List (List ℕ)). l ++ (part p start (size - s) ∷ [])) (push-vertex vs k from s cut-room p)
           ∙ append-assoc (seqsIn k vs p) (part p from s ∷ []) (part p start (size - s) ∷ [])
@@ -106,14 +106,14 @@ module _ {k : ℕ} {vs : List ℕ} {s v : ℕ} (C : Cuttable k vs s v) {from len
 pub record Stacking (n : ℕ) (vs₀ nodes : List ℕ) (c from s k : ℕ) (vs : List ℕ) (i : ℕ) : Type 0 where
   pub high : i ≤ c
   pub len : length vs ≡ length vs₀
-  pub number : k ≡ numberOf vs₀ nodes s n i
-  pub is : (p : List ℕ) → seqsIn k vs p ≡ seqsIn n vs₀ p ++ newVerts vs₀ p nodes from s i
+  pub number : k ≡ suffixNumber vs₀ nodes s n i
+  pub is : (p : List ℕ) → seqsIn k vs p ≡ seqsIn n vs₀ p ++ suffixVerts vs₀ p nodes from s i
   pub same : (j : ℕ) → j < 2 * n → getD vs j 0 ≡ getD vs₀ j 0
   pub within : (used : ℕ) → Within used n vs₀ → from + s ≤ used → Within used k vs
 
 module _ {n : ℕ} {vs₀ nodes : List ℕ} {c s : ℕ} (F : VertsReady n vs₀ nodes c s) where
   pub stacking-start : {from : ℕ} → Stacking n vs₀ nodes c from s n vs₀ 0
-  unfolding numberOf concat
+  unfolding suffixNumber concat
   stacking-start {from} = record {
     high = omega arith;
     len = refl;
@@ -138,8 +138,8 @@ module _ {n : ℕ} {vs₀ nodes : List ℕ} {c s : ℕ} (F : VertsReady n vs₀ 
       start-same : getD vs (2 * v) 0 ≡ getD vs₀ (2 * v) 0
       start-same = S .same (2 * v) (omega (arith, v-below))
 
-      number-is : entry (hasPrefix vs s v) k + 1 ≡ numberOf vs₀ nodes s n (i + 1)
-      number-is = (λ j. entry (ltb s (size-same j)) (S .number j) + 1) ∙ sym (number-more vs₀ nodes s n i)
+      number-is : entryNumber (hasPrefix vs s v) k + 1 ≡ suffixNumber vs₀ nodes s n (i + 1)
+      number-is = (λ j. entryNumber (ltb s (size-same j)) (S .number j) + 1) ∙ sym (number-more vs₀ nodes s n i)
 
       pub stacking-cut : Cuttable k vs s v
       stacking-cut = record {
@@ -155,7 +155,7 @@ module _ {n : ℕ} {vs₀ nodes : List ℕ} {c s : ℕ} (F : VertsReady n vs₀ 
         len = a ∙ S .len;
         number = D .count ∙ number-is;
         is = λ p. D .is p ∙ (λ j. S .is p j ++ cond (ltb s (size-same j)) (part p from s ∷ part p (start-same j) (size-same j - s) ∷ []) (part p from s ∷ []))
-            ∙ append-assoc (seqsIn n vs₀ p) (newVerts vs₀ p nodes from s i) (newSeqs vs₀ p from s v)
+            ∙ append-assoc (seqsIn n vs₀ p) (suffixVerts vs₀ p nodes from s i) (newSeqs vs₀ p from s v)
             ∙ ap (λ (x : List (List ℕ)). seqsIn n vs₀ p ++ x) (sym
             (ap concat (tab-snoc i (λ (j : ℕ). newSeqs vs₀ p from s (getD nodes j 0)))
             ∙ concat-snoc (tab i (λ (j : ℕ). newSeqs vs₀ p from s (getD nodes j 0))) (newSeqs vs₀ p from s v)));
@@ -165,7 +165,7 @@ module _ {n : ℕ} {vs₀ nodes : List ℕ} {c s : ℕ} (F : VertsReady n vs₀ 
 
     pub stacking-end : c ≤ i → VertsDone n vs₀ nodes c from s k vs
     stacking-end h = let q : i ≡ c = omega (arith, S .high) in record {
-      count = S .number ∙ ap (numberOf vs₀ nodes s n) q;
-      is = λ p. S .is p ∙ ap (λ (x : ℕ). seqsIn n vs₀ p ++ newVerts vs₀ p nodes from s x) q;
+      count = S .number ∙ ap (suffixNumber vs₀ nodes s n) q;
+      is = λ p. S .is p ∙ ap (λ (x : ℕ). seqsIn n vs₀ p ++ suffixVerts vs₀ p nodes from s x) q;
       within = S .within;
     }

@@ -4,7 +4,8 @@ ghost use Prim.Native.Nat.{_+_, _*_, _-_, _<_};
 ghost use lib.ListN.{getD};
 ghost use Rattle.index.specs.Index.{Indexed};
 ghost use Rattle.memory.specs.Memory.{Room, Holds};
-ghost use Rattle.split_suffix.specs.Split.{entry, Linkable, LinksDone, BlockReady, BlockDone, EdgesReady, EdgesDone, Cuttable, CutDone, VertsReady, VertsDone, Ending, SplitTried};
+ghost use Rattle.split_suffix.specs.Split.{entryNumber, Linkable, LinksDone, BlockReady, BlockDone, SplitEdgesReady, SplitEdgesDone};
+ghost use Rattle.split_suffix.specs.Split.{Cuttable, CutDone, VertsReady, VertsDone, Ending, SplitTried};
 use memory::Held;
 use memory::Tried;
 use split_tests::OptionSuffix;
@@ -12,7 +13,7 @@ use split_tests::OptionSuffix;
 // The vertex that takes over the edges into a predecessor, where y is its suffix vertex.
 fn entry_of(prefix: bool, y: u32) -> u32
     requires { ⌜ y + 1 < 4294967296 ⌝ }
-    ensures { λ r. ⌜ r ≡ entry prefix y ⌝ }
+    ensures { λ r. ⌜ r ≡ entryNumber prefix y ⌝ }
 {
     if prefix { y + 1 } else { y }
 }
@@ -71,8 +72,8 @@ fn add_edges(
     bottom: u32,
     map: &mut [u32],
 ) -> usize
-    requires { ⌜ EdgesReady m n s (now es) (now heads) (now nexts) (now vs) (now nodes) c bottom (now map) ⌝ }
-    ensures { λ r. ⌜ EdgesDone m n s (now (es .entry)) (now (heads .entry)) (now (vs .entry)) (now (nodes .entry)) c bottom r (now (es .exit)) ⌝ }
+    requires { ⌜ SplitEdgesReady m n s (now es) (now heads) (now nexts) (now vs) (now nodes) c bottom (now map) ⌝ }
+    ensures { λ r. ⌜ SplitEdgesDone m n s (now (es .entry)) (now (heads .entry)) (now (vs .entry)) (now (nodes .entry)) c bottom r (now (es .exit)) ⌝ }
 {
     compact::fill(map, n, 0);
     let mut y = n as u32;

@@ -24,7 +24,7 @@ use Rattle.index.proofs.IndexLaws.{out-degree-is}
 use Rattle.refs.specs.Refs.{RefSource}
 use Rattle.shared.specs.Shared.{Parts, startAt, lenAt, seqsAt, Suffix}
 use Rattle.diamond.proofs.TestLaws.{allOf-no}
-use Rattle.split_tests.specs.SplitTests.{oneOut, isLong, Testable, Eliminates, suffixOf, Before, SplitBy, Splits}
+use Rattle.split_tests.specs.SplitTests.{oneOut, isLong, SplitTestable, Eliminates, suffixOf, BeforeBottom, SplitBy, Splits}
 use Rattle.split_tests.specs.declared.OptionSuffix.the-variants.{Some, None}
 
 -- ---- the first reference source
@@ -57,11 +57,11 @@ module _ (g : Graph) (s : ℕ) where
       ∙ none-from (suc a) n f (λ j b. rw (suc-add, ← add-suc) (o (suc j) (omega arith)))
 
 -- no reference source among the first i
-pub record Seeking (n m : ℕ) (es nodes : List ℕ) (c i : ℕ) : Type 0 where
+pub record SeekingSource (n m : ℕ) (es nodes : List ℕ) (c i : ℕ) : Type 0 where
   pub high : i ≤ c
   pub none : (j : ℕ) → j < i → RefSource m n es (getD nodes j 0) false
 
-module _ {n m : ℕ} {es nodes : List ℕ} {c i : ℕ} (S : Seeking n m es nodes c i) where
+module _ {n m : ℕ} {es nodes : List ℕ} {c i : ℕ} (S : SeekingSource n m es nodes c i) where
   pub seeking-found : {vs : List ℕ} {s x : ℕ} {t : Bool} → Below nodes c n → i < c → RefSource m n es (getD nodes i 0) t → t ≡ true → x
       ≡ getD vs (2 * getD nodes i 0 + 1) 0 → Eliminates n m es vs nodes c s (eqb x s)
   seeking-found {vs} {s} {x} B h r t q = record {
@@ -104,7 +104,7 @@ all-weaker p q (x ∷ l) h t = byTest (p x)
     (λ u. rw (u, allOf) (all-weaker p q l h (rw (h x u, allOf) at t)))
     (λ u. rw (u, allOf))
 
-module _ {n m : ℕ} {es vs p heads nexts nodes : List ℕ} {c : ℕ} (T : Testable n m es vs p heads nexts nodes c) where
+module _ {n m : ℕ} {es vs p heads nexts nodes : List ℕ} {c : ℕ} (T : SplitTestable n m es vs p heads nexts nodes c) where
   pub parts : 2 ≤ c → Parts n vs p nodes c
   parts h = record { vs-room = T .vs-room; within = T .pool; room = T .below .room; below = T .below .at; some = omega arith }
 
@@ -187,7 +187,7 @@ module _ {n m : ℕ} {es vs p heads nexts nodes : List ℕ} {c : ℕ} (T : Testa
         unfolding isSplit
         just t = and-no-right several (and-no-right alone (and-no-right shares (and-no-right stays (ap not (all-long-is ∙ t)))))
 
-        passes : Before g bottom prevs → allOf (oneOut m es) prevs ≡ true → 0 < s → e ≡ false → allOf (isLong vs s) prevs ≡ false
+        passes : BeforeBottom g bottom prevs → allOf (oneOut m es) prevs ≡ true → 0 < s → e ≡ false → allOf (isLong vs s) prevs ≡ false
             → isSplit g bottom prevs (suffixOf g prevs) ≡ true
         unfolding isSplit
         passes B o z t l =

@@ -11,21 +11,21 @@ use Rattle.defs.specs.SeqGraph.{Graph, vertexSequence, outgoingNodes}
 use Rattle.defs.specs.Rewrites.{isSplit, wouldEliminateRefSource}
 use Rattle.store.specs.Store.{graphIn, numsIn, Within}
 use Rattle.compact.specs.Compact.{Below}
-use Rattle.index.specs.Index.{endOf, edgesAt, Indexed}
+use Rattle.index.specs.Index.{edgeEnd, incidentEdges, Indexed}
 use Rattle.shared.specs.Shared.{Suffix}
 use Rattle.split_tests.specs.declared.OptionSuffix.{OptionSuffix}
 use Rattle.split_tests.specs.declared.OptionSuffix.the-variants.{Some, None}
 
 -- v has one follower
 abbrev pub oneOut : ℕ → List ℕ → ℕ → Bool
-oneOut m es v = eqb (length (edgesAt (endOf 0 es) m v)) 1
+oneOut m es v = eqb (length (incidentEdges (edgeEnd 0 es) m v)) 1
 
 -- v's sequence has s bytes
 abbrev pub isLong : List ℕ → ℕ → ℕ → Bool
 isLong vs s v = eqb (getD vs (2 * v + 1) 0) s
 
 -- the first c of the nodes are indexed vertices with sequences in the pool
-pub record Testable (n m : ℕ) (es vs p heads nexts nodes : List ℕ) (c : ℕ) : Type 0 where
+pub record SplitTestable (n m : ℕ) (es vs p heads nexts nodes : List ℕ) (c : ℕ) : Type 0 where
   pub indexed : Indexed m n es heads nexts
   pub vs-room : 2 * n ≤ length vs
   pub pool : Within (length p) n vs
@@ -40,7 +40,7 @@ abbrev pub suffixOf : Graph → List ℕ → List ℕ
 suffixOf g l = commonSuffix (map (vertexSequence g) l)
 
 -- the vertices are others than the bottom and do not follow it: so it is in a graph without cycles
-pub record Before (g : Graph) (bottom : ℕ) (l : List ℕ) : Type 0 where
+pub record BeforeBottom (g : Graph) (bottom : ℕ) (l : List ℕ) : Type 0 where
   pub other : (v : ℕ) → List·Memᴰ v l → v ≡ bottom → ⊥
   pub not-behind : (v : ℕ) → List·Memᴰ v l → elemOf v (outgoingNodes g bottom) ≡ false
 
@@ -57,7 +57,7 @@ pub record SplitBy (m : ℕ) (es vs p nodes : List ℕ) (c s : ℕ) : Type 0 whe
 
 -- the answer is the definition's, whatever k and the bottom that the nodes stand before
 pub record Splits (n m : ℕ) (es vs p nodes : List ℕ) (c : ℕ) (r : OptionSuffix) : Type 0 where
-  pub is : (k bottom : ℕ) → Before (graphIn k n m es vs p) bottom (numsIn c nodes)
+  pub is : (k bottom : ℕ) → BeforeBottom (graphIn k n m es vs p) bottom (numsIn c nodes)
       → suffixBy r ≡ given (isSplit (graphIn k n m es vs p) bottom (numsIn c nodes) (suffixOf (graphIn k n m es vs p) (numsIn c nodes)))
       (length (suffixOf (graphIn k n m es vs p) (numsIn c nodes)))
   pub by : (s : ℕ) → r ≡ Some s → SplitBy m es vs p nodes c s

@@ -6,7 +6,7 @@ ghost use Rattle.defs.specs.Lists.{allOf};
 ghost use Rattle.store.specs.Store.{numsIn};
 ghost use Rattle.compact.specs.Compact.{Below};
 ghost use Rattle.index.specs.Index.{Indexed};
-ghost use Rattle.split_tests.specs.SplitTests.{oneOut, isLong, Testable, Eliminates, Splits};
+ghost use Rattle.split_tests.specs.SplitTests.{oneOut, isLong, SplitTestable, Eliminates, Splits};
 
 // The suffix that the predecessors of a vertex are split by, as its length, or none.
 pub enum OptionSuffix {
@@ -91,7 +91,7 @@ pub fn safe_to_split(
     nodes: &[u32],
     c: usize,
 ) -> OptionSuffix
-    requires { ⌜ Testable n m (now es) (now vs) (now p) (now heads) (now nexts) (now nodes) c ⌝ }
+    requires { ⌜ SplitTestable n m (now es) (now vs) (now p) (now heads) (now nexts) (now nodes) c ⌝ }
     ensures { λ r. ⌜ Splits n m (now (es .entry)) (now (vs .entry)) (now (p .entry)) (now (nodes .entry)) c r ⌝ }
 {
     if c < 2 {

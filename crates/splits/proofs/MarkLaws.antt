@@ -1,4 +1,4 @@
--- Marks that follow their vertices. Assumes nothing.
+-- TriedMarks that follow their vertices. Assumes nothing.
 use mathlib.Core.Path.{_≡_, refl, sym, ap, _∙_, subst}
 use mathlib.Core.Bool.{Bool, true, false, not}
 use mathlib.Core.List.{List, [], _∷_, map}
@@ -16,11 +16,11 @@ use Rattle.laws.proofs.Walks.{byTest}
 use Rattle.laws.proofs.ListLaws.{clash, byOrder, rank-yes, rank-no, rank-mono, rank-lt, rank-inj, keepIf-yes, keepIf-no}
 use Rattle.tabs.proofs.Ranks.{rank-same}
 use Rattle.store.specs.Store.{isSet, keptBy, Numbered}
-use Rattle.splits.specs.Splits.{Marks, Movable, MarksMoved, Cleared}
+use Rattle.splits.specs.Splits.{TriedMarks, Movable, MarksMoved, Cleared}
 
 -- ---- moving
 
-pub record Moving (l₀ : List ℕ) (n : ℕ) (mp l : List ℕ) (j v : ℕ) : Type 0 where
+pub record MovingMarks (l₀ : List ℕ) (n : ℕ) (mp l : List ℕ) (j v : ℕ) : Type 0 where
   pub high : v ≤ n
   pub low : j ≤ v
   pub len : length l ≡ length l₀
@@ -29,12 +29,12 @@ pub record Moving (l₀ : List ℕ) (n : ℕ) (mp l : List ℕ) (j v : ℕ) : Ty
   pub rest : (u : ℕ) → v ≤ u → getD l u 0 ≡ getD l₀ u 0
 
 module _ {l₀ : List ℕ} {n : ℕ} {mp : List ℕ} where
-  pub moving-start : Moving l₀ n mp l₀ 0 0
+  pub moving-start : MovingMarks l₀ n mp l₀ 0 0
   unfolding rank
   moving-start = record { high = omega arith; low = omega arith; len = refl; count = refl; at = λ u h. absurd (omega arith); rest = λ u h. refl }
 
-  module _ {l : List ℕ} {j v : ℕ} (M : Moving l₀ n mp l j v) (h : v < n) where
-    pub moving-yes : n ≤ length l₀ → keptBy mp v ≡ true → Moving l₀ n mp (set l j (getD l v 0)) (j + 1) (v + 1)
+  module _ {l : List ℕ} {j v : ℕ} (M : MovingMarks l₀ n mp l j v) (h : v < n) where
+    pub moving-yes : n ≤ length l₀ → keptBy mp v ≡ true → MovingMarks l₀ n mp (set l j (getD l v 0)) (j + 1) (v + 1)
     moving-yes r t = record {
       high = omega arith;
       low = omega (arith, M .low);
@@ -47,7 +47,7 @@ module _ {l₀ : List ℕ} {n : ℕ} {mp : List ℕ} where
       rest = λ u b. getD-set-other l j u _ 0 (λ z. omega (arith, M .low)) ∙ M .rest u (omega arith);
     }
 
-    pub moving-no : keptBy mp v ≡ false → Moving l₀ n mp l j (v + 1)
+    pub moving-no : keptBy mp v ≡ false → MovingMarks l₀ n mp l j (v + 1)
     moving-no t = record {
       high = omega arith;
       low = omega (arith, M .low);
@@ -57,7 +57,7 @@ module _ {l₀ : List ℕ} {n : ℕ} {mp : List ℕ} where
       rest = λ u b. M .rest u (omega arith);
     }
 
-  pub moving-end : {l : List ℕ} {j v : ℕ} → Moving l₀ n mp l j v → n ≤ v → MarksMoved l₀ n mp j l
+  pub moving-end : {l : List ℕ} {j v : ℕ} → MovingMarks l₀ n mp l j v → n ≤ v → MarksMoved l₀ n mp j l
   moving-end {l} {j} {v} M h = let q : v ≡ n = omega (arith, M .high) in
       record { count = M .count ∙ ap (rank (keptBy mp)) q; at = λ u b. M .at u (omega arith) }
 
@@ -165,7 +165,7 @@ place p (suc n) u h = byTest (p n)
 -- moved and cleared, the marks are those of the list under its new numbers
 pub marks-after : (n n′ j : ℕ) (mp gone l l₁ l₂ : List ℕ) → ((v : ℕ) → v < n → keptBy mp v ≡ keeps gone v) → MarksMoved l n mp j l₁
     → Cleared l₁ j n′ l₂ → j ≤ n′
-    → (list : List ℕ) → Marks n l list → Marks n′ l₂ (remapNumbers gone list)
+    → (list : List ℕ) → TriedMarks n l list → TriedMarks n′ l₂ (remapNumbers gone list)
 unfolding remapNumbers
 marks-after n n′ j mp gone l l₁ l₂ K M C hj list S = record { at = at; below = below }
   where

@@ -33,7 +33,7 @@ use Rattle.memory.specs.declared.Tried.{Tried}
 use Rattle.memory.specs.declared.Work.{Work}
 use Rattle.memory.proofs.RoomLaws.{held-vertices, held-edges, held-ends, room-kept, holds-kept}
 use Rattle.split_suffix.specs.Split.{SplitTried}
-use Rattle.splits.specs.Splits.{Marks, MarksMoved, Cleared, Remarked, Found, SplitFirst, SplitAll}
+use Rattle.splits.specs.Splits.{TriedMarks, MarksMoved, Cleared, Remarked, SplitFound, SplitFirst, SplitAll}
 use Rattle.splits.proofs.MarkLaws.{marks-after}
 
 -- ---- one split
@@ -79,7 +79,7 @@ module _ {h : Held} {es vs p heads nexts : List ℕ} {v : ℕ} {r : Tried} {es�
 -- ---- the first split
 
 -- the marks with one more
-more-marks : {n : ℕ} {l list : List ℕ} (u : ℕ) → u < n → n ≤ length l → Marks n l list → Marks n (set l u 1) (u ∷ list)
+more-marks : {n : ℕ} {l list : List ℕ} (u : ℕ) → u < n → n ≤ length l → TriedMarks n l list → TriedMarks n (set l u 1) (u ∷ list)
 unfolding elemOf
 more-marks {n} {l} {list} u h r K = record {
   at = λ v b. byTest (eqb v u)
@@ -93,9 +93,9 @@ more-marks {n} {l} {list} u h r K = record {
     same-place : (v : ℕ) → v ≡ u → getD (set l u 1) v 0 ≡ 1
     same-place v q = rw q (getD-set-same l u 1 0 (omega arith))
 
-pub record Reached (g : Graph) (n : ℕ) (list tried : List ℕ) (v : ℕ) : Type 0 where
+pub record SplitsReached (g : Graph) (n : ℕ) (list tried : List ℕ) (v : ℕ) : Type 0 where
   pub now : List ℕ
-  pub marks : Marks n tried now
+  pub marks : TriedMarks n tried now
   pub is : firstSplit g now v (n - v) ≡ firstSplit g list 0 n
 
 pub record Splitting (h : Held) (es₀ vs₀ p nodes₀ mp₀ tried₀ es vs nodes mp tried : List ℕ) (v : ℕ) : Type 0 where
@@ -105,7 +105,7 @@ pub record Splitting (h : Held) (es₀ vs₀ p nodes₀ mp₀ tried₀ es vs nod
   pub nodes-len : length nodes ≡ length nodes₀
   pub mp-len : length mp ≡ length mp₀
   pub tried-len : length tried ≡ length tried₀
-  pub reached : (list : List ℕ) → Marks (h .n) tried₀ list → Reached (graphOf h es₀ vs₀ p) (h .n) list tried v
+  pub reached : (list : List ℕ) → TriedMarks (h .n) tried₀ list → SplitsReached (graphOf h es₀ vs₀ p) (h .n) list tried v
 
 module _ {h : Held} {es₀ vs₀ p nodes₀ mp₀ tried₀ : List ℕ} where
   pub splitting-start : Splitting h es₀ vs₀ p nodes₀ mp₀ tried₀ es₀ vs₀ nodes₀ mp₀ tried₀ 0
@@ -152,10 +152,10 @@ module _ {h : Held} {es₀ vs₀ p nodes₀ mp₀ tried₀ : List ℕ} where
       left = subst (λ (x : Option Graph). Left x h es vs p heads nexts r es′ vs′ p) (λ j.
           trySplitCommonSuffix (graphOf h (S .same-es j) (S .same-vs j) p) v) (R .left)
 
-      not-in : (list : List ℕ) → Marks (h .n) tried list → elemOf v list ≡ false
+      not-in : (list : List ℕ) → TriedMarks (h .n) tried list → elemOf v list ≡ false
       not-in list K = sym (K .at v b) ∙ set-not o
 
-      marked : (list : List ℕ) → Marks (h .n) tried list → Marks (h .n) (set tried v 1) (v ∷ list)
+      marked : (list : List ℕ) → TriedMarks (h .n) tried list → TriedMarks (h .n) (set tried v 1) (v ∷ list)
       marked list K = more-marks v b (omega (arith, S .tried-len)) K
 
       pub splitting-none : {nodes′ mp′ : List ℕ} → r .done ≡ false → length nodes′ ≡ length nodes → length mp′ ≡ length mp
@@ -187,7 +187,7 @@ module _ {h : Held} {es₀ vs₀ p nodes₀ mp₀ tried₀ : List ℕ} where
           is = sym (z .is) ∙ ap (firstSplit (graphOf h es₀ vs₀ p) (z .now) v) (one-less (h .n) v b)
               ∙ firstSplit-some (graphOf h es₀ vs₀ p) (z .now) v (h .n - (v + 1)) (graphOf (r .held) es′ vs′ p) (not-in (z .now) (z .marks))
               (left .yes t);
-          at = subst (λ (x : Graph). Marks (r .held .n) tried′ (remapNumbers (incomingNodes x v) (v ∷ z .now))) (λ j.
+          at = subst (λ (x : Graph). TriedMarks (r .held .n) tried′ (remapNumbers (incomingNodes x v) (v ∷ z .now))) (λ j.
               graphOf h (S .same-es j) (S .same-vs j) p) (R .marks t (v ∷ z .now) (marked (z .now) (z .marks)));
         };
         holds = λ s. left .holds s;
@@ -209,23 +209,23 @@ module _ {h : Held} {es₀ vs₀ p nodes₀ mp₀ tried₀ : List ℕ} where
 
 -- ---- all splits
 
-pub none-marked : (n : ℕ) (l : List ℕ) → ((i : ℕ) → 0 ≤ i → i < n → getD l i 0 ≡ 0) → Marks n l []
+pub none-marked : (n : ℕ) (l : List ℕ) → ((i : ℕ) → 0 ≤ i → i < n → getD l i 0 ≡ 0) → TriedMarks n l []
 unfolding elemOf
 none-marked n l h = record { at = λ v b. ap isSet (h v (omega arith) b); below = λ v e. clash e refl }
 
-pub record Doing (w₀ : Work) (es₀ vs₀ p heads₀ : List ℕ) (w : Work) (es vs heads nexts nodes mp tried : List ℕ) : Type 0 where
+pub record SplittingRound (w₀ : Work) (es₀ vs₀ p heads₀ : List ℕ) (w : Work) (es vs heads nexts nodes mp tried : List ℕ) : Type 0 where
   pub ready : Ready 4 (w .held) es vs p heads nexts nodes mp
   pub heads-len : length heads ≡ length heads₀
   pub list : List ℕ
-  pub marks : Marks (w .held .n) tried list
+  pub marks : TriedMarks (w .held .n) tried list
   pub fuel : ℕ
   pub enough : weight (graphOf (w .held) es vs p) < fuel + w .held .n
   pub is : splitUntilComplete fuel list (workOf w es vs p) ≡ splitUntilComplete (fuelFor (graphOf (w₀ .held) es₀ vs₀ p)) [] (workOf w₀ es₀ vs₀ p)
   pub count : w .rewrites + w₀ .held .n ≤ w₀ .rewrites + w .held .n
 
 module _ {w₀ : Work} {es₀ vs₀ p heads₀ : List ℕ} where
-  pub doing-start : {nexts nodes mp tried : List ℕ} → Ready 4 (w₀ .held) es₀ vs₀ p heads₀ nexts nodes mp → Marks (w₀ .held .n) tried []
-      → Doing w₀ es₀ vs₀ p heads₀ w₀ es₀ vs₀ heads₀ nexts nodes mp tried
+  pub doing-start : {nexts nodes mp tried : List ℕ} → Ready 4 (w₀ .held) es₀ vs₀ p heads₀ nexts nodes mp → TriedMarks (w₀ .held .n) tried []
+      → SplittingRound w₀ es₀ vs₀ p heads₀ w₀ es₀ vs₀ heads₀ nexts nodes mp tried
   doing-start R K = record {
     ready = R;
     heads-len = refl;
@@ -237,7 +237,7 @@ module _ {w₀ : Work} {es₀ vs₀ p heads₀ : List ℕ} where
     count = omega arith;
   }
 
-  module _ {w : Work} {es vs heads nexts nodes mp tried : List ℕ} (D : Doing w₀ es₀ vs₀ p heads₀ w es vs heads nexts nodes mp tried)
+  module _ {w : Work} {es vs heads nexts nodes mp tried : List ℕ} (D : SplittingRound w₀ es₀ vs₀ p heads₀ w es vs heads nexts nodes mp tried)
       {r : Tried} {es′ vs′ tried′ : List ℕ} (S : SplitFirst (w .held) es vs p heads nexts tried r es′ vs′ tried′) where
     abbrev G : Graph
     G = graphOf (w .held) es vs p
@@ -263,7 +263,7 @@ module _ {w₀ : Work} {es₀ vs₀ p heads₀ : List ℕ} where
         stop (suc fuel) h = splitAll-none fuel (D .list) (workOf w es vs p) (ap (firstSplit G (D .list) 0) order-is ∙ S .no t (D .list) (D .marks))
 
     module _ (t : r .done ≡ true) where
-      found : Found (firstSplit G (D .list) 0 (w .held .n)) (graphOf (r .held) es′ vs′ p) (r .held .n) tried′
+      found : SplitFound (firstSplit G (D .list) 0 (w .held .n)) (graphOf (r .held) es′ vs′ p) (r .held .n) tried′
       found = S .yes t (D .list) (D .marks)
 
       step : Tame G (graphOf (r .held) es′ vs′ p) × (w .held .n < r .held .n)
@@ -290,12 +290,12 @@ module _ {w₀ : Work} {es₀ vs₀ p heads₀ : List ℕ} where
       pub doing-more : {heads′ nexts′ nodes′ mp′ : List ℕ} → Indexed (r .held .m) (r .held .n) es′ heads′ nexts′ → length es′ ≡ length es
           → length vs′ ≡ length vs
           → length heads′ ≡ length heads → length nexts′ ≡ length nexts → length nodes′ ≡ length nodes → length mp′ ≡ length mp
-          → Doing w₀ es₀ vs₀ p heads₀ record { held = r .held; rewrites = w .rewrites + 1 } es′ vs′ heads′ nexts′ nodes′ mp′ tried′
+          → SplittingRound w₀ es₀ vs₀ p heads₀ record { held = r .held; rewrites = w .rewrites + 1 } es′ vs′ heads′ nexts′ nodes′ mp′ tried′
       doing-more {heads′} {nexts′} {nodes′} {mp′} I a b d e f i = go (D .fuel) (D .enough) (D .is)
         where
           go : (fuel : ℕ) → weight G < fuel + w .held .n → splitUntilComplete fuel (D .list) (workOf w es vs p)
               ≡ splitUntilComplete (fuelFor (graphOf (w₀ .held) es₀ vs₀ p)) [] (workOf w₀ es₀ vs₀ p)
-              → Doing w₀ es₀ vs₀ p heads₀ record { held = r .held; rewrites = w .rewrites + 1 } es′ vs′ heads′ nexts′ nodes′ mp′ tried′
+              → SplittingRound w₀ es₀ vs₀ p heads₀ record { held = r .held; rewrites = w .rewrites + 1 } es′ vs′ heads′ nexts′ nodes′ mp′ tried′
           go zero h q = absurd (omega (arith, order-weight G, order-is))
           go (suc fuel) h q = record {
             ready = record {

@@ -1,4 +1,4 @@
--- Marks of tried vertices, and what splitting leaves. Assumes nothing.
+-- TriedMarks of tried vertices, and what splitting leaves. Assumes nothing.
 use mathlib.Core.Path.{_≡_}
 use mathlib.Core.Bool.{Bool, true, false}
 use mathlib.Core.Option.{Option, none, some}
@@ -16,7 +16,7 @@ use Rattle.memory.specs.declared.Tried.{Tried}
 use Rattle.memory.specs.declared.Work.{Work}
 
 -- the marks of n vertices say which are in the list, and the list has no other vertex
-pub record Marks (n : ℕ) (l list : List ℕ) : Type 0 where
+pub record TriedMarks (n : ℕ) (l list : List ℕ) : Type 0 where
   pub at : (v : ℕ) → v < n → isSet (getD l v 0) ≡ elemOf v list
   pub below : (v : ℕ) → elemOf v list ≡ true → v < n
 
@@ -37,22 +37,22 @@ pub record Cleared (l : List ℕ) (from to : ℕ) (l′ : List ℕ) : Type 0 whe
 pub record Remarked (h : Held) (es vs p heads nexts tried : List ℕ) (v : ℕ) (r : Tried) (es′ vs′ tried′ : List ℕ) : Type 0 where
   pub left : Left (trySplitCommonSuffix (graphOf h es vs p) v) h es vs p heads nexts r es′ vs′ p
   pub same : r .done ≡ false → tried′ ≡ tried
-  pub marks : r .done ≡ true → (list : List ℕ) → Marks (h .n) tried list → Marks (r .held .n) tried′ (remapNumbers (incomingNodes (graphOf h es vs p) v) list)
+  pub marks : r .done ≡ true → (list : List ℕ) → TriedMarks (h .n) tried list → TriedMarks (r .held .n) tried′ (remapNumbers (incomingNodes (graphOf h es vs p) v) list)
 
 -- a split that was found: its graph, and the marks of its list
-pub record Found (o : Option Split) (g : Graph) (n : ℕ) (marks : List ℕ) : Type 0 where
+pub record SplitFound (o : Option Split) (g : Graph) (n : ℕ) (marks : List ℕ) : Type 0 where
   pub list : List ℕ
   pub is : o ≡ some record { graph = g; tried = list }
-  pub at : Marks n marks list
+  pub at : TriedMarks n marks list
 
 -- the first split: none, and every vertex marked; or the graph then held and the marks of the vertices tried
 pub record SplitFirst (h : Held) (es vs p heads nexts tried : List ℕ) (r : Tried) (es′ vs′ tried′ : List ℕ) : Type 0 where
   pub same : r .done ≡ false → r .held ≡ h
   pub same-es : r .done ≡ false → es′ ≡ es
   pub same-vs : r .done ≡ false → vs′ ≡ vs
-  pub no : r .done ≡ false → (list : List ℕ) → Marks (h .n) tried list → firstSplit (graphOf h es vs p) list 0 (h .n) ≡ none
-  pub yes : r .done ≡ true → (list : List ℕ) → Marks (h .n) tried list
-      → Found (firstSplit (graphOf h es vs p) list 0 (h .n)) (graphOf (r .held) es′ vs′ p) (r .held .n) tried′
+  pub no : r .done ≡ false → (list : List ℕ) → TriedMarks (h .n) tried list → firstSplit (graphOf h es vs p) list 0 (h .n) ≡ none
+  pub yes : r .done ≡ true → (list : List ℕ) → TriedMarks (h .n) tried list
+      → SplitFound (firstSplit (graphOf h es vs p) list 0 (h .n)) (graphOf (r .held) es′ vs′ p) (r .held .n) tried′
   pub holds : r .done ≡ true → Holds (r .held) es′ vs′ p heads nexts
 
 -- all splits of a round, from the vertices of `list` tried

@@ -6,7 +6,7 @@ use mathlib.Core.List.{List, [], _∷_}
 use Prim.Native.Nat.{ℕ, suc, _+_, _*_, _≤_, _<_}
 use lib.ListN.{length, getD, set, take, drop}
 use lib.Dec.{eqb}
-use Rattle.defs.specs.Lists.{tab, rank}
+use Rattle.defs.specs.Lists.{tab, rank, sum}
 use Rattle.tabs.specs.First.{firstIx}
 use Rattle.defs.specs.SeqGraph.{Edge, Graph, hasEnds}
 
@@ -56,6 +56,10 @@ graphIn k n m es vs p = record { k = k; verts = seqsIn n vs p; edges = edgesIn m
 -- c numbers in a slice
 abbrev pub numsIn : ℕ → List ℕ → List ℕ
 numsIn c l = tab c (λ (i : ℕ). getD l i 0)
+
+-- the lengths of the first c of the nodes together
+abbrev pub nodesLength : List ℕ → List ℕ → ℕ → ℕ
+nodesLength vs nodes c = sum (tab c (λ (i : ℕ). getD vs (2 * getD nodes i 0 + 1) 0))
 
 -- both ends of each of the m edges are below n
 pub record EndsBelow (n m : ℕ) (es : List ℕ) : Type 0 where

@@ -25,7 +25,7 @@ use Rattle.calls.specs.declared.Tally.{Tally}
 use Rattle.calls.specs.declared.Answer.{Answer}
 use Rattle.calls.proofs.ResponseLaws.{fits-enough}
 use Rattle.string_calls.specs.TellsBytes.{TellsBytes}
-use Rattle.reading_calls.specs.Reading.{responseOf, pathResponse}
+use Rattle.reading_calls.specs.Reading.{readingResponse, pathResponse}
 use Rattle.reading_calls.specs.declared.ReadingCall.the-variants.{ReferencePathBytes, PathBasesBytes}
 use Rattle.reading_calls.proofs.LengthLaws.{path-most, reference-most}
 use Rattle.reading_calls.proofs.BytesLaws.{reference-refused, reference-none, reference-some, path-refused, path-none, path-some}
@@ -68,12 +68,12 @@ unfolding D.answer
 tells-bytes e S h = record { answer = e; written = S .written; room = λ l i. h l (sym (ap (λ (r : D.Answer). r .number) e) ∙ i) }
 
 module _ (bs list : List ℕ) {out : List ℕ} {t : Tally} {s : Sent} {a : Answer} {out′ : List ℕ} (T : Tallies s t a) where
-  pub reference-tells : Responds (responseOf ReferencePathBytes list bs (length out)) out s out′
+  pub reference-tells : Responds (readingResponse ReferencePathBytes list bs (length out)) out s out′
       → TellsBytes (referencePathBytesResponse bs (length out)) out t a out′
-  unfolding responseOf referencePathBytesResponse
+  unfolding readingResponse referencePathBytesResponse
   reference-tells S = tells-bytes (T .is _ (length out) _ (S .number) (S .size)) S (reference-room bs (length out))
 
-  pub path-tells : (start : ℕ) → Responds (responseOf (PathBasesBytes start) list bs (length out)) out s out′
+  pub path-tells : (start : ℕ) → Responds (readingResponse (PathBasesBytes start) list bs (length out)) out s out′
       → TellsBytes (pathBasesBytesResponse bs start list (length out)) out t a out′
-  unfolding responseOf pathResponse pathBasesBytesResponse
+  unfolding readingResponse pathResponse pathBasesBytesResponse
   path-tells start S = tells-bytes (T .is _ (length out) _ (S .number) (S .size)) S (path-room bs start list (length out))

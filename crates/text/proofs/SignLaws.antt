@@ -14,7 +14,7 @@ use mir.Val.{Fits, SFits, toZ, ofZ}
 use mir.Facts.{toZ-ofZ, toZ-pos}
 use Rattle.defs.specs.Lists.{tabFrom}
 use Rattle.text.specs.Printed.{ascii, decimal, signed, surplus}
-use Rattle.text.specs.Put.{Put}
+use Rattle.text.specs.Put.{TextPut}
 use Rattle.text.proofs.TextLaws.{put-one, put-then, put-as, put-most}
 
 -- ---- the difference
@@ -84,8 +84,8 @@ module _ {x : ℤ} (F : SFits w32 x) (h : mag x < 65536) where
     pub below-cast : let z = toZ w32 (ofZ w32 (pos 0 -ℤ toZ w32 (ofZ w32 x))) in T (nonNeg z) × Fits w32 (natAbs z)
     below-cast = rw is-neg (neg-cast x h below)
 
-    pub below-put : {text text′ : List ℕ} {at r : ℕ} → Put 10 (decimal (natAbs (toZ w32 (ofZ w32 (pos 0 -ℤ toZ w32 (ofZ w32 x))))))
-        (set text at 45) (at + 1) r text′ → Put 11 (signed x) text at r text′
+    pub below-put : {text text′ : List ℕ} {at r : ℕ} → TextPut 10 (decimal (natAbs (toZ w32 (ofZ w32 (pos 0 -ℤ toZ w32 (ofZ w32 x))))))
+        (set text at 45) (at + 1) r text′ → TextPut 11 (signed x) text at r text′
     below-put {text} {text′} {at} {r} P = put-as (ap (λ (z : ℤ). (45 ∷ []) ++ decimal (natAbs z)) is-neg ∙ signed-below x below)
         (put-then (put-one text at (at + 1) refl refl) P)
 
@@ -96,5 +96,5 @@ module _ {x : ℤ} (F : SFits w32 x) (h : mag x < 65536) where
     pub same-fits : T (nonNeg (toZ w32 (ofZ w32 x))) × Fits w32 (natAbs (toZ w32 (ofZ w32 x)))
     same-fits = rw (toZ-ofZ F) (same-cast x h same)
 
-    pub same-put : {text text′ : List ℕ} {at r : ℕ} → Put 10 (decimal (natAbs (toZ w32 (ofZ w32 x)))) text at r text′ → Put 11 (signed x) text at r text′
+    pub same-put : {text text′ : List ℕ} {at r : ℕ} → TextPut 10 (decimal (natAbs (toZ w32 (ofZ w32 x)))) text at r text′ → TextPut 11 (signed x) text at r text′
     same-put P = put-most (omega arith) (put-as (ap (λ (z : ℤ). decimal (natAbs z)) (toZ-ofZ F) ∙ signed-same x same) P)

@@ -15,38 +15,38 @@ use Rattle.write_record.proofs.WriteLaws.{put-behind, Growing, growing-more, fi
 use Rattle.tabs.proofs.Tabs.{tab-getD}
 use Rattle.tabs.proofs.SumTabs.{map-tab}
 use Rattle.text.specs.Printed.{ascii, digit, decimalBy, decimal, isLetter, printedByte, printedSequence}
-use Rattle.text.specs.Put.{Put}
+use Rattle.text.specs.Put.{TextPut}
 
 -- ---- one behind the other
 
-pub put-one : (text : List ℕ) (at r : ℕ) {x y : ℕ} → x ≡ y → r ≡ at + 1 → Put 1 (y ∷ []) text at r (set text at x)
+pub put-one : (text : List ℕ) (at r : ℕ) {x y : ℕ} → x ≡ y → r ≡ at + 1 → TextPut 1 (y ∷ []) text at r (set text at x)
 put-one text at r e q = record { size = omega arith; end = q; is = ap (set text at) e }
 
-pub put-then : {a b : ℕ} {s t text text′ text″ : List ℕ} {at r r′ : ℕ} → Put a s text at r text′ → Put b t text′ r r′ text″
-    → Put (a + b) (s ++ t) text at r′ text″
+pub put-then : {a b : ℕ} {s t text text′ text″ : List ℕ} {at r r′ : ℕ} → TextPut a s text at r text′ → TextPut b t text′ r r′ text″
+    → TextPut (a + b) (s ++ t) text at r′ text″
 put-then {s = s} {t = t} {text = text} {at = at} {r = r} P Q = record {
   size = omega (arith, length-append s t, P .size, Q .size);
   end = omega (arith, length-append s t, P .end, Q .end);
   is = put-behind text s t at r (P .is) (Q .is) (P .end);
 }
 
-pub put-as : {a : ℕ} {s t text text′ : List ℕ} {at r : ℕ} → s ≡ t → Put a s text at r text′ → Put a t text at r text′
+pub put-as : {a : ℕ} {s t text text′ : List ℕ} {at r : ℕ} → s ≡ t → TextPut a s text at r text′ → TextPut a t text at r text′
 put-as q P = rw q at P
 
-pub put-most : {a b : ℕ} {s text text′ : List ℕ} {at r : ℕ} → a ≤ b → Put a s text at r text′ → Put b s text at r text′
+pub put-most : {a b : ℕ} {s text text′ : List ℕ} {at r : ℕ} → a ≤ b → TextPut a s text at r text′ → TextPut b s text at r text′
 put-most h P = record { size = omega (arith, P .size); end = P .end; is = P .is }
 
-pub put-size : {a b : ℕ} {s text text′ : List ℕ} {at r : ℕ} → length s ≤ b → Put a s text at r text′ → Put b s text at r text′
+pub put-size : {a b : ℕ} {s text text′ : List ℕ} {at r : ℕ} → length s ≤ b → TextPut a s text at r text′ → TextPut b s text at r text′
 put-size h P = record { size = h; end = P .end; is = P .is }
 
-pub put-long : {a : ℕ} {s text text′ : List ℕ} {at r : ℕ} → Put a s text at r text′ → length text′ ≡ length text
+pub put-long : {a : ℕ} {s text text′ : List ℕ} {at r : ℕ} → TextPut a s text at r text′ → length text′ ≡ length text
 put-long {s = s} {text = text} {at = at} P = ap length (P .is) ∙ length-sets text at s
 
 -- ---- a loop that puts f 0, f 1, .. one behind the other: i of n stand, and are at most m i bytes
 
 pub record Lines (n : ℕ) (m : ℕ → ℕ) (f : ℕ → List ℕ) (text : List ℕ) (at : ℕ) (text′ : List ℕ) (r i : ℕ) : Type 0 where
   pub high : i ≤ n
-  pub put : Put (m i) (concat (tab i f)) text at r text′
+  pub put : TextPut (m i) (concat (tab i f)) text at r text′
 
 module _ {n : ℕ} {m : ℕ → ℕ} {f : ℕ → List ℕ} {text : List ℕ} {at : ℕ} where
   pub lines-start : Lines n m f text at text at 0
@@ -56,11 +56,11 @@ module _ {n : ℕ} {m : ℕ → ℕ} {f : ℕ → List ℕ} {text : List ℕ} {a
   }
 
   module _ {text′ : List ℕ} {r i : ℕ} (L : Lines n m f text at text′ r i) where
-    pub lines-more : {b r′ : ℕ} {text″ : List ℕ} → i < n → Put b (f i) text′ r r′ text″ → m i + b ≤ m (i + 1) → Lines n m f text at text″ r′ (i + 1)
+    pub lines-more : {b r′ : ℕ} {text″ : List ℕ} → i < n → TextPut b (f i) text′ r r′ text″ → m i + b ≤ m (i + 1) → Lines n m f text at text″ r′ (i + 1)
     lines-more h P e = record { high = omega arith; put = put-most e (put-as (sym (fields-more f i)) (put-then (L .put) P)) }
 
-    pub lines-end : n ≤ i → Put (m n) (concat (tab n f)) text at r text′
-    lines-end h = let q : i ≡ n = omega (arith, L .high) in subst (λ (k : ℕ). Put (m k) (concat (tab k f)) text at r text′) q (L .put)
+    pub lines-end : n ≤ i → TextPut (m n) (concat (tab n f)) text at r text′
+    lines-end h = let q : i ≡ n = omega (arith, L .high) in subst (λ (k : ℕ). TextPut (m k) (concat (tab k f)) text at r text′) q (L .put)
 
     pub lines-long : length text′ ≡ length text
     lines-long = put-long (L .put)
@@ -75,7 +75,7 @@ module _ {s text : List ℕ} {at : ℕ} {text′ : List ℕ} {i : ℕ} (G : Grow
   bytes-more h = growing-more (getD s i 0 ∷ []) (at + i) G h (ap (λ (k : ℕ). take k s) (add-one i) ∙ take-suc s i 0 h)
       (omega (arith, length-take-le i s (G .high))) refl
 
-  pub bytes-end : length s ≤ i → Put (length s) s text at (at + i) text′
+  pub bytes-end : length s ≤ i → TextPut (length s) s text at (at + i) text′
   bytes-end h =
       let q : i ≡ length s = omega (arith, G .high) in
       record { size = omega arith; end = omega arith; is = G .is ∙ ap (sets text at) (take-all i s h) }
@@ -85,14 +85,14 @@ module _ {s text : List ℕ} {at : ℕ} {text′ : List ℕ} {i : ℕ} (G : Grow
 pub each-is : (s : List ℕ) → concat (tab (length s) (λ (k : ℕ). printedByte (getD s k 0))) ≡ concat (map printedByte s)
 each-is s = ap concat (sym (map-tab printedByte (length s) (λ (k : ℕ). getD s k 0)) ∙ ap (map printedByte) (tab-getD s 0))
 
-pub sequence-none : (s : List ℕ) {text text′ : List ℕ} {at r : ℕ} → length s ≡ 0 → Put 1 (46 ∷ []) text at r text′
-    → Put (4 * length s + 1) (printedSequence s) text at r text′
+pub sequence-none : (s : List ℕ) {text text′ : List ℕ} {at r : ℕ} → length s ≡ 0 → TextPut 1 (46 ∷ []) text at r text′
+    → TextPut (4 * length s + 1) (printedSequence s) text at r text′
 unfolding printedSequence ascii tabFrom
 sequence-none [] q P = P
 sequence-none (b ∷ s) q P = absurd (omega arith)
 
 pub sequence-some : (s : List ℕ) {text text′ : List ℕ} {at r : ℕ} → (length s ≡ 0 → ⊥)
-    → Put (4 * length s) (concat (map printedByte s)) text at r text′ → Put (4 * length s + 1) (printedSequence s) text at r text′
+    → TextPut (4 * length s) (concat (map printedByte s)) text at r text′ → TextPut (4 * length s + 1) (printedSequence s) text at r text′
 unfolding printedSequence
 sequence-some [] o P = absurd (o refl)
 sequence-some (b ∷ s) o P = put-most (omega arith) P
@@ -177,11 +177,11 @@ short (suc d) n h = byTest (ltb n 10)
 pub decimal-short : {n : ℕ} → n < 4294967296 → length (decimal n) ≤ 10
 decimal-short {n} h = short 9 n (omega arith)
 
-pub digits-one : {text : List ℕ} {at x d : ℕ} → x < 10 → d ≡ digit x → Put (length (decimal x)) (decimal x) text at (at + 1) (set text at d)
+pub digits-one : {text : List ℕ} {at x d : ℕ} → x < 10 → d ≡ digit x → TextPut (length (decimal x)) (decimal x) text at (at + 1) (set text at d)
 digits-one {text} {at} {x} h q = put-size (omega arith) (put-as (sym (decimal-one x h)) (put-one text at (at + 1) q refl))
 
-pub digits-more : {text text′ : List ℕ} {at x d r : ℕ} → 10 ≤ x → Put (length (decimal (x / 10))) (decimal (x / 10)) text at r text′ → d
-    ≡ digit (x % 10) → Put (length (decimal x)) (decimal x) text at (r + 1) (set text′ r d)
+pub digits-more : {text text′ : List ℕ} {at x d r : ℕ} → 10 ≤ x → TextPut (length (decimal (x / 10))) (decimal (x / 10)) text at r text′ → d
+    ≡ digit (x % 10) → TextPut (length (decimal x)) (decimal x) text at (r + 1) (set text′ r d)
 digits-more {text′ = text′} {x = x} {r = r} h P q = put-size (omega arith) (put-as (sym (decimal-more x h)) (put-then P (put-one text′ r (r + 1) q refl)))
 
 -- the call for the digits before the last: a smaller number, and room for them and the last
@@ -192,7 +192,7 @@ pub more-long : (x : ℕ) → 10 ≤ x → length (decimal x) ≡ length (decima
 more-long x h = ap length (decimal-more x h) ∙ length-append (decimal (x / 10)) (digit (x % 10) ∷ [])
 
 pub digits-behind : {x at r : ℕ} {text text′ : List ℕ} → 10 ≤ x → at + length (decimal x) ≤ length text
-    → Put (length (decimal (x / 10))) (decimal (x / 10)) text at r text′ → r < length text
+    → TextPut (length (decimal (x / 10))) (decimal (x / 10)) text at r text′ → r < length text
 digits-behind {x} h room P = omega (arith, more-long x h, P .end)
 
 -- ---- letters
@@ -227,11 +227,11 @@ module _ (b : ℕ) where
   unfolding printedByte ascii tabFrom
   byte-other t = rw t
 
-  pub put-letter : {text : List ℕ} {at : ℕ} {l : Bool} → l ≡ true → l ≡ isLetter b → Put 4 (printedByte b) text at (at + 1) (set text at b)
+  pub put-letter : {text : List ℕ} {at : ℕ} {l : Bool} → l ≡ true → l ≡ isLetter b → TextPut 4 (printedByte b) text at (at + 1) (set text at b)
   put-letter {text} {at} t q = put-as (sym (byte-letter (sym q ∙ t))) (put-most (omega arith) (put-one text at (at + 1) refl refl))
 
   pub put-other : {text : List ℕ} {at x y : ℕ} {l : Bool} → l ≡ false → l ≡ isLetter b → x ≡ digit (b / 16) → y ≡ digit (b % 16)
-      → Put 4 (printedByte b) text at (at + 4) (set (set (set (set text at 92) (at + 1) 120) (at + 2) x) (at + 3) y)
+      → TextPut 4 (printedByte b) text at (at + 4) (set (set (set (set text at 92) (at + 1) 120) (at + 2) x) (at + 3) y)
   put-other {text} {at} t q d e = put-as (sym (byte-other (sym q ∙ t)))
       (put-then (put-then (put-then (put-one text at (at + 1) refl refl) (put-one _ (at + 1) (at + 2) refl (omega arith)))
       (put-one _ (at + 2) (at + 3) d (omega arith))) (put-one _ (at + 3) (at + 4) e (omega arith)))

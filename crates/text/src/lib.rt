@@ -7,7 +7,7 @@ ghost use lib.Signed.{mag};
 ghost use Rattle.defs.specs.Lists.{concat};
 ghost use Rattle.text.specs.Printed.{decimal, signed, isLetter, printedByte, printedSequence};
 ghost use Rattle.text.specs.Printed.{digit as digitOf, surplus as surplusOf};
-ghost use Rattle.text.specs.Put.{Put};
+ghost use Rattle.text.specs.Put.{TextPut};
 
 // The code of a digit below 16.
 fn digit(d: u32) -> u8
@@ -20,7 +20,7 @@ fn digit(d: u32) -> u8
 // The digits before the last one first.
 fn put_digits(text: &mut [u8], at: usize, x: u32) -> usize
     requires { ⌜ at + length (decimal x) ≤ length (now text) ⌝ }
-    ensures { λ r. ⌜ Put (length (decimal x)) (decimal x) (now (text .entry)) at r (now (text .exit)) ⌝ }
+    ensures { λ r. ⌜ TextPut (length (decimal x)) (decimal x) (now (text .entry)) at r (now (text .exit)) ⌝ }
 {
     if x < 10 {
         text[at] = digit(x);
@@ -34,7 +34,7 @@ fn put_digits(text: &mut [u8], at: usize, x: u32) -> usize
 // A number in decimal, of at most ten digits.
 pub fn put_decimal(text: &mut [u8], at: usize, x: u32) -> usize
     requires { ⌜ at + 10 ≤ length (now text) ⌝ }
-    ensures { λ r. ⌜ Put 10 (decimal x) (now (text .entry)) at r (now (text .exit)) ⌝ }
+    ensures { λ r. ⌜ TextPut 10 (decimal x) (now (text .entry)) at r (now (text .exit)) ⌝ }
 {
     put_digits(text, at, x)
 }
@@ -50,7 +50,7 @@ pub fn surplus(edges: usize, vertices: usize) -> i32
 // A number with its sign.
 pub fn put_signed(text: &mut [u8], at: usize, x: i32) -> usize
     requires { ⌜ (at + 11 ≤ length (now text)) × (mag x < 65536) ⌝ }
-    ensures { λ r. ⌜ Put 11 (signed x) (now (text .entry)) at r (now (text .exit)) ⌝ }
+    ensures { λ r. ⌜ TextPut 11 (signed x) (now (text .entry)) at r (now (text .exit)) ⌝ }
 {
     if x < 0 {
         text[at] = b'-';
@@ -61,7 +61,7 @@ pub fn put_signed(text: &mut [u8], at: usize, x: i32) -> usize
 
 pub fn put_bytes(text: &mut [u8], at: usize, s: &[u8]) -> usize
     requires { ⌜ at + length (now s) ≤ length (now text) ⌝ }
-    ensures { λ r. ⌜ Put (length (now (s .entry))) (now (s .entry)) (now (text .entry)) at r (now (text .exit)) ⌝ }
+    ensures { λ r. ⌜ TextPut (length (now (s .entry))) (now (s .entry)) (now (text .entry)) at r (now (text .exit)) ⌝ }
 {
     let mut i = 0;
     while i < s.len() {
@@ -74,7 +74,7 @@ pub fn put_bytes(text: &mut [u8], at: usize, s: &[u8]) -> usize
 // A name and a number.
 pub fn put_field(text: &mut [u8], at: usize, name: &[u8], x: u32) -> usize
     requires { ⌜ at + length (now name) + 10 ≤ length (now text) ⌝ }
-    ensures { λ r. ⌜ Put (length (now (name .entry)) + 10) (now (name .entry) ++ decimal x) (now (text .entry)) at r (now (text .exit)) ⌝ }
+    ensures { λ r. ⌜ TextPut (length (now (name .entry)) + 10) (now (name .entry) ++ decimal x) (now (text .entry)) at r (now (text .exit)) ⌝ }
 {
     let behind = put_bytes(text, at, name);
     put_decimal(text, behind, x)
@@ -93,7 +93,7 @@ fn is_letter(b: u8) -> bool
 // A letter as it is, any other byte as \x and two digits.
 fn put_byte(text: &mut [u8], at: usize, b: u8) -> usize
     requires { ⌜ at + 4 ≤ length (now text) ⌝ }
-    ensures { λ r. ⌜ Put 4 (printedByte b) (now (text .entry)) at r (now (text .exit)) ⌝ }
+    ensures { λ r. ⌜ TextPut 4 (printedByte b) (now (text .entry)) at r (now (text .exit)) ⌝ }
 {
     if is_letter(b) {
         text[at] = b;
@@ -109,7 +109,7 @@ fn put_byte(text: &mut [u8], at: usize, b: u8) -> usize
 // Each byte in turn.
 fn put_each(text: &mut [u8], at: usize, s: &[u8]) -> usize
     requires { ⌜ at + 4 * length (now s) ≤ length (now text) ⌝ }
-    ensures { λ r. ⌜ Put (4 * length (now (s .entry))) (concat (map printedByte (now (s .entry)))) (now (text .entry)) at r (now (text .exit)) ⌝ }
+    ensures { λ r. ⌜ TextPut (4 * length (now (s .entry))) (concat (map printedByte (now (s .entry)))) (now (text .entry)) at r (now (text .exit)) ⌝ }
 {
     let mut to = at;
     let mut i = 0;
@@ -123,7 +123,7 @@ fn put_each(text: &mut [u8], at: usize, s: &[u8]) -> usize
 // The bytes of a sequence; a dot where there are none.
 pub fn put_sequence(text: &mut [u8], at: usize, s: &[u8]) -> usize
     requires { ⌜ at + 4 * length (now s) + 1 ≤ length (now text) ⌝ }
-    ensures { λ r. ⌜ Put (4 * length (now (s .entry)) + 1) (printedSequence (now (s .entry))) (now (text .entry)) at r (now (text .exit)) ⌝ }
+    ensures { λ r. ⌜ TextPut (4 * length (now (s .entry)) + 1) (printedSequence (now (s .entry))) (now (text .entry)) at r (now (text .exit)) ⌝ }
 {
     if s.len() == 0 {
         return put_bytes(text, at, b".");

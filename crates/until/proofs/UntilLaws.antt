@@ -32,15 +32,15 @@ use Rattle.until.specs.Until.{rewriteOf, isTransform, Completed}
 -- ---- the kinds and their numbers
 
 -- the kind that has a number
-pub kindOf : ℕ → RewriteKind
-kindOf n =
+pub kindWithNumber : ℕ → RewriteKind
+kindWithNumber n =
     cond (eqb n (rewriteKindNumber diamond)) diamond
     (cond (eqb n (rewriteKindNumber tails)) tails
     (cond (eqb n (rewriteKindNumber merge)) merge
     (cond (eqb n (rewriteKindNumber split)) split zip)))
 
-kind-back : (rewrite : RewriteKind) → kindOf (rewriteKindNumber rewrite) ≡ rewrite
-unfolding kindOf rewriteKindNumber
+kind-back : (rewrite : RewriteKind) → kindWithNumber (rewriteKindNumber rewrite) ≡ rewrite
+unfolding kindWithNumber rewriteKindNumber
 kind-back zip = refl
 kind-back diamond = refl
 kind-back tails = refl
@@ -54,8 +54,8 @@ unfolding isTransform anyOf
 one-of-three n t a b c =
     clash t (rw (ne-eqb n (rewriteKindNumber diamond) a, ne-eqb n (rewriteKindNumber tails) b, ne-eqb n (rewriteKindNumber merge) c, anyOf))
 
-pub kind-number : (n : ℕ) → isTransform n ≡ true → rewriteKindNumber (kindOf n) ≡ n
-unfolding kindOf
+pub kind-number : (n : ℕ) → isTransform n ≡ true → rewriteKindNumber (kindWithNumber n) ≡ n
+unfolding kindWithNumber
 kind-number n t = byTest (eqb n (rewriteKindNumber diamond))
     (λ a. rw a (sym (eqb-true n (rewriteKindNumber diamond) a)))
     (λ a. byTest (eqb n (rewriteKindNumber tails))
@@ -66,19 +66,19 @@ kind-number n t = byTest (eqb n (rewriteKindNumber diamond))
     (λ q. clash (eq-eqb n (rewriteKindNumber merge) q) c)))))
 
 -- what holds of the kind that has the number n
-pub of-kind : {n : ℕ} (P : RewriteKind → Type 0) → P (kindOf n) → (rewrite : RewriteKind) → rewriteKindNumber rewrite ≡ n → P rewrite
-of-kind P h rewrite q = subst P (sym (ap kindOf q) ∙ kind-back rewrite) h
+pub of-kind : {n : ℕ} (P : RewriteKind → Type 0) → P (kindWithNumber n) → (rewrite : RewriteKind) → rewriteKindNumber rewrite ≡ n → P rewrite
+of-kind P h rewrite q = subst P (sym (ap kindWithNumber q) ∙ kind-back rewrite) h
 
 -- what was left by the rewrite of that kind
 module _ {n : ℕ} (f : RewriteKind → Option Graph) {k : Held} {es vs p heads nexts : List ℕ} {r : Tried} {es′ vs′ p′ : List ℕ} where
-  pub left-of-kind : Left (f (kindOf n)) k es vs p heads nexts r es′ vs′ p′ → (rewrite : RewriteKind) → rewriteKindNumber rewrite ≡ n
+  pub left-of-kind : Left (f (kindWithNumber n)) k es vs p heads nexts r es′ vs′ p′ → (rewrite : RewriteKind) → rewriteKindNumber rewrite ≡ n
       → Left (f rewrite) k es vs p heads nexts r es′ vs′ p′
   left-of-kind = of-kind (λ (x : RewriteKind). Left (f x) k es vs p heads nexts r es′ vs′ p′)
 
   pub left-as-kind : (kind : RewriteKind) → n ≡ rewriteKindNumber kind → Left (f kind) k es vs p heads nexts r es′ vs′ p′
       → (rewrite : RewriteKind) → rewriteKindNumber rewrite ≡ n → Left (f rewrite) k es vs p heads nexts r es′ vs′ p′
   left-as-kind kind q L = left-of-kind
-      (subst (λ (x : RewriteKind). Left (f x) k es vs p heads nexts r es′ vs′ p′) (sym (ap kindOf q ∙ kind-back kind)) L)
+      (subst (λ (x : RewriteKind). Left (f x) k es vs p heads nexts r es′ vs′ p′) (sym (ap kindWithNumber q ∙ kind-back kind)) L)
 
 -- ---- what each kind takes away: a merge a vertex, the others a byte
 pub measureOf : RewriteKind → Graph → ℕ
@@ -123,7 +123,7 @@ unfolding firstAt
 first-out f v = refl
 
 -- the slices are as they were, and no vertex before v allows it
-pub record Scanning (f : ℕ → Option Graph) (n : ℕ) (es₀ vs₀ p₀ nodes₀ mp₀ es vs p nodes mp : List ℕ) (v : ℕ) : Type 0 where
+pub record ScanningVertices (f : ℕ → Option Graph) (n : ℕ) (es₀ vs₀ p₀ nodes₀ mp₀ es vs p nodes mp : List ℕ) (v : ℕ) : Type 0 where
   pub high : v ≤ n
   pub same-es : es ≡ es₀
   pub same-vs : vs ≡ vs₀
@@ -133,7 +133,7 @@ pub record Scanning (f : ℕ → Option Graph) (n : ℕ) (es₀ vs₀ p₀ nodes
   pub is : firstAt f v (n - v) ≡ firstAt f 0 n
 
 module _ {f : ℕ → Option Graph} {n : ℕ} {es₀ vs₀ p₀ nodes₀ mp₀ : List ℕ} where
-  pub scanning-start : Scanning f n es₀ vs₀ p₀ nodes₀ mp₀ es₀ vs₀ p₀ nodes₀ mp₀ 0
+  pub scanning-start : ScanningVertices f n es₀ vs₀ p₀ nodes₀ mp₀ es₀ vs₀ p₀ nodes₀ mp₀ 0
   scanning-start = record {
     high = omega arith;
     same-es = refl;
@@ -145,10 +145,10 @@ module _ {f : ℕ → Option Graph} {n : ℕ} {es₀ vs₀ p₀ nodes₀ mp₀ :
         ap (firstAt f 0) (omega arith);
   }
 
-  module _ {es vs p nodes mp : List ℕ} {v : ℕ} (S : Scanning f n es₀ vs₀ p₀ nodes₀ mp₀ es vs p nodes mp v) (h : v < n) {k :
+  module _ {es vs p nodes mp : List ℕ} {v : ℕ} (S : ScanningVertices f n es₀ vs₀ p₀ nodes₀ mp₀ es vs p nodes mp v) (h : v < n) {k :
       Held} {heads nexts : List ℕ} {r : Tried} {es′ vs′ p′ : List ℕ} where
     pub scanning-more : {nodes′ mp′ : List ℕ} → Left (f v) k es vs p heads nexts r es′ vs′ p′ → r .done ≡ false → length nodes′
-        ≡ length nodes → length mp′ ≡ length mp → Scanning f n es₀ vs₀ p₀ nodes₀ mp₀ es′ vs′ p′ nodes′ mp′ (v + 1)
+        ≡ length nodes → length mp′ ≡ length mp → ScanningVertices f n es₀ vs₀ p₀ nodes₀ mp₀ es′ vs′ p′ nodes′ mp′ (v + 1)
     scanning-more L t a b = record {
       high = omega arith;
       same-es = L .same-es t ∙ S .same-es;
@@ -170,7 +170,7 @@ module _ {f : ℕ → Option Graph} {n : ℕ} {es₀ vs₀ p₀ nodes₀ mp₀ :
       holds = L .holds;
     }
 
-  pub scanning-none : {es vs p nodes mp : List ℕ} {v : ℕ} → Scanning f n es₀ vs₀ p₀ nodes₀ mp₀ es vs p nodes mp v → n ≤ v
+  pub scanning-none : {es vs p nodes mp : List ℕ} {v : ℕ} → ScanningVertices f n es₀ vs₀ p₀ nodes₀ mp₀ es vs p nodes mp v → n ≤ v
       → (k : Held) (heads nexts : List ℕ) → Left (firstAt f 0 n) k es₀ vs₀ p₀ heads nexts record { done = false; held = k } es vs p
   scanning-none {v = v} S h k heads nexts = record {
     no = λ _. sym (S .is) ∙ ap (firstAt f v) size ∙ first-out f v;
@@ -187,7 +187,7 @@ module _ {f : ℕ → Option Graph} {n : ℕ} {es₀ vs₀ p₀ nodes₀ mp₀ :
 
 -- ---- until complete
 
-pub record Doing (kind : RewriteKind) (least : ℕ) (w₀ : Work) (es₀ vs₀ p₀ heads₀ : List ℕ) (w : Work) (es vs p heads nexts nodes mp : List ℕ) : Type 0 where
+pub record Transforming (kind : RewriteKind) (least : ℕ) (w₀ : Work) (es₀ vs₀ p₀ heads₀ : List ℕ) (w : Work) (es vs p heads nexts nodes mp : List ℕ) : Type 0 where
   pub ready : Ready least (w .held) es vs p heads nexts nodes mp
   pub heads-len : length heads ≡ length heads₀
   pub fuel : ℕ
@@ -198,7 +198,7 @@ pub record Doing (kind : RewriteKind) (least : ℕ) (w₀ : Work) (es₀ vs₀ p
 
 module _ {kind : RewriteKind} {least : ℕ} {w₀ : Work} {es₀ vs₀ p₀ heads₀ : List ℕ} where
   pub doing-start : {nexts nodes mp : List ℕ} → Ready least (w₀ .held) es₀ vs₀ p₀ heads₀ nexts nodes mp
-      → Doing kind least w₀ es₀ vs₀ p₀ heads₀ w₀ es₀ vs₀ p₀ heads₀ nexts nodes mp
+      → Transforming kind least w₀ es₀ vs₀ p₀ heads₀ w₀ es₀ vs₀ p₀ heads₀ nexts nodes mp
   doing-start R = record {
     ready = R;
     heads-len = refl;
@@ -208,7 +208,7 @@ module _ {kind : RewriteKind} {least : ℕ} {w₀ : Work} {es₀ vs₀ p₀ head
     count = omega (arith, measure-most kind (graphOf (w₀ .held) es₀ vs₀ p₀), R .holds .fit .light);
   }
 
-  module _ {w : Work} {es vs p heads nexts nodes mp : List ℕ} (D : Doing kind least w₀ es₀ vs₀ p₀ heads₀ w es vs p heads nexts nodes mp)
+  module _ {w : Work} {es vs p heads nexts nodes mp : List ℕ} (D : Transforming kind least w₀ es₀ vs₀ p₀ heads₀ w es vs p heads nexts nodes mp)
       {r : Tried} {es′ vs′ p′ : List ℕ} (L : Left (firstAt (rewriteOf kind least (graphOf (w .held) es vs p)) 0 (w .held .n)) (w .held) es
       vs p heads nexts r es′ vs′ p′) where
     abbrev g : Graph
@@ -220,7 +220,7 @@ module _ {kind : RewriteKind} {least : ℕ} {w₀ : Work} {es₀ vs₀ p₀ head
     order-is : nodeCount g ≡ w .held .n
     order-is = order-in (w .held .k .0) (w .held .n) (w .held .m) es vs p
 
-    pub doing-end : {nodes′ mp′ : List ℕ} (number : ℕ) → kindOf number ≡ kind → r .done ≡ false → length nodes′ ≡ length nodes
+    pub doing-end : {nodes′ mp′ : List ℕ} (number : ℕ) → kindWithNumber number ≡ kind → r .done ≡ false → length nodes′ ≡ length nodes
         → length mp′ ≡ length mp → Completed number least w₀ es₀ vs₀ p₀ w es′ vs′ p′ heads nexts nodes′ mp′
     doing-end {nodes′} {mp′} number q t a b = record {
       ready = record {
@@ -265,12 +265,12 @@ module _ {kind : RewriteKind} {least : ℕ} {w₀ : Work} {es₀ vs₀ p₀ head
       pub doing-more : {heads′ nexts′ nodes′ mp′ : List ℕ} → Indexed (r .held .m) (r .held .n) es′ heads′ nexts′ → length es′ ≡ length es
           → length vs′ ≡ length vs → length p′ ≡ length p
           → length heads′ ≡ length heads → length nexts′ ≡ length nexts → length nodes′ ≡ length nodes → length mp′ ≡ length mp
-          → Doing kind least w₀ es₀ vs₀ p₀ heads₀ record { held = r .held; rewrites = w .rewrites + 1 } es′ vs′ p′ heads′ nexts′ nodes′ mp′
+          → Transforming kind least w₀ es₀ vs₀ p₀ heads₀ record { held = r .held; rewrites = w .rewrites + 1 } es′ vs′ p′ heads′ nexts′ nodes′ mp′
       doing-more {heads′} {nexts′} {nodes′} {mp′} I a b c d e f i = go (D .fuel) (D .enough) (D .is)
         where
           go : (fuel : ℕ) → measureOf kind g < fuel → transformUntilComplete (rewriteOf kind least) fuel (workOf w es vs p)
               ≡ transformUntilComplete (rewriteOf kind least) (fuelFor (graphOf (w₀ .held) es₀ vs₀ p₀)) (workOf w₀ es₀ vs₀ p₀)
-              → Doing kind least w₀ es₀ vs₀ p₀ heads₀ record { held = r .held; rewrites = w .rewrites + 1 } es′ vs′ p′ heads′ nexts′ nodes′ mp′
+              → Transforming kind least w₀ es₀ vs₀ p₀ heads₀ record { held = r .held; rewrites = w .rewrites + 1 } es′ vs′ p′ heads′ nexts′ nodes′ mp′
           go zero h q = absurd (omega arith)
           go (suc fuel) h q = record {
             ready = record { least-is = D .ready .least-is; room = room-kept (D .ready .room) a b c d e f i; holds = holds-kept (L .holds t) d e; indexed = I };
@@ -284,7 +284,7 @@ module _ {kind : RewriteKind} {least : ℕ} {w₀ : Work} {es₀ vs₀ p₀ head
 
 -- the slices that were scanned are those at the start
 module _ (kind : RewriteKind) (least : ℕ) {n : ℕ} {h : Held} {es₀ vs₀ p₀ nodes₀ mp₀ es vs p nodes mp : List ℕ} {v : ℕ}
-    (S : Scanning (rewriteOf kind least (graphOf h es₀ vs₀ p₀)) n es₀ vs₀ p₀ nodes₀ mp₀ es vs p nodes mp v) where
+    (S : ScanningVertices (rewriteOf kind least (graphOf h es₀ vs₀ p₀)) n es₀ vs₀ p₀ nodes₀ mp₀ es vs p nodes mp v) where
   pub scan-ready : {heads nexts : List ℕ} → Ready least h es₀ vs₀ p₀ heads nexts nodes₀ mp₀ → Ready least h es vs p heads nexts nodes mp
   scan-ready R = record {
     least-is = R .least-is;

@@ -31,10 +31,10 @@ use Rattle.memory.specs.declared.Held.{Held}
 use Rattle.load.specs.Loaded.{Loadable, Loaded}
 use Rattle.sound.proofs.Accepted.{refused-early, refused-6, refused-7, accepted, accepted-layout}
 use Rattle.sequence.specs.Part.{Part}
-use Rattle.read_kmers.specs.Kmers.{Room, Doubles}
+use Rattle.read_kmers.specs.Kmers.{KmerRoom, Doubles}
 use Rattle.read_kmers.proofs.KmerLaws.{kmer-bytes-most}
 use Rattle.calls.proofs.CauseLaws.{behind-refused, behind-present, behind-absent}
-use Rattle.vertex_sequence.specs.Checks.{Roomy, Checkable, Checks}
+use Rattle.vertex_sequence.specs.Checks.{RoomToReadEither, Checkable, Checks}
 use Rattle.vertex_sequence.specs.Handed.{Handed, Placed}
 use Rattle.vertex_sequence.specs.declared.SequencePlace.{SequencePlace}
 
@@ -87,7 +87,7 @@ module _ (bs : List ℕ) where
       split (suc (suc n)) h f g = absurd (omega arith)
 
   pub roomy : {es vs p heads nexts order scratch place : List ℕ} → Lengths es vs p heads nexts order scratch place
-      → Roomy bs es vs p heads nexts order scratch place
+      → RoomToReadEither bs es vs p heads nexts order scratch place
   roomy Z = record {
     room = λ W. record {
       es-room = omega (arith, Z .es-is, W .edges);
@@ -123,8 +123,8 @@ module _ (bs : List ℕ) where
     pub long-enough : 32 ≤ length bs
     long-enough = omega (arith, length-is bs formed)
 
-    module _ {es vs p heads nexts order scratch place : List ℕ} (Y : Roomy bs es vs p heads nexts order scratch place) where
-      R : Room bs es vs p heads nexts order scratch place
+    module _ {es vs p heads nexts order scratch place : List ℕ} (Y : RoomToReadEither bs es vs p heads nexts order scratch place) where
+      R : KmerRoom bs es vs p heads nexts order scratch place
       R = Y .room formed
 
       pub number-loadable : Loadable bs es vs p

@@ -10,18 +10,18 @@ use Rattle.index.specs.Index.{Indexed}
 use Rattle.doubled.specs.Doubled.{Markable}
 use Rattle.cycle.specs.Peel.{Peelable}
 use Rattle.sort.specs.Sort.{Sortable}
-use Rattle.kmer_order.specs.Order.{Sequence}
-use Rattle.read_kmers.specs.Kmers.{Room}
+use Rattle.kmer_order.specs.Order.{ReadableSequence}
+use Rattle.read_kmers.specs.Kmers.{KmerRoom}
 
 -- there is room for a record whose layout is right
-pub record Roomy (bs es vs p heads nexts order scratch place : List ℕ) : Type 0 where
-  pub room : WellFormed bs → Room bs es vs p heads nexts order scratch place
+pub record RoomToReadEither (bs es vs p heads nexts order scratch place : List ℕ) : Type 0 where
+  pub room : WellFormed bs → KmerRoom bs es vs p heads nexts order scratch place
 
 -- a graph in slices that can be checked
 pub record Checkable (m n : ℕ) (es vs p heads nexts order scratch place : List ℕ) : Type 0 where
   pub indexed : Indexed m n es heads nexts
   pub markable : Markable n scratch
-  pub sortable : Sortable (Sequence vs p) n order scratch
+  pub sortable : Sortable (ReadableSequence vs p) n order scratch
   pub peelable : Peelable n scratch place
   pub few : m < 4294967296
 

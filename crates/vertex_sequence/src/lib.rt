@@ -7,8 +7,8 @@ ghost use Rattle.store.specs.Store.{edgesIn, seqsIn};
 ghost use Rattle.index.specs.Index.{Indexed};
 ghost use Rattle.doubled.specs.Doubled.{Markable};
 ghost use Rattle.sort.specs.Sort.{Sortable};
-ghost use Rattle.kmer_order.specs.Order.{Sequence};
-ghost use Rattle.vertex_sequence.specs.Checks.{Roomy, Checkable, Checks};
+ghost use Rattle.kmer_order.specs.Order.{ReadableSequence};
+ghost use Rattle.vertex_sequence.specs.Checks.{RoomToReadEither, Checkable, Checks};
 ghost use Rattle.vertex_sequence.specs.Handed.{Handed, Placed};
 use record::Layout;
 use record::MOST_EDGES;
@@ -37,7 +37,7 @@ fn is_doubled(
     scratch: &mut [u32],
 ) -> bool
     requires { ⌜ Indexed m n (now es) (now heads) (now nexts)
-        × (Markable n (now scratch) × Sortable (Sequence (now vs) (now p)) n (now order) (now scratch)) ⌝ }
+        × (Markable n (now scratch) × Sortable (ReadableSequence (now vs) (now p)) n (now order) (now scratch)) ⌝ }
     ensures { λ r. ⌜ r ≡ (doubledEdge (edgesIn m (now (es .entry))) || (kmers && equalKmers (seqsIn n (now (vs .entry)) (now (p .entry))))) ⌝ }
 {
     if kmers {
@@ -84,7 +84,7 @@ fn record_number(
     scratch: &mut [u32],
     place: &mut [u32],
 ) -> u32
-    requires { ⌜ Roomy (now rec) (now es) (now vs) (now p) (now heads) (now nexts) (now order) (now scratch) (now place) ⌝ }
+    requires { ⌜ RoomToReadEither (now rec) (now es) (now vs) (now p) (now heads) (now nexts) (now order) (now scratch) (now place) ⌝ }
     ensures { λ r. ⌜ r ≡ recordRefusal bothKinds (now (rec .entry)) ⌝ }
 {
     let k = match record::check_layout(rec, Takes::BothKinds) {

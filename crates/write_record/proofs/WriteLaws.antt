@@ -19,7 +19,7 @@ use Rattle.store.proofs.VertexLaws.{part-long}
 use Rattle.pool.specs.Pool.{bytesIn}
 use Rattle.memory.specs.Memory.{graphOf}
 use Rattle.memory.specs.declared.Held.{Held}
-use Rattle.write_record.specs.Written.{lengthBytes, Writable, Written}
+use Rattle.write_record.specs.Written.{lengthBytes, RecordWritable, RecordWritten}
 
 -- ---- one part behind the other
 
@@ -213,12 +213,12 @@ module _ (status k n m : ℕ) (es vs p : List ℕ) (W : Within (length p) n vs) 
 sets-front : (l w : List ℕ) → length w ≤ length l → sets l 0 w ≡ w ++ drop (length w) l
 sets-front l w h = sets-eq w l 0 (omega arith) ∙ ap (λ (x : ℕ). w ++ drop x l) (zero-add (length w))
 
-pub written : {status : ℕ} {h : Held} {es vs p l : List ℕ} → Writable status h es vs p l → {b r : ℕ} → b ≡ bytesIn (h .n) vs → r ≡ 32
+pub written : {status : ℕ} {h : Held} {es vs p l : List ℕ} → RecordWritable status h es vs p l → {b r : ℕ} → b ≡ bytesIn (h .n) vs → r ≡ 32
     + 2 * h .n + 9 * h .m + b → {l₁ l₂ l₃ l₄ : List ℕ}
     → l₁ ≡ sets l 0 (encodeHeader 1 status (h .k .0) (h .n) (h .m) b) → l₂ ≡ sets l₁ 32 (concat (tab (h .n) (lengthBytes vs)))
     → l₃ ≡ sets l₂ (32 + 2 * h .n) (concat (tab (h .m) (λ (i : ℕ). encodeEdge (edgeIn es i)))) → l₄
     ≡ sets l₃ (32 + 2 * h .n + 9 * h .m) (concat (tab (h .n) (seqIn vs p)))
-    → Written status h es vs p l r l₄
+    → RecordWritten status h es vs p l r l₄
 written {status} {h} {es} {vs} {p} {l} W qb qr p₁ p₂ p₃ p₄ =
     let e = encode-length status (h .k .0) (h .n) (h .m) es vs p (W .within) in
     record {

@@ -14,7 +14,7 @@ abbrev pub lengthBytes : List ℕ → ℕ → List ℕ
 lengthBytes vs v = le16 (getD vs (2 * v + 1) 0)
 
 -- the counts fit 16 bits, the bytes and the whole length 32
-pub record Countable (n m b : ℕ) : Type 0 where
+pub record HeaderCountable (n m b : ℕ) : Type 0 where
   pub n-fits : n < 65536
   pub m-fits : m < 65536
   pub whole-fits : 32 + 2 * n + 9 * m + b < 4294967296
@@ -46,7 +46,7 @@ pub record Measured (h : Held) (vs : List ℕ) : Type 0 where
   pub small : 32 + 2 * h .n + 9 * h .m + bytesIn (h .n) vs < 4294967296
 
 -- a held graph whose record fits `out`
-pub record Writable (status : ℕ) (h : Held) (es vs p out : List ℕ) : Type 0 where
+pub record RecordWritable (status : ℕ) (h : Held) (es vs p out : List ℕ) : Type 0 where
   pub status-fits : status < 256
   pub n-fits : h .n < 65536
   pub m-fits : h .m < 65536
@@ -58,6 +58,6 @@ pub record Writable (status : ℕ) (h : Held) (es vs p out : List ℕ) : Type 0 
   pub room : 32 + 2 * h .n + 9 * h .m + bytesIn (h .n) vs ≤ length out
 
 -- the record stands at the front of `out`; the rest is as it was
-pub record Written (status : ℕ) (h : Held) (es vs p out : List ℕ) (r : ℕ) (out′ : List ℕ) : Type 0 where
+pub record RecordWritten (status : ℕ) (h : Held) (es vs p out : List ℕ) (r : ℕ) (out′ : List ℕ) : Type 0 where
   pub long : r ≡ length (encode sequenceGraph status (graphOf h es vs p))
   pub is : out′ ≡ encode sequenceGraph status (graphOf h es vs p) ++ drop (length (encode sequenceGraph status (graphOf h es vs p))) out

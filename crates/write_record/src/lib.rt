@@ -8,7 +8,7 @@ ghost use Rattle.defs.specs.Lists.{bit, concat, tab};
 ghost use Rattle.defs.specs.Record.{mark, le16, le32, encodeEdge, encodeHeader};
 ghost use Rattle.store.specs.Store.{isSet, edgeIn, part, seqIn};
 ghost use Rattle.pool.specs.Pool.{bytesIn};
-ghost use Rattle.write_record.specs.Written.{lengthBytes, Countable, EdgeFits, EdgesFit, LengthsFit, SequencesFit, Measured, Writable, Written};
+ghost use Rattle.write_record.specs.Written.{lengthBytes, HeaderCountable, EdgeFits, EdgesFit, LengthsFit, SequencesFit, Measured, RecordWritable, RecordWritten};
 use kmer::KmerSize;
 use memory::Held;
 
@@ -27,7 +27,7 @@ fn put_mark(out: &mut [u8], status: u32)
 }
 
 fn put_counts(out: &mut [u8], k: KmerSize, n: usize, m: usize, b: usize)
-    requires { ⌜ (16 ≤ length (now out)) × Countable n m b ⌝ }
+    requires { ⌜ (16 ≤ length (now out)) × HeaderCountable n m b ⌝ }
     ensures { λ _. ⌜ now (out .exit) ≡ sets (now (out .entry)) 6 (le16 (k .0) ++ le16 n ++ le16 m ++ le32 b) ⌝ }
 {
     le::put_u16(out, 6, kmer::value(k));
@@ -47,7 +47,7 @@ fn put_offsets(out: &mut [u8], edges: u32, bytes: u32, whole: u32)
 }
 
 fn put_header(out: &mut [u8], status: u32, k: KmerSize, n: usize, m: usize, b: usize)
-    requires { ⌜ (32 ≤ length (now out)) × ((status < 256) × Countable n m b) ⌝ }
+    requires { ⌜ (32 ≤ length (now out)) × ((status < 256) × HeaderCountable n m b) ⌝ }
     ensures { λ _. ⌜ now (out .exit) ≡ sets (now (out .entry)) 0 (encodeHeader 1 status (k .0) n m b) ⌝ }
 {
     put_mark(out, status);
@@ -155,8 +155,8 @@ pub fn write_record(
     vs: &[u32],
     p: &[u8],
 ) -> usize
-    requires { ⌜ Writable status held (now es) (now vs) (now p) (now out) ⌝ }
-    ensures { λ r. ⌜ Written status held (now (es .entry)) (now (vs .entry)) (now (p .entry)) (now (out .entry)) r (now (out .exit)) ⌝ }
+    requires { ⌜ RecordWritable status held (now es) (now vs) (now p) (now out) ⌝ }
+    ensures { λ r. ⌜ RecordWritten status held (now (es .entry)) (now (vs .entry)) (now (p .entry)) (now (out .entry)) r (now (out .exit)) ⌝ }
 {
     let n = held.n;
     let m = held.m;

@@ -2,12 +2,12 @@
 use mathlib.Core.Path.{refl}
 use native.Mathlib.Omega.{arith}
 use Prim.Native.Nat.{_-_}
-use Rattle.compact.proofs.LoopLaws.{Marking, marking-start, marking-more, marking-end}
+use Rattle.compact.proofs.LoopLaws.{MarkingGone, marking-start, marking-more, marking-end}
 use Rattle.compact.proofs.mark_gone.Statement.{statement}
 use Rattle.compact.proofs.mark_gone.Tie as tie
 
 abbrev Inv-loop : tie.InvT-loop
-Inv-loop map₀ n gone g i₀ map i = Marking n g gone map₀ map i
+Inv-loop map₀ n gone g i₀ map i = MarkingGone n g gone map₀ map i
 
 abbrev μ-loop : tie.MeasureT-loop
 μ-loop map₀ n gone g i₀ map i = g - i

@@ -1,12 +1,12 @@
 -- `convert::copy_edges` meets its contract. Assumes nothing.
 use native.Mathlib.Omega.{arith}
 use Prim.Native.Nat.{_-_}
-use Rattle.convert.proofs.CopyLaws.{Copying, copying-start, copying-more, copying-end}
+use Rattle.convert.proofs.CopyLaws.{CopyingEdges, copying-start, copying-more, copying-end}
 use Rattle.convert.proofs.copy_edges.Statement.{statement}
 use Rattle.convert.proofs.copy_edges.Tie as tie
 
 abbrev Inv-loop : tie.InvT-loop
-Inv-loop es order m out₀ i₀ out i = Copying m es order out₀ out i
+Inv-loop es order m out₀ i₀ out i = CopyingEdges m es order out₀ out i
 
 abbrev μ-loop : tie.MeasureT-loop
 μ-loop es order m out₀ i₀ out i = m - i

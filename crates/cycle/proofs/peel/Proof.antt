@@ -5,7 +5,7 @@ use mathlib.Core.Path.{refl}
 use lib.ListN.{getD}
 use Rattle.cycle.proofs.QueueLaws.{queue-most}
 use Rattle.cycle.proofs.PeelLaws.{
-  Taking,
+  TakingEdges,
   taking-start,
   taking-pass,
   taking-push,
@@ -18,7 +18,7 @@ use Rattle.cycle.proofs.peel.Statement.{statement}
 use Rattle.cycle.proofs.peel.Tie as tie
 
 abbrev Inv-loop : tie.InvT-loop
-Inv-loop es m n heads nexts degrees₀ queue₀ h queued u tail₀ e₀ degrees queue tail e = Taking m n es h u degrees₀ degrees queue₀ queue tail e
+Inv-loop es m n heads nexts degrees₀ queue₀ h queued u tail₀ e₀ degrees queue tail e = TakingEdges m n es h u degrees₀ degrees queue₀ queue tail e
 
 abbrev μ-loop : tie.MeasureT-loop
 μ-loop es m n heads nexts degrees₀ queue₀ h queued u tail₀ e₀ degrees queue tail e = m - e

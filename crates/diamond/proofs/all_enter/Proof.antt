@@ -4,14 +4,14 @@ use mathlib.Core.Path.{sym, _∙_}
 use Prim.Native.Nat.{ℕ, _-_, _*_}
 use lib.Dec.{eqb}
 use borrow.Author.Tests.{ne-eqb}
-use Rattle.index.specs.Index.{endOf}
+use Rattle.index.specs.Index.{edgeEnd}
 use Rattle.index.proofs.AdjLaws.{Testing, testing-fails, testing-end}
 use Rattle.diamond.proofs.TestLaws.{enter-start, enter-more, enter-on}
 use Rattle.diamond.proofs.all_enter.Statement.{statement}
 use Rattle.diamond.proofs.all_enter.Tie as tie
 
 abbrev Inv-loop : tie.InvT-loop
-Inv-loop es m n heads nexts v b e₀ e = Testing (endOf 0 es) m v (λ (x : ℕ). eqb b (endOf 1 es x)) e
+Inv-loop es m n heads nexts v b e₀ e = Testing (edgeEnd 0 es) m v (λ (x : ℕ). eqb b (edgeEnd 1 es x)) e
 
 abbrev μ-loop : tie.MeasureT-loop
 μ-loop es m n heads nexts v b e₀ e = m - e

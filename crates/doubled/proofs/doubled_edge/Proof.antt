@@ -3,7 +3,7 @@ use native.Mathlib.Omega.{arith}
 use Prim.Native.Nat.{_-_}
 use mathlib.Core.Path.{refl, _∙_}
 use Rattle.doubled.proofs.DoubledLaws.{
-  Scanning,
+  ScanningEdges,
   scanning-start,
   scanning-more,
   markable-kept,
@@ -14,7 +14,7 @@ use Rattle.doubled.proofs.doubled_edge.Statement.{statement}
 use Rattle.doubled.proofs.doubled_edge.Tie as tie
 
 abbrev Inv-loop : tie.InvT-loop
-Inv-loop es m n heads nexts marks₀ v₀ marks v = Scanning m n es marks₀ marks v
+Inv-loop es m n heads nexts marks₀ v₀ marks v = ScanningEdges m n es marks₀ marks v
 
 abbrev μ-loop : tie.MeasureT-loop
 μ-loop es m n heads nexts marks₀ v₀ marks v = n - v

@@ -3,7 +3,7 @@ use native.Mathlib.Omega.{arith}
 use Prim.Native.Nat.{_*_, _-_}
 use mathlib.Core.Path.{refl}
 use Rattle.doubled.proofs.DoubledLaws.{
-  Marking,
+  MarkingTargets,
   marking-start,
   marking-found,
   marking-more,
@@ -14,7 +14,7 @@ use Rattle.doubled.proofs.doubled_from.Statement.{statement}
 use Rattle.doubled.proofs.doubled_from.Tie as tie
 
 abbrev Inv-loop : tie.InvT-loop
-Inv-loop es m n heads nexts v marks₀ mark e₀ marks e = Marking m n es v marks₀ marks e
+Inv-loop es m n heads nexts v marks₀ mark e₀ marks e = MarkingTargets m n es v marks₀ marks e
 
 abbrev μ-loop : tie.MeasureT-loop
 μ-loop es m n heads nexts v marks₀ mark e₀ marks e = m - e

@@ -1,7 +1,7 @@
 -- `graph_text::put_second_line` meets its contract. Assumes nothing.
 use Rattle.defs.specs.Lists.{tabFrom}
 use Rattle.text.specs.Printed.{ascii, field}
-use Rattle.graph_text.specs.GraphText.{endOf}
+use Rattle.graph_text.specs.GraphText.{endWithNumber}
 use Rattle.graph_text.proofs.GraphLaws.{second-line}
 use borrow.Author.Needs.{needs}
 use Rattle.graph_text.proofs.put_second_line.Statement.{statement}
@@ -13,7 +13,7 @@ returns c =
     second-line
     (start .args .rewrites)
     (start .args .rounds)
-    (endOf (start .args .end))
+    (endWithNumber (start .args .end))
     (at-put-field .put-field .ensures)
     (at-put-field2 .put-field2 .ensures)
     (at-put-bytes .put-bytes .ensures)

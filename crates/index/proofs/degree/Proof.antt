@@ -1,13 +1,13 @@
 -- `index::degree` meets its contract. Assumes nothing.
 use native.Mathlib.Omega.{arith}
 use Prim.Native.Nat.{_+_, _*_, _-_}
-use Rattle.index.specs.Index.{endOf}
-use Rattle.index.proofs.AdjLaws.{Walked, walked-start, walked-more, walked-end}
+use Rattle.index.specs.Index.{edgeEnd}
+use Rattle.index.proofs.AdjLaws.{ListWalked, walked-start, walked-more, walked-end}
 use Rattle.index.proofs.degree.Statement.{statement}
 use Rattle.index.proofs.degree.Tie as tie
 
 abbrev Inv-loop : tie.InvT-loop
-Inv-loop es m n heads nexts off v d₀ e₀ d e = Walked (endOf off es) m v d e
+Inv-loop es m n heads nexts off v d₀ e₀ d e = ListWalked (edgeEnd off es) m v d e
 
 abbrev μ-loop : tie.MeasureT-loop
 μ-loop es m n heads nexts off v d₀ e₀ d e = m - e

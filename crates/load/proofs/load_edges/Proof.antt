@@ -1,7 +1,7 @@
 -- `load::load_edges` meets its contract. Assumes nothing.
 use native.Mathlib.Omega.{arith}
 use Prim.Native.Nat.{_-_}
-use Rattle.load.proofs.LoadLaws.{ReadingEdges, edge-inside, edges-start, edges-more, edges-end}
+use Rattle.load.proofs.LoadLaws.{ReadingEdges, record-edge-inside, edges-start, edges-more, edges-end}
 use Rattle.load.proofs.load_edges.Statement.{statement}
 use Rattle.load.proofs.load_edges.Tie as tie
 
@@ -58,10 +58,10 @@ load-edges-spec =
     Inv-loop
     μ-loop
     (λ c. edges-start)
-    (λ c κs. let start : tie.Start Inv-loop μ-loop = search in edge-inside (start .pre .0) _ (omega arith))
-    (λ c κs. let start : tie.Start Inv-loop μ-loop = search in edge-inside (start .pre .0) _ (omega arith))
-    (λ c κs. let start : tie.Start Inv-loop μ-loop = search in edge-inside (start .pre .0) _ (omega arith))
-    (λ c κs. let start : tie.Start Inv-loop μ-loop = search in edge-inside (start .pre .0) _ (omega arith))
+    (λ c κs. let start : tie.Start Inv-loop μ-loop = search in record-edge-inside (start .pre .0) _ (omega arith))
+    (λ c κs. let start : tie.Start Inv-loop μ-loop = search in record-edge-inside (start .pre .0) _ (omega arith))
+    (λ c κs. let start : tie.Start Inv-loop μ-loop = search in record-edge-inside (start .pre .0) _ (omega arith))
+    (λ c κs. let start : tie.Start Inv-loop μ-loop = search in record-edge-inside (start .pre .0) _ (omega arith))
     (λ c κs. let at-loop : tie.At-loop Inv-loop μ-loop = search in omega (arith, at-loop .loop .inv .len))
     (λ c. omega arith)
     (λ c. omega arith)

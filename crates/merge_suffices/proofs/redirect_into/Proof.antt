@@ -1,12 +1,12 @@
 -- `merge_suffices::redirect_into` meets its contract. Assumes nothing.
 use native.Mathlib.Omega.{arith}
 use Prim.Native.Nat.{_-_}
-use Rattle.merge_suffices.proofs.EdgeLoops.{Taking, taking-start, taking-ready, taking-more, taking-end}
+use Rattle.merge_suffices.proofs.EdgeLoops.{TakingPredecessors, taking-start, taking-ready, taking-more, taking-end}
 use Rattle.merge_suffices.proofs.redirect_into.Statement.{statement}
 use Rattle.merge_suffices.proofs.redirect_into.Tie as tie
 
 abbrev Inv-loop : tie.InvT-loop
-Inv-loop es₀ m n heads nexts nodes c map₀ y k₀ i₀ es map k i = Taking n m es₀ map₀ nodes c k es map i
+Inv-loop es₀ m n heads nexts nodes c map₀ y k₀ i₀ es map k i = TakingPredecessors n m es₀ map₀ nodes c k es map i
 
 abbrev μ-loop : tie.MeasureT-loop
 μ-loop es₀ m n heads nexts nodes c map₀ y k₀ i₀ es map k i = c - i

@@ -2,12 +2,12 @@
 use native.Mathlib.Omega.{arith}
 use Prim.Native.Nat.{_-_}
 use borrow.Author.Count.{below-more}
-use Rattle.merge_suffices.proofs.TestLaws.{Comparing, comparing-no, comparing-end}
+use Rattle.merge_suffices.proofs.TestLaws.{ComparingBytes, comparing-no, comparing-end}
 use Rattle.merge_suffices.proofs.same_part.Statement.{statement}
 use Rattle.merge_suffices.proofs.same_part.Tie as tie
 
 abbrev Inv-loop : tie.InvT-loop
-Inv-loop p a b n i₀ i = Comparing p a b n i
+Inv-loop p a b n i₀ i = ComparingBytes p a b n i
 
 abbrev μ-loop : tie.MeasureT-loop
 μ-loop p a b n i₀ i = n - i

@@ -1,12 +1,12 @@
 -- `orphans::mark_orphans` meets its contract. Assumes nothing.
 use native.Mathlib.Omega.{arith}
 use Prim.Native.Nat.{_-_}
-use Rattle.orphans.proofs.OrphanLaws.{Marking, marking-start, marking-yes, marking-no, marking-end}
+use Rattle.orphans.proofs.OrphanLaws.{MarkingOrphans, marking-start, marking-yes, marking-no, marking-end}
 use Rattle.orphans.proofs.mark_orphans.Statement.{statement}
 use Rattle.orphans.proofs.mark_orphans.Tie as tie
 
 abbrev Inv-loop : tie.InvT-loop
-Inv-loop es m n heads nexts map₀ v₀ map v = Marking m n es map₀ map v
+Inv-loop es m n heads nexts map₀ v₀ map v = MarkingOrphans m n es map₀ map v
 
 abbrev μ-loop : tie.MeasureT-loop
 μ-loop es m n heads nexts map₀ v₀ map v = n - v

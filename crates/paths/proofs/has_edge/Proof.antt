@@ -2,14 +2,14 @@
 use native.Mathlib.Omega.{arith}
 use mathlib.Core.Path.{_∙_}
 use Prim.Native.Nat.{_*_, _-_}
-use Rattle.index.specs.Index.{endOf}
-use Rattle.refs.proofs.RefLaws.{Seeking, seeking-start, seeking-more, seeking-found, seeking-end}
+use Rattle.index.specs.Index.{edgeEnd}
+use Rattle.refs.proofs.RefLaws.{SeekingReference, seeking-start, seeking-more, seeking-found, seeking-end}
 use Rattle.paths.proofs.StepLaws.{entersAt, any-ends, out-index, enters-yes, enters-no}
 use Rattle.paths.proofs.has_edge.Statement.{statement}
 use Rattle.paths.proofs.has_edge.Tie as tie
 
 abbrev Inv-loop : tie.InvT-loop
-Inv-loop es m n heads nexts u v e₀ e = Seeking (endOf 0 es) m u (entersAt es v) e
+Inv-loop es m n heads nexts u v e₀ e = SeekingReference (edgeEnd 0 es) m u (entersAt es v) e
 
 abbrev μ-loop : tie.MeasureT-loop
 μ-loop es m n heads nexts u v e₀ e = m - e

@@ -1,12 +1,12 @@
 -- `reach::clear_marks` meets its contract. Assumes nothing.
 use native.Mathlib.Omega.{arith}
 use Prim.Native.Nat.{_-_}
-use Rattle.reach.proofs.ReachLaws.{Clearing, clearing-start, clearing-more, clearing-end}
+use Rattle.reach.proofs.ReachLaws.{ClearingWalk, clearing-start, clearing-more, clearing-end}
 use Rattle.reach.proofs.clear_marks.Statement.{statement}
 use Rattle.reach.proofs.clear_marks.Tie as tie
 
 abbrev Inv-loop : tie.InvT-loop
-Inv-loop marks₀ n i₀ marks i = Clearing n marks₀ marks i
+Inv-loop marks₀ n i₀ marks i = ClearingWalk n marks₀ marks i
 
 abbrev μ-loop : tie.MeasureT-loop
 μ-loop marks₀ n i₀ marks i = n - i

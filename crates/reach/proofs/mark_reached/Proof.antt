@@ -3,12 +3,12 @@ use native.Mathlib.Omega.{arith}
 use mathlib.Core.Path.{_∙_}
 use Prim.Native.Nat.{_-_}
 use lib.ListN.{length-set}
-use Rattle.reach.proofs.ReachLaws.{Walking, found-most, walkable-kept, walking-start, walking-more, walking-end}
+use Rattle.reach.proofs.ReachLaws.{WalkingQueue, found-most, walkable-kept, walking-start, walking-more, walking-end}
 use Rattle.reach.proofs.mark_reached.Statement.{statement}
 use Rattle.reach.proofs.mark_reached.Tie as tie
 
 abbrev Inv-loop : tie.InvT-loop
-Inv-loop es m n heads nexts plain kind s marks₀ queue₀ tail₀ h₀ marks queue tail h = Walking plain kind m n es s marks₀ queue₀ marks queue tail h
+Inv-loop es m n heads nexts plain kind s marks₀ queue₀ tail₀ h₀ marks queue tail h = WalkingQueue plain kind m n es s marks₀ queue₀ marks queue tail h
 
 abbrev μ-loop : tie.MeasureT-loop
 μ-loop es m n heads nexts plain kind s marks₀ queue₀ tail₀ h₀ marks queue tail h = n - h

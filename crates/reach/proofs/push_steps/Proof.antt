@@ -6,7 +6,7 @@ use lib.ListN.{getD}
 use borrow.Author.Tests.{not-true, not-false}
 use Rattle.store.proofs.EdgeLaws.{set-is, set-not}
 use Rattle.reach.proofs.ReachLaws.{
-  Pushing,
+  PushingFound,
   found-most,
   pushing-start,
   pushing-later,
@@ -16,14 +16,14 @@ use Rattle.reach.proofs.ReachLaws.{
   pushing-seen,
   pushing-push,
   pushing-end,
-  pushed-none,
+  found-none,
 }
 use Rattle.reach.proofs.push_steps.Statement.{statement}
 use Rattle.reach.proofs.push_steps.Tie as tie
 
 abbrev Inv-loop : tie.InvT-loop
 Inv-loop es m n heads nexts plain kind off s h marks₀ queue₀ queued u tail₀ e₀ marks queue tail e =
-    Pushing plain kind off m n es s h u marks₀ queue₀ queued marks queue tail e
+    PushingFound plain kind off m n es s h u marks₀ queue₀ queued marks queue tail e
 
 abbrev μ-loop : tie.MeasureT-loop
 μ-loop es m n heads nexts plain kind off s h marks₀ queue₀ queued u tail₀ e₀ marks queue tail e = m - e
@@ -364,7 +364,7 @@ returns : tie.Need-returns Inv-loop μ-loop
 returns c =
     let at-takes-end : tie.After-takes-end Inv-loop μ-loop = search in
     let start : tie.Start Inv-loop μ-loop = search in
-    pushed-none (start .pre .1 .1 .1 .1) (sym (at-takes-end .takes-end .ensures) ∙ not-true _ (c .if1 .taken))
+    found-none (start .pre .1 .1 .1 .1) (sym (at-takes-end .takes-end .ensures) ∙ not-true _ (c .if1 .taken))
 
 may-pass-requires : tie.Need-may-pass-requires Inv-loop μ-loop
 may-pass-requires c κs = omega (arith, start-4 c .pre .1 .1 .0 .room, at-loop-test c .loop-test .taken)

@@ -5,7 +5,7 @@ use borrow.Author.Needs.{needs}
 use lib.ListN.{length, length-set}
 use mathlib.Core.Path.{_∙_}
 use Rattle.reference.proofs.WalkLaws.{
-  Walking,
+  WalkingPath,
   walking-start,
   walking-there,
   walking-stuck,
@@ -16,7 +16,7 @@ use Rattle.reference.proofs.reference_path.Statement.{statement}
 use Rattle.reference.proofs.reference_path.Tie as tie
 
 abbrev Inv-loop : tie.InvT-loop
-Inv-loop es m n heads nexts source sink nodes₀ v₀ c₀ nodes v c = Walking m n es source sink nodes₀ nodes v c
+Inv-loop es m n heads nexts source sink nodes₀ v₀ c₀ nodes v c = WalkingPath m n es source sink nodes₀ nodes v c
 
 abbrev μ-loop : tie.MeasureT-loop
 μ-loop es m n heads nexts source sink nodes₀ v₀ c₀ nodes v c = n - c

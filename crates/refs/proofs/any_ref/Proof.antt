@@ -3,14 +3,14 @@ use native.Mathlib.Omega.{arith}
 use Rattle.refs.proofs.RefLaws.{set-yes, set-no}
 use Prim.Native.Nat.{_+_, _*_, _-_}
 use borrow.Author.Tests.{eq-eqb, ne-eqb}
-use Rattle.index.specs.Index.{endOf}
+use Rattle.index.specs.Index.{edgeEnd}
 use Rattle.refs.specs.Refs.{refAt}
-use Rattle.refs.proofs.RefLaws.{Seeking, seeking-start, seeking-more, seeking-found, seeking-end}
+use Rattle.refs.proofs.RefLaws.{SeekingReference, seeking-start, seeking-more, seeking-found, seeking-end}
 use Rattle.refs.proofs.any_ref.Statement.{statement}
 use Rattle.refs.proofs.any_ref.Tie as tie
 
 abbrev Inv-loop : tie.InvT-loop
-Inv-loop es m n heads nexts off v e₀ e = Seeking (endOf off es) m v (refAt es) e
+Inv-loop es m n heads nexts off v e₀ e = SeekingReference (edgeEnd off es) m v (refAt es) e
 
 abbrev μ-loop : tie.MeasureT-loop
 μ-loop es m n heads nexts off v e₀ e = m - e

@@ -5,7 +5,7 @@ use Rattle.rewriting.proofs.clean_up.Statement.{statement}
 use Rattle.rewriting.proofs.clean_up.Tie as tie
 use Rattle.rewriting.proofs.clean_up.Reads as reads
 use Rattle.rewriting.proofs.clean_up.Lts as lts
-use Rattle.cleanup.proofs.cleanup_seq_graph.Reads as cleanup-seq-graph-reads
+use Rattle.cleanup_steps.proofs.cleanup_seq_graph.Reads as cleanup-seq-graph-reads
 use Rattle.rewriting.proofs.status_number.Reads as status-number-reads
 
 returns : tie.Need-returns

@@ -1,8 +1,8 @@
 -- `rewriting::status_number` meets its contract. Assumes nothing.
 use mathlib.Core.Path.{sym, ap}
 use Rattle.defs.specs.Cleanup.{statusNumber}
-use Rattle.cleanup.specs.CleanUp.{cleanupStatusOf}
-use Rattle.cleanup.specs.declared.SeqGraphCleanupStatus.{SeqGraphCleanupStatus}
+use Rattle.cleanup_steps.specs.CleanUp.{cleanupStatusOf}
+use Rattle.cleanup_steps.specs.declared.SeqGraphCleanupStatus.{SeqGraphCleanupStatus}
 use borrow.Author.Needs.{needs}
 use Rattle.rewriting.proofs.status_number.Statement.{statement}
 use Rattle.rewriting.proofs.status_number.Tie as tie

@@ -17,7 +17,7 @@ use Rattle.rounds.proofs.simplify_graph_full.Reads as reads
 use Rattle.rounds.proofs.simplify_graph_full.Lts as lts
 use Rattle.index.proofs.build_index.Reads as build-index-reads
 use Rattle.rounds.proofs.simplify_rounds.Reads as simplify-rounds-reads
-use Rattle.zips.proofs.zip_linear_chains.Reads as zip-linear-chains-reads
+use Rattle.zip_linear_chains.proofs.zip_linear_chains.Reads as zip-linear-chains-reads
 
 build-index-requires : tie.Need-build-index-requires
 build-index-requires c κs =

@@ -13,7 +13,7 @@ use Rattle.rounds.proofs.simplify_graph_once.Reads as reads
 use Rattle.rounds.proofs.simplify_graph_once.Lts as lts
 use Rattle.splits.proofs.split_until_complete.Reads as split-until-complete-reads
 use Rattle.until.proofs.transform_until_complete.Reads as transform-until-complete-reads
-use Rattle.zips.proofs.zip_linear_chains.Reads as zip-linear-chains-reads
+use Rattle.zip_linear_chains.proofs.zip_linear_chains.Reads as zip-linear-chains-reads
 
 transform-until-complete-requires : tie.Need-transform-until-complete-requires
 transform-until-complete-requires c κs = (

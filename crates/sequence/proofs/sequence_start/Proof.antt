@@ -1,13 +1,13 @@
 -- `sequence::sequence_start` meets its contract. Assumes nothing.
 use Prim.Native.Nat.{_-_}
 use Rattle.record.proofs.Sequences.{length-is, sequence-inside}
-use Rattle.sequence.proofs.Starts.{Adding, adding-start, adding-more, adding-fits, adding-end}
+use Rattle.sequence.proofs.Starts.{AddingLengths, adding-start, adding-more, adding-fits, adding-end}
 use native.Mathlib.Omega.{arith}
 use Rattle.sequence.proofs.sequence_start.Statement.{statement}
 use Rattle.sequence.proofs.sequence_start.Tie as tie
 
 abbrev Inv-loop : tie.InvT-loop
-Inv-loop rec v at₀ i₀ at i = Adding rec v i at
+Inv-loop rec v at₀ i₀ at i = AddingLengths rec v i at
 
 abbrev μ-loop : tie.MeasureT-loop
 μ-loop rec v at₀ i₀ at i = v - i

@@ -2,12 +2,12 @@
 use native.Mathlib.Omega.{arith}
 use Prim.Native.Nat.{_-_}
 use lib.ListN.{length}
-use Rattle.signature.proofs.SignLaws.{Bytes, bytes-start, bytes-more, bytes-at, bytes-end}
+use Rattle.signature.proofs.SignLaws.{SequenceBytes, bytes-start, bytes-more, bytes-at, bytes-end}
 use Rattle.signature.proofs.put_bytes.Statement.{statement}
 use Rattle.signature.proofs.put_bytes.Tie as tie
 
 abbrev Inv-loop : tie.InvT-loop
-Inv-loop sig₀ old seq t₀ i₀ sig t i = Bytes sig₀ old t₀ seq sig t i
+Inv-loop sig₀ old seq t₀ i₀ sig t i = SequenceBytes sig₀ old t₀ seq sig t i
 
 abbrev μ-loop : tie.MeasureT-loop
 μ-loop sig₀ old seq t₀ i₀ sig t i = length seq - i

@@ -1,12 +1,12 @@
 -- `spell::spelled_len` meets its contract. Assumes nothing.
 use native.Mathlib.Omega.{arith}
 use Prim.Native.Nat.{_-_}
-use Rattle.spell.proofs.SpellLaws.{Adding, adding-start, adding-small, adding-more, adding-end}
+use Rattle.spell.proofs.SpellLaws.{AddingNodes, adding-start, adding-small, adding-more, adding-end}
 use Rattle.spell.proofs.spelled_len.Statement.{statement}
 use Rattle.spell.proofs.spelled_len.Tie as tie
 
 abbrev Inv-loop : tie.InvT-loop
-Inv-loop vs p nodes c len₀ i₀ len i = Adding vs nodes c len i
+Inv-loop vs p nodes c len₀ i₀ len i = AddingNodes vs nodes c len i
 
 abbrev μ-loop : tie.MeasureT-loop
 μ-loop vs p nodes c len₀ i₀ len i = c - i

@@ -4,7 +4,7 @@ use mathlib.Core.Path.{ap, _∙_}
 use Prim.Native.Nat.{ℕ, _-_}
 use lib.Dec.{ltb}
 use Rattle.split_suffix.proofs.EdgeLoops.{
-  Adding,
+  AddingEdges,
   adding-start,
   adding-block,
   adding-more,
@@ -17,7 +17,7 @@ use Rattle.split_suffix.proofs.add_edges.Statement.{statement}
 use Rattle.split_suffix.proofs.add_edges.Tie as tie
 
 abbrev Inv-loop : tie.InvT-loop
-Inv-loop es₀ m n heads nexts vs nodes c s bottom map₀ y₀ k₀ i₀ es map y k i = Adding m n s es₀ map₀ heads vs nodes c bottom y k es map i
+Inv-loop es₀ m n heads nexts vs nodes c s bottom map₀ y₀ k₀ i₀ es map y k i = AddingEdges m n s es₀ map₀ heads vs nodes c bottom y k es map i
 
 abbrev μ-loop : tie.MeasureT-loop
 μ-loop es₀ m n heads nexts vs nodes c s bottom map₀ y₀ k₀ i₀ es map y k i = c - i

@@ -2,12 +2,12 @@
 use native.Mathlib.Omega.{arith}
 use Prim.Native.Nat.{_-_}
 use borrow.Author.Count.{below-more}
-use Rattle.split_tests.proofs.TestLaws.{Seeking, seeking-found, seeking-end, source-no}
+use Rattle.split_tests.proofs.TestLaws.{SeekingSource, seeking-found, seeking-end, source-no}
 use Rattle.split_tests.proofs.would_eliminate_ref_source.Statement.{statement}
 use Rattle.split_tests.proofs.would_eliminate_ref_source.Tie as tie
 
 abbrev Inv-loop : tie.InvT-loop
-Inv-loop es m n heads nexts vs nodes c s i₀ i = Seeking n m es nodes c i
+Inv-loop es m n heads nexts vs nodes c s i₀ i = SeekingSource n m es nodes c i
 
 abbrev μ-loop : tie.MeasureT-loop
 μ-loop es m n heads nexts vs nodes c s i₀ i = c - i

@@ -3,12 +3,12 @@ use native.Mathlib.Omega.{arith}
 use Prim.Native.Nat.{_-_}
 use mathlib.Core.Path.{refl}
 use Rattle.refs.proofs.RefLaws.{set-yes, set-no}
-use Rattle.splits.proofs.MarkLaws.{Moving, moving-start, moving-yes, moving-no, moving-end}
+use Rattle.splits.proofs.MarkLaws.{MovingMarks, moving-start, moving-yes, moving-no, moving-end}
 use Rattle.splits.proofs.move_marks.Statement.{statement}
 use Rattle.splits.proofs.move_marks.Tie as tie
 
 abbrev Inv-loop : tie.InvT-loop
-Inv-loop tried₀ n map j₀ v₀ tried j v = Moving tried₀ n map tried j v
+Inv-loop tried₀ n map j₀ v₀ tried j v = MovingMarks tried₀ n map tried j v
 
 abbrev μ-loop : tie.MeasureT-loop
 μ-loop tried₀ n map j₀ v₀ tried j v = n - v

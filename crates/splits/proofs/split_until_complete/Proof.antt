@@ -8,7 +8,7 @@ use Rattle.memory.specs.Memory.{vertexRoom}
 use Rattle.memory.proofs.RoomLaws.{held-vertices}
 use Rattle.splits.proofs.SplitLaws.{
   none-marked,
-  Doing,
+  SplittingRound,
   doing-start,
   doing-end,
   doing-countable,
@@ -21,7 +21,7 @@ use Rattle.splits.proofs.split_until_complete.Tie as tie
 
 abbrev Inv-loop : tie.InvT-loop
 Inv-loop es₀ vs₀ p heads₀ nexts₀ nodes₀ map₀ tried₀ w₀ es vs heads nexts nodes map tried w =
-    Doing w₀ es₀ vs₀ p heads₀ w es vs heads nexts nodes map tried
+    SplittingRound w₀ es₀ vs₀ p heads₀ w es vs heads nexts nodes map tried
     ×
     ((length es ≡ length es₀) ×
     ((length vs ≡ length vs₀) × ((length heads ≡ length heads₀) × ((length nexts ≡ length nexts₀) ×

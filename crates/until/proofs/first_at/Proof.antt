@@ -7,10 +7,10 @@ use Rattle.memory.specs.Memory.{graphOf}
 use Rattle.memory.proofs.RoomLaws.{held-vertices}
 use Rattle.until.specs.Until.{rewriteOf}
 use Rattle.until.proofs.UntilLaws.{
-  kindOf,
+  kindWithNumber,
   kind-number,
   left-of-kind,
-  Scanning,
+  ScanningVertices,
   scanning-start,
   scanning-more,
   scanning-found,
@@ -23,7 +23,7 @@ use Rattle.until.proofs.first_at.Tie as tie
 
 abbrev Inv-loop : tie.InvT-loop
 Inv-loop kind least held es₀ vs₀ p₀ heads nexts nodes₀ map₀ n v₀ es vs p nodes map v =
-    Scanning (rewriteOf (kindOf kind) least (graphOf held es₀ vs₀ p₀)) n es₀ vs₀ p₀ nodes₀ map₀ es vs p nodes map v
+    ScanningVertices (rewriteOf (kindWithNumber kind) least (graphOf held es₀ vs₀ p₀)) n es₀ vs₀ p₀ nodes₀ map₀ es vs p nodes map v
 
 abbrev μ-loop : tie.MeasureT-loop
 μ-loop kind least held es₀ vs₀ p₀ heads nexts nodes₀ map₀ n v₀ es vs p nodes map v = n - v
@@ -32,7 +32,7 @@ try-rewrite-requires : tie.Need-try-rewrite-requires Inv-loop μ-loop
 try-rewrite-requires c κs = (
   start .pre .0,
   (
-    scan-ready (kindOf (start .args .kind)) (start .args .least) (at-loop .loop .inv) (start .pre .1),
+    scan-ready (kindWithNumber (start .args .kind)) (start .args .least) (at-loop .loop .inv) (start .pre .1),
     at-loop-test .loop-test .taken,
   ),
 )
@@ -80,8 +80,8 @@ returns : tie.Need-returns Inv-loop μ-loop
 returns c =
     left-of-kind _
     (scanning-found (at-loop .loop .inv) (at-loop-test .loop-test .taken)
-    (scan-left (kindOf (start .args .kind)) (start .args .least) (at-loop .loop .inv)
-    (at-try-rewrite .try-rewrite .ensures (kindOf (start .args .kind)) (kind-number _ (start .pre .0))))
+    (scan-left (kindWithNumber (start .args .kind)) (start .args .least) (at-loop .loop .inv)
+    (at-try-rewrite .try-rewrite .ensures (kindWithNumber (start .args .kind)) (kind-number _ (start .pre .0))))
     (c .if1 .taken))
   where
     at-try-rewrite : tie.After-try-rewrite Inv-loop μ-loop
@@ -117,8 +117,8 @@ loop-again c =
     scanning-more
     (at-loop .loop .inv)
     (at-loop-test .loop-test .taken)
-    (scan-left (kindOf (start .args .kind)) (start .args .least) (at-loop .loop .inv)
-    (at-try-rewrite .try-rewrite .ensures (kindOf (start .args .kind)) (kind-number _ (start .pre .0))))
+    (scan-left (kindWithNumber (start .args .kind)) (start .args .least) (at-loop .loop .inv)
+    (at-try-rewrite .try-rewrite .ensures (kindWithNumber (start .args .kind)) (kind-number _ (start .pre .0))))
     (c .if1 .left)
     (at-try-rewrite .try-rewrite .kept .1 .1 .1 .1 .1 .1 .1 .1 .0)
     (at-try-rewrite .try-rewrite .kept .1 .1 .1 .1 .1 .1 .1 .1 .1 .0)

@@ -5,10 +5,10 @@ use borrow.Author.Tests.{not-true, not-false}
 use lib.ListN.{length}
 use Rattle.memory.specs.Memory.{graphOf}
 use Rattle.until.proofs.UntilLaws.{
-  kindOf,
+  kindWithNumber,
   kind-number,
   measureOf,
-  Doing,
+  Transforming,
   doing-start,
   doing-end,
   doing-countable,
@@ -21,14 +21,14 @@ use Rattle.until.proofs.transform_until_complete.Tie as tie
 
 abbrev Inv-loop : tie.InvT-loop
 Inv-loop kind least es₀ vs₀ p₀ heads₀ nexts₀ nodes₀ map₀ w₀ es vs p heads nexts nodes map w =
-    Doing (kindOf kind) least w₀ es₀ vs₀ p₀ heads₀ w es vs p heads nexts nodes map
+    Transforming (kindWithNumber kind) least w₀ es₀ vs₀ p₀ heads₀ w es vs p heads nexts nodes map
     ×
     ((length es ≡ length es₀) × ((length vs ≡ length vs₀) × ((length p ≡ length p₀) × ((length heads ≡ length heads₀) ×
     ((length nexts ≡ length nexts₀) × ((length nodes ≡ length nodes₀) × (length map ≡ length map₀)))))))
 
 abbrev μ-loop : tie.MeasureT-loop
 μ-loop kind least es₀ vs₀ p₀ heads₀ nexts₀ nodes₀ map₀ w₀ es vs p heads nexts nodes map w =
-    measureOf (kindOf kind) (graphOf (w .held) es vs p)
+    measureOf (kindWithNumber kind) (graphOf (w .held) es vs p)
 
 same-length : tie.Need-same-length Inv-loop μ-loop
 same-length c =
@@ -74,7 +74,7 @@ returns c =
     let start : tie.Start Inv-loop μ-loop = search in
     doing-end
     (at-loop .loop .inv .0)
-    (at-first-at .first-at .ensures (kindOf (start .args .kind)) (kind-number _ (start .pre .0)))
+    (at-first-at .first-at .ensures (kindWithNumber (start .args .kind)) (kind-number _ (start .pre .0)))
     (start .args .kind) refl
     (not-true _ (c .if1 .taken))
     (at-first-at .first-at .kept .1 .1 .1 .1 .1 .1 .1 .1 .0)
@@ -84,7 +84,7 @@ build-index-requires : tie.Need-build-index-requires Inv-loop μ-loop
 build-index-requires c κs =
     doing-indexable
     (at-loop .loop .inv .0)
-    (at-first-at .first-at .ensures (kindOf (start .args .kind)) (kind-number _ (start .pre .0)))
+    (at-first-at .first-at .ensures (kindWithNumber (start .args .kind)) (kind-number _ (start .pre .0)))
     (not-false _ (at-if1 .if1 .left))
     (at-first-at .first-at .kept .1 .1 .1 .0)
   where
@@ -121,18 +121,18 @@ add-t37 c =
     omega (
       arith,
       doing-countable (at-loop-2 c .loop .inv .0)
-          (at-first-at c .first-at .ensures (kindOf (start c .args .kind)) (kind-number _ (start c .pre .0)))
+          (at-first-at c .first-at .ensures (kindWithNumber (start c .args .kind)) (kind-number _ (start c .pre .0)))
           (not-false _ (at-if1 c .if1 .left)) (start c .pre .1 .1),
     )
 
 loop-less : tie.Need-loop-less Inv-loop μ-loop
-loop-less c = doing-less (at-loop-2 c .loop .inv .0) (at-first-at c .first-at .ensures (kindOf (start c .args .kind))
+loop-less c = doing-less (at-loop-2 c .loop .inv .0) (at-first-at c .first-at .ensures (kindWithNumber (start c .args .kind))
     (kind-number _ (start c .pre .0))) (not-false _ (at-if1 c .if1 .left))
 
 loop-again : tie.Need-loop-again Inv-loop μ-loop
 loop-again c = (
   doing-more (at-loop-2 c .loop .inv .0)
-      (at-first-at c .first-at .ensures (kindOf (start c .args .kind)) (kind-number _ (start c .pre .0)))
+      (at-first-at c .first-at .ensures (kindWithNumber (start c .args .kind)) (kind-number _ (start c .pre .0)))
       (not-false _ (at-if1 c .if1 .left)) (at-build-index c .build-index .ensures)
       (at-first-at c .first-at .kept .1 .1 .1 .0) (at-first-at c .first-at .kept .1 .1 .1 .1 .0)
       (at-first-at c .first-at .kept .1 .1 .1 .1 .1 .0) (at-build-index c .build-index .kept .1 .1 .1 .0)
