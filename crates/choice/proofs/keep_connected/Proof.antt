@@ -44,61 +44,42 @@ remove-vertices-not-connected-to-ref-requires c κs = (
     start : tie.Start
     start = let c = at-rsov in let c : tie.After-slice-known = search in search
 
+module _ (c : tie.After-slice-known17) where
+  abbrev at-rvnctr : tie.After-remove-vertices-not-connected-to-ref
+  at-rvnctr = search
+
+  abbrev at-rsov : tie.After-remove-singleton-orphan-vertices
+  at-rsov = let c = at-rvnctr in let c : tie.After-build-index = search in search
+
+  abbrev at-build-index : tie.After-build-index
+  at-build-index = let c : tie.After-remove-vertices-not-connected-to-ref = search in search
+
 same-length : tie.Need-same-length
 same-length c =
-    at-rvnctr .remove-vertices-not-connected-to-ref .kept .1 .0 ∙ at-rsov .remove-singleton-orphan-vertices .kept .1 .0
-  where
-    at-rvnctr : tie.After-remove-vertices-not-connected-to-ref
-    at-rvnctr = search
-
-    at-rsov : tie.After-remove-singleton-orphan-vertices
-    at-rsov = let c = at-rvnctr in let c : tie.After-build-index = search in search
+    at-rvnctr c .remove-vertices-not-connected-to-ref .kept .1 .0
+    ∙ at-rsov c .remove-singleton-orphan-vertices .kept .1 .0
 
 same-length-2 : tie.Need-same-length-2
 same-length-2 c =
-    at-rvnctr .remove-vertices-not-connected-to-ref .kept .1 .1 .0
-    ∙ at-rsov .remove-singleton-orphan-vertices .kept .1 .1 .0
-  where
-    at-rvnctr : tie.After-remove-vertices-not-connected-to-ref
-    at-rvnctr = search
-
-    at-rsov : tie.After-remove-singleton-orphan-vertices
-    at-rsov = let c = at-rvnctr in let c : tie.After-build-index = search in search
+    at-rvnctr c .remove-vertices-not-connected-to-ref .kept .1 .1 .0
+    ∙ at-rsov c .remove-singleton-orphan-vertices .kept .1 .1 .0
 
 same-length-3 : tie.Need-same-length-3
-same-length-3 c = at-build-index .build-index .kept .1 .1 .1 .0
-  where
-    at-build-index : tie.After-build-index
-    at-build-index = let c : tie.After-remove-vertices-not-connected-to-ref = search in search
+same-length-3 c = at-build-index c .build-index .kept .1 .1 .1 .0
 
 same-length-4 : tie.Need-same-length-4
-same-length-4 c = at-build-index .build-index .kept .1 .1 .1 .1 .0
-  where
-    at-build-index : tie.After-build-index
-    at-build-index = let c : tie.After-remove-vertices-not-connected-to-ref = search in search
+same-length-4 c = at-build-index c .build-index .kept .1 .1 .1 .1 .0
 
 same-length-6 : tie.Need-same-length-6
 same-length-6 c =
-    at-rvnctr .remove-vertices-not-connected-to-ref .kept .1 .1 .1 .1 .1 .1 .0
-    ∙ at-rsov .remove-singleton-orphan-vertices .kept .1 .1 .1 .1 .1 .0
-  where
-    at-rvnctr : tie.After-remove-vertices-not-connected-to-ref
-    at-rvnctr = search
-
-    at-rsov : tie.After-remove-singleton-orphan-vertices
-    at-rsov = let c = at-rvnctr in let c : tie.After-build-index = search in search
+    at-rvnctr c .remove-vertices-not-connected-to-ref .kept .1 .1 .1 .1 .1 .1 .0
+    ∙ at-rsov c .remove-singleton-orphan-vertices .kept .1 .1 .1 .1 .1 .0
 
 returns : tie.Need-returns
 returns c =
     reduced-then
-    (at-rsov .remove-singleton-orphan-vertices .ensures)
-    (at-rvnctr .remove-vertices-not-connected-to-ref .ensures)
-  where
-    at-rvnctr : tie.After-remove-vertices-not-connected-to-ref
-    at-rvnctr = search
-
-    at-rsov : tie.After-remove-singleton-orphan-vertices
-    at-rsov = let c = at-rvnctr in let c : tie.After-build-index = search in search
+    (at-rsov c .remove-singleton-orphan-vertices .ensures)
+    (at-rvnctr c .remove-vertices-not-connected-to-ref .ensures)
 
 same-length-5 : tie.Need-same-length-5
 same-length-5 c =

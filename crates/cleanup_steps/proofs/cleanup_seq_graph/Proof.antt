@@ -58,183 +58,71 @@ after-choice-requires c κs = (
     start : tie.Start
     start = let c = at-before-choice in let c : tie.After-slice-known9 = search in search
 
-same-length : tie.Need-same-length
-same-length c = at-after-choice .after-choice .kept .1 .1 .1 .0 ∙ at-before-choice .before-choice .kept .1 .0
-  where
-    at-after-choice : tie.After-after-choice
-    at-after-choice = let c : tie.After-nexts3 = search in search
+module _ (c : tie.After-slice-known32) where
+  abbrev at-after-choice : tie.After-after-choice
+  at-after-choice = let c : tie.After-nexts3 = search in search
 
-    at-before-choice : tie.After-before-choice
-    at-before-choice =
-        let c = at-after-choice in
-        let c : tie.After-reference-sink-vertex = search in
-        let c : tie.After-build-index = search in
-        let c : tie.After-map = search in
-        let c : tie.After-es = search in
-        search
+  abbrev at-build-index : tie.After-build-index
+  at-build-index = let c = at-after-choice in let c : tie.After-reference-sink-vertex = search in search
+
+  abbrev at-before-choice : tie.After-before-choice
+  at-before-choice = let c = at-build-index in let c : tie.After-map = search in let c : tie.After-es = search in search
+
+same-length : tie.Need-same-length
+same-length c = at-after-choice c .after-choice .kept .1 .1 .1 .0 ∙ at-before-choice c .before-choice .kept .1 .0
 
 same-length-2 : tie.Need-same-length-2
-same-length-2 c = at-after-choice .after-choice .kept .1 .1 .1 .1 .0 ∙ at-before-choice .before-choice .kept .1 .1 .0
-  where
-    at-after-choice : tie.After-after-choice
-    at-after-choice = let c : tie.After-nexts3 = search in search
-
-    at-before-choice : tie.After-before-choice
-    at-before-choice =
-        let c = at-after-choice in
-        let c : tie.After-reference-sink-vertex = search in
-        let c : tie.After-build-index = search in
-        let c : tie.After-map = search in
-        let c : tie.After-es = search in
-        search
+same-length-2 c =
+    at-after-choice c .after-choice .kept .1 .1 .1 .1 .0 ∙ at-before-choice c .before-choice .kept .1 .1 .0
 
 same-length-3 : tie.Need-same-length-3
 same-length-3 c =
-    at-after-choice .after-choice .kept .1 .1 .1 .1 .1 .0 ∙ at-before-choice .before-choice .kept .1 .1 .1 .0
-  where
-    at-after-choice : tie.After-after-choice
-    at-after-choice = let c : tie.After-nexts3 = search in search
-
-    at-before-choice : tie.After-before-choice
-    at-before-choice =
-        let c = at-after-choice in
-        let c : tie.After-reference-sink-vertex = search in
-        let c : tie.After-build-index = search in
-        let c : tie.After-map = search in
-        let c : tie.After-es = search in
-        search
+    at-after-choice c .after-choice .kept .1 .1 .1 .1 .1 .0 ∙ at-before-choice c .before-choice .kept .1 .1 .1 .0
 
 same-length-4 : tie.Need-same-length-4
 same-length-4 c =
-    at-after-choice .after-choice .kept .1 .1 .1 .1 .1 .1 .0
-    ∙ at-build-index .build-index .kept .1 .1 .1 .0
-    ∙ at-before-choice .before-choice .kept .1 .1 .1 .1 .0
-  where
-    at-after-choice : tie.After-after-choice
-    at-after-choice = let c : tie.After-nexts3 = search in search
-
-    at-build-index : tie.After-build-index
-    at-build-index = let c = at-after-choice in let c : tie.After-reference-sink-vertex = search in search
-
-    at-before-choice : tie.After-before-choice
-    at-before-choice = let c = at-build-index in let c : tie.After-map = search in let c : tie.After-es = search in search
+    at-after-choice c .after-choice .kept .1 .1 .1 .1 .1 .1 .0
+    ∙ at-build-index c .build-index .kept .1 .1 .1 .0
+    ∙ at-before-choice c .before-choice .kept .1 .1 .1 .1 .0
 
 same-length-5 : tie.Need-same-length-5
 same-length-5 c =
-    at-after-choice .after-choice .kept .1 .1 .1 .1 .1 .1 .1 .0
-    ∙ at-build-index .build-index .kept .1 .1 .1 .1 .0
-    ∙ at-before-choice .before-choice .kept .1 .1 .1 .1 .1 .0
-  where
-    at-after-choice : tie.After-after-choice
-    at-after-choice = let c : tie.After-nexts3 = search in search
-
-    at-build-index : tie.After-build-index
-    at-build-index = let c = at-after-choice in let c : tie.After-reference-sink-vertex = search in search
-
-    at-before-choice : tie.After-before-choice
-    at-before-choice = let c = at-build-index in let c : tie.After-map = search in let c : tie.After-es = search in search
+    at-after-choice c .after-choice .kept .1 .1 .1 .1 .1 .1 .1 .0
+    ∙ at-build-index c .build-index .kept .1 .1 .1 .1 .0
+    ∙ at-before-choice c .before-choice .kept .1 .1 .1 .1 .1 .0
 
 same-length-6 : tie.Need-same-length-6
 same-length-6 c =
-    at-after-choice .after-choice .kept .1 .1 .1 .1 .1 .1 .1 .1 .0
-    ∙ at-before-choice .before-choice .kept .1 .1 .1 .1 .1 .1 .0
-  where
-    at-after-choice : tie.After-after-choice
-    at-after-choice = let c : tie.After-nexts3 = search in search
-
-    at-before-choice : tie.After-before-choice
-    at-before-choice =
-        let c = at-after-choice in
-        let c : tie.After-reference-sink-vertex = search in
-        let c : tie.After-build-index = search in
-        let c : tie.After-map = search in
-        let c : tie.After-es = search in
-        search
+    at-after-choice c .after-choice .kept .1 .1 .1 .1 .1 .1 .1 .1 .0
+    ∙ at-before-choice c .before-choice .kept .1 .1 .1 .1 .1 .1 .0
 
 same-length-7 : tie.Need-same-length-7
 same-length-7 c =
-    at-after-choice .after-choice .kept .1 .1 .1 .1 .1 .1 .1 .1 .1 .0
-    ∙ at-before-choice .before-choice .kept .1 .1 .1 .1 .1 .1 .1 .0
-  where
-    at-after-choice : tie.After-after-choice
-    at-after-choice = let c : tie.After-nexts3 = search in search
-
-    at-before-choice : tie.After-before-choice
-    at-before-choice =
-        let c = at-after-choice in
-        let c : tie.After-reference-sink-vertex = search in
-        let c : tie.After-build-index = search in
-        let c : tie.After-map = search in
-        let c : tie.After-es = search in
-        search
+    at-after-choice c .after-choice .kept .1 .1 .1 .1 .1 .1 .1 .1 .1 .0
+    ∙ at-before-choice c .before-choice .kept .1 .1 .1 .1 .1 .1 .1 .0
 
 same-length-8 : tie.Need-same-length-8
 same-length-8 c =
-    at-after-choice .after-choice .kept .1 .1 .1 .1 .1 .1 .1 .1 .1 .1 .0
-    ∙ at-before-choice .before-choice .kept .1 .1 .1 .1 .1 .1 .1 .1 .0
-  where
-    at-after-choice : tie.After-after-choice
-    at-after-choice = let c : tie.After-nexts3 = search in search
-
-    at-before-choice : tie.After-before-choice
-    at-before-choice =
-        let c = at-after-choice in
-        let c : tie.After-reference-sink-vertex = search in
-        let c : tie.After-build-index = search in
-        let c : tie.After-map = search in
-        let c : tie.After-es = search in
-        search
+    at-after-choice c .after-choice .kept .1 .1 .1 .1 .1 .1 .1 .1 .1 .1 .0
+    ∙ at-before-choice c .before-choice .kept .1 .1 .1 .1 .1 .1 .1 .1 .0
 
 same-length-9 : tie.Need-same-length-9
 same-length-9 c =
-    at-after-choice .after-choice .kept .1 .1 .1 .1 .1 .1 .1 .1 .1 .1 .1 .0
-    ∙ at-before-choice .before-choice .kept .1 .1 .1 .1 .1 .1 .1 .1 .1 .0
-  where
-    at-after-choice : tie.After-after-choice
-    at-after-choice = let c : tie.After-nexts3 = search in search
-
-    at-before-choice : tie.After-before-choice
-    at-before-choice =
-        let c = at-after-choice in
-        let c : tie.After-reference-sink-vertex = search in
-        let c : tie.After-build-index = search in
-        let c : tie.After-map = search in
-        let c : tie.After-es = search in
-        search
+    at-after-choice c .after-choice .kept .1 .1 .1 .1 .1 .1 .1 .1 .1 .1 .1 .0
+    ∙ at-before-choice c .before-choice .kept .1 .1 .1 .1 .1 .1 .1 .1 .1 .0
 
 same-length-10 : tie.Need-same-length-10
 same-length-10 c =
-    at-after-choice .after-choice .kept .1 .1 .1 .1 .1 .1 .1 .1 .1 .1 .1 .1 .0
-    ∙ at-before-choice .before-choice .kept .1 .1 .1 .1 .1 .1 .1 .1 .1 .1 .0
-  where
-    at-after-choice : tie.After-after-choice
-    at-after-choice = let c : tie.After-nexts3 = search in search
-
-    at-before-choice : tie.After-before-choice
-    at-before-choice =
-        let c = at-after-choice in
-        let c : tie.After-reference-sink-vertex = search in
-        let c : tie.After-build-index = search in
-        let c : tie.After-map = search in
-        let c : tie.After-es = search in
-        search
+    at-after-choice c .after-choice .kept .1 .1 .1 .1 .1 .1 .1 .1 .1 .1 .1 .1 .0
+    ∙ at-before-choice c .before-choice .kept .1 .1 .1 .1 .1 .1 .1 .1 .1 .1 .0
 
 returns : tie.Need-returns
 returns c =
     cleaned-up
-    (at-before-choice .before-choice .ensures)
-    (at-after-choice .after-choice .ensures)
-    (at-build-index .build-index .kept .1 .1 .1 .0 ∙ at-before-choice .before-choice .kept .1 .1 .1 .1 .0)
-    (at-build-index .build-index .kept .1 .1 .1 .1 .0 ∙ at-before-choice .before-choice .kept .1 .1 .1 .1 .1 .0)
-  where
-    at-after-choice : tie.After-after-choice
-    at-after-choice = let c : tie.After-nexts3 = search in search
-
-    at-build-index : tie.After-build-index
-    at-build-index = let c = at-after-choice in let c : tie.After-reference-sink-vertex = search in search
-
-    at-before-choice : tie.After-before-choice
-    at-before-choice = let c = at-build-index in let c : tie.After-map = search in let c : tie.After-es = search in search
+    (at-before-choice c .before-choice .ensures)
+    (at-after-choice c .after-choice .ensures)
+    (at-build-index c .build-index .kept .1 .1 .1 .0 ∙ at-before-choice c .before-choice .kept .1 .1 .1 .1 .0)
+    (at-build-index c .build-index .kept .1 .1 .1 .1 .0 ∙ at-before-choice c .before-choice .kept .1 .1 .1 .1 .1 .0)
 
 pub cleanup-seq-graph-spec : {M : Type 1} → statement M
 cleanup-seq-graph-spec =

@@ -71,69 +71,46 @@ remove-marked-requires c κs =
     start : tie.Start
     start = let c = at-fill in search
 
+module _ (c : tie.After-slice-known15) where
+  abbrev at-remove-marked : tie.After-remove-marked
+  at-remove-marked = search
+
+  abbrev at-mark-unreached2 : tie.After-mark-unreached2
+  at-mark-unreached2 = let c = at-remove-marked in search
+
+  abbrev at-mark-unreached : tie.After-mark-unreached
+  at-mark-unreached = let c = at-mark-unreached2 in search
+
+  abbrev at-fill : tie.After-fill
+  at-fill = let c = at-mark-unreached in search
+
+  abbrev start : tie.Start
+  start = let c = at-fill in search
+
 same-length-3 : tie.Need-same-length-3
 same-length-3 c =
-    at-mark-unreached2 .mark-unreached2 .kept .1 .1 .1 .1 .1 .1 .1 .0
-    ∙ at-mark-unreached .mark-unreached .kept .1 .1 .1 .1 .1 .1 .1 .0
-  where
-    at-mark-unreached2 : tie.After-mark-unreached2
-    at-mark-unreached2 = let c : tie.After-tried2 = search in search
-
-    at-mark-unreached : tie.After-mark-unreached
-    at-mark-unreached = let c = at-mark-unreached2 in search
+    at-mark-unreached2 c .mark-unreached2 .kept .1 .1 .1 .1 .1 .1 .1 .0
+    ∙ at-mark-unreached c .mark-unreached .kept .1 .1 .1 .1 .1 .1 .1 .0
 
 same-length-4 : tie.Need-same-length-4
 same-length-4 c =
-    at-remove-marked .remove-marked .kept .1 .1 .1 .0
-    ∙ at-mark-unreached2 .mark-unreached2 .kept .1 .1 .1 .1 .1 .1 .1 .1 .0
-    ∙ at-mark-unreached .mark-unreached .kept .1 .1 .1 .1 .1 .1 .1 .1 .0
-    ∙ at-fill .fill .kept .0
-  where
-    at-remove-marked : tie.After-remove-marked
-    at-remove-marked = search
-
-    at-mark-unreached2 : tie.After-mark-unreached2
-    at-mark-unreached2 = let c = at-remove-marked in search
-
-    at-mark-unreached : tie.After-mark-unreached
-    at-mark-unreached = let c = at-mark-unreached2 in search
-
-    at-fill : tie.After-fill
-    at-fill = let c = at-mark-unreached in search
+    at-remove-marked c .remove-marked .kept .1 .1 .1 .0
+    ∙ at-mark-unreached2 c .mark-unreached2 .kept .1 .1 .1 .1 .1 .1 .1 .1 .0
+    ∙ at-mark-unreached c .mark-unreached .kept .1 .1 .1 .1 .1 .1 .1 .1 .0
+    ∙ at-fill c .fill .kept .0
 
 same-length-5 : tie.Need-same-length-5
 same-length-5 c =
-    at-mark-unreached2 .mark-unreached2 .kept .1 .1 .1 .1 .1 .1 .1 .1 .1 .0
-    ∙ at-mark-unreached .mark-unreached .kept .1 .1 .1 .1 .1 .1 .1 .1 .1 .0
-  where
-    at-mark-unreached2 : tie.After-mark-unreached2
-    at-mark-unreached2 = let c : tie.After-tried2 = search in search
-
-    at-mark-unreached : tie.After-mark-unreached
-    at-mark-unreached = let c = at-mark-unreached2 in search
+    at-mark-unreached2 c .mark-unreached2 .kept .1 .1 .1 .1 .1 .1 .1 .1 .1 .0
+    ∙ at-mark-unreached c .mark-unreached .kept .1 .1 .1 .1 .1 .1 .1 .1 .1 .0
 
 returns : tie.Need-returns
 returns c =
     reduced-as
-    (paths-stay (start .args .held) (start .args .es .now) (start .args .vs .now) (start .pre .1 .1 .0 .ends) _
-    (at-fill .fill .ensures) (at-mark-unreached .mark-unreached .ensures)
-    (at-mark-unreached2 .mark-unreached2 .ensures))
-    (at-remove-marked .remove-marked .ensures)
-  where
-    at-remove-marked : tie.After-remove-marked
-    at-remove-marked = search
-
-    at-mark-unreached2 : tie.After-mark-unreached2
-    at-mark-unreached2 = let c = at-remove-marked in search
-
-    at-mark-unreached : tie.After-mark-unreached
-    at-mark-unreached = let c = at-mark-unreached2 in search
-
-    at-fill : tie.After-fill
-    at-fill = let c = at-mark-unreached in search
-
-    start : tie.Start
-    start = let c = at-fill in search
+    (paths-stay (start c .args .held) (start c .args .es .now) (start c .args .vs .now) (start c .pre .1 .1 .0 .ends) _
+    (at-fill c .fill .ensures) (at-mark-unreached c .mark-unreached .ensures)
+    (at-mark-unreached2 c .mark-unreached2 .ensures))
+    (at-remove-marked c .remove-marked .ensures)
 
 pub remove-paths-not-connected-to-ref-spec : {M : Type 1} → statement M
 remove-paths-not-connected-to-ref-spec =

@@ -100,260 +100,135 @@ sequence-bytes-requires c κs =
     start : tie.Start
     start = let c = at-read-kmer-graph in let c : tie.After-slice-known6 = search in search
 
+module _ (c : tie.Then1) where
+  abbrev at-sequence-bytes : tie.After-sequence-bytes
+  at-sequence-bytes = search
+
+  abbrev at-as : tie.After-additional-sequences
+  at-as = let c = at-sequence-bytes in search
+
+  abbrev at-edges-sorted : tie.After-edges-sorted
+  at-edges-sorted = let c = at-as in let c : tie.After-order2 = search in search
+
+  abbrev at-held : tie.After-held
+  at-held = let c = at-edges-sorted in search
+
+  abbrev at-read-kmer-graph : tie.After-read-kmer-graph
+  at-read-kmer-graph = let c = at-held in let c : tie.After-heads = search in search
+
+  abbrev start : tie.Start
+  start = let c = at-read-kmer-graph in let c : tie.After-slice-known6 = search in search
+
 same-length-9 : tie.Need-same-length-9
-same-length-9 c = at-read-kmer-graph .read-kmer-graph .kept .1 .0
-  where
-    at-read-kmer-graph : tie.After-read-kmer-graph
-    at-read-kmer-graph =
-        let c : tie.After-sorted = search in
-        let c : tie.After-edges-sorted = search in
-        let c : tie.After-scratch = search in
-        let c : tie.After-es = search in
-        search
+same-length-9 c = at-read-kmer-graph c .read-kmer-graph .kept .1 .0
 
 same-length-10 : tie.Need-same-length-10
 same-length-10 c =
-    at-as .additional-sequences .kept .1 .1 .1 .1 .1 .0 ∙ at-read-kmer-graph .read-kmer-graph .kept .1 .1 .0
-  where
-    at-as : tie.After-additional-sequences
-    at-as = search
-
-    at-read-kmer-graph : tie.After-read-kmer-graph
-    at-read-kmer-graph =
-        let c = at-as in
-        let c : tie.After-order2 = search in
-        let c : tie.After-place = search in
-        let c : tie.After-vs = search in
-        search
+    at-as c .additional-sequences .kept .1 .1 .1 .1 .1 .0 ∙ at-read-kmer-graph c .read-kmer-graph .kept .1 .1 .0
 
 same-length-11 : tie.Need-same-length-11
-same-length-11 c = at-read-kmer-graph .read-kmer-graph .kept .1 .1 .1 .0
-  where
-    at-read-kmer-graph : tie.After-read-kmer-graph
-    at-read-kmer-graph =
-        let c : tie.After-sorted = search in
-        let c : tie.After-edges-sorted = search in
-        let c : tie.After-scratch = search in
-        let c : tie.After-es = search in
-        search
+same-length-11 c = at-read-kmer-graph c .read-kmer-graph .kept .1 .1 .1 .0
 
 same-length-12 : tie.Need-same-length-12
-same-length-12 c = at-read-kmer-graph .read-kmer-graph .kept .1 .1 .1 .1 .0
-  where
-    at-read-kmer-graph : tie.After-read-kmer-graph
-    at-read-kmer-graph =
-        let c : tie.After-sorted = search in
-        let c : tie.After-edges-sorted = search in
-        let c : tie.After-scratch = search in
-        let c : tie.After-es = search in
-        search
+same-length-12 c = at-read-kmer-graph c .read-kmer-graph .kept .1 .1 .1 .1 .0
 
 same-length-13 : tie.Need-same-length-13
-same-length-13 c = at-read-kmer-graph .read-kmer-graph .kept .1 .1 .1 .1 .1 .0
-  where
-    at-read-kmer-graph : tie.After-read-kmer-graph
-    at-read-kmer-graph =
-        let c : tie.After-sorted = search in
-        let c : tie.After-edges-sorted = search in
-        let c : tie.After-scratch = search in
-        let c : tie.After-es = search in
-        search
+same-length-13 c = at-read-kmer-graph c .read-kmer-graph .kept .1 .1 .1 .1 .1 .0
 
 same-length-14 : tie.Need-same-length-14
 same-length-14 c =
-    at-edges-sorted .edges-sorted .kept .1 .1 .1 .0 ∙ at-read-kmer-graph .read-kmer-graph .kept .1 .1 .1 .1 .1 .1 .0
-  where
-    at-edges-sorted : tie.After-edges-sorted
-    at-edges-sorted = let c : tie.After-sorted = search in search
-
-    at-read-kmer-graph : tie.After-read-kmer-graph
-    at-read-kmer-graph = let c = at-edges-sorted in let c : tie.After-scratch = search in let c : tie.After-es = search in search
+    at-edges-sorted c .edges-sorted .kept .1 .1 .1 .0 ∙ at-read-kmer-graph c .read-kmer-graph .kept .1 .1 .1 .1 .1 .1 .0
 
 same-length-15 : tie.Need-same-length-15
 same-length-15 c =
-    at-edges-sorted .edges-sorted .kept .1 .1 .1 .1 .0
-    ∙ at-read-kmer-graph .read-kmer-graph .kept .1 .1 .1 .1 .1 .1 .1 .0
-  where
-    at-edges-sorted : tie.After-edges-sorted
-    at-edges-sorted = let c : tie.After-sorted = search in search
-
-    at-read-kmer-graph : tie.After-read-kmer-graph
-    at-read-kmer-graph = let c = at-edges-sorted in let c : tie.After-scratch = search in let c : tie.After-es = search in search
+    at-edges-sorted c .edges-sorted .kept .1 .1 .1 .1 .0
+    ∙ at-read-kmer-graph c .read-kmer-graph .kept .1 .1 .1 .1 .1 .1 .1 .0
 
 same-length-16 : tie.Need-same-length-16
 same-length-16 c =
-    at-edges-sorted .edges-sorted .kept .1 .1 .1 .1 .1 .0
-    ∙ at-read-kmer-graph .read-kmer-graph .kept .1 .1 .1 .1 .1 .1 .1 .1 .0
-  where
-    at-edges-sorted : tie.After-edges-sorted
-    at-edges-sorted = let c : tie.After-sorted = search in search
-
-    at-read-kmer-graph : tie.After-read-kmer-graph
-    at-read-kmer-graph = let c = at-edges-sorted in let c : tie.After-scratch = search in let c : tie.After-es = search in search
+    at-edges-sorted c .edges-sorted .kept .1 .1 .1 .1 .1 .0
+    ∙ at-read-kmer-graph c .read-kmer-graph .kept .1 .1 .1 .1 .1 .1 .1 .1 .0
 
 same-length-17 : tie.Need-same-length-17
-same-length-17 c = at-edges-sorted .edges-sorted .kept .1 .1 .1 .1 .1 .1 .0
-  where
-    at-edges-sorted : tie.After-edges-sorted
-    at-edges-sorted = let c : tie.After-sorted = search in search
+same-length-17 c = at-edges-sorted c .edges-sorted .kept .1 .1 .1 .1 .1 .1 .0
 
 returns-2 : tie.Need-returns-2
 returns-2 c =
     over
-    (start .pre)
-    (at-read-kmer-graph .read-kmer-graph .ensures)
-    (at-held .held .given .1)
-    (at-as .additional-sequences .ensures)
-    (at-edges-sorted .edges-sorted .ensures)
-    (at-sequence-bytes .sequence-bytes .ensures)
+    (start c .pre)
+    (at-read-kmer-graph c .read-kmer-graph .ensures)
+    (at-held c .held .given .1)
+    (at-as c .additional-sequences .ensures)
+    (at-edges-sorted c .edges-sorted .ensures)
+    (at-sequence-bytes c .sequence-bytes .ensures)
     (c .if1 .taken)
-  where
-    at-sequence-bytes : tie.After-sequence-bytes
-    at-sequence-bytes = search
 
-    at-as : tie.After-additional-sequences
-    at-as = let c = at-sequence-bytes in search
+module _ (c : tie.Else1) where
+  abbrev at-sequence-bytes-2 : tie.After-sequence-bytes
+  at-sequence-bytes-2 = search
 
-    at-edges-sorted : tie.After-edges-sorted
-    at-edges-sorted = let c = at-as in let c : tie.After-order2 = search in search
+  abbrev at-as-2 : tie.After-additional-sequences
+  at-as-2 = let c = at-sequence-bytes-2 in search
 
-    at-held : tie.After-held
-    at-held = let c = at-edges-sorted in search
+  abbrev at-edges-sorted-2 : tie.After-edges-sorted
+  at-edges-sorted-2 = let c = at-as-2 in let c : tie.After-order2 = search in search
 
-    at-read-kmer-graph : tie.After-read-kmer-graph
-    at-read-kmer-graph = let c = at-held in let c : tie.After-heads = search in search
+  abbrev at-held-2 : tie.After-held
+  at-held-2 = let c = at-edges-sorted-2 in search
 
-    start : tie.Start
-    start = let c = at-read-kmer-graph in let c : tie.After-slice-known6 = search in search
+  abbrev at-read-kmer-graph-2 : tie.After-read-kmer-graph
+  at-read-kmer-graph-2 = let c = at-held-2 in let c : tie.After-heads = search in search
+
+  abbrev start-2 : tie.Start
+  start-2 = let c = at-read-kmer-graph-2 in let c : tie.After-slice-known6 = search in search
 
 same-length-18 : tie.Need-same-length-18
-same-length-18 c = at-read-kmer-graph .read-kmer-graph .kept .1 .0
-  where
-    at-read-kmer-graph : tie.After-read-kmer-graph
-    at-read-kmer-graph =
-        let c : tie.After-sorted = search in
-        let c : tie.After-edges-sorted = search in
-        let c : tie.After-scratch = search in
-        let c : tie.After-es = search in
-        search
+same-length-18 c = at-read-kmer-graph-2 c .read-kmer-graph .kept .1 .0
 
 same-length-19 : tie.Need-same-length-19
 same-length-19 c =
-    at-as .additional-sequences .kept .1 .1 .1 .1 .1 .0 ∙ at-read-kmer-graph .read-kmer-graph .kept .1 .1 .0
-  where
-    at-as : tie.After-additional-sequences
-    at-as = search
-
-    at-read-kmer-graph : tie.After-read-kmer-graph
-    at-read-kmer-graph =
-        let c = at-as in
-        let c : tie.After-order2 = search in
-        let c : tie.After-place = search in
-        let c : tie.After-vs = search in
-        search
+    at-as-2 c .additional-sequences .kept .1 .1 .1 .1 .1 .0 ∙ at-read-kmer-graph-2 c .read-kmer-graph .kept .1 .1 .0
 
 same-length-20 : tie.Need-same-length-20
-same-length-20 c = at-read-kmer-graph .read-kmer-graph .kept .1 .1 .1 .0
-  where
-    at-read-kmer-graph : tie.After-read-kmer-graph
-    at-read-kmer-graph =
-        let c : tie.After-sorted = search in
-        let c : tie.After-edges-sorted = search in
-        let c : tie.After-scratch = search in
-        let c : tie.After-es = search in
-        search
+same-length-20 c = at-read-kmer-graph-2 c .read-kmer-graph .kept .1 .1 .1 .0
 
 same-length-21 : tie.Need-same-length-21
-same-length-21 c = at-read-kmer-graph .read-kmer-graph .kept .1 .1 .1 .1 .0
-  where
-    at-read-kmer-graph : tie.After-read-kmer-graph
-    at-read-kmer-graph =
-        let c : tie.After-sorted = search in
-        let c : tie.After-edges-sorted = search in
-        let c : tie.After-scratch = search in
-        let c : tie.After-es = search in
-        search
+same-length-21 c = at-read-kmer-graph-2 c .read-kmer-graph .kept .1 .1 .1 .1 .0
 
 same-length-22 : tie.Need-same-length-22
-same-length-22 c = at-read-kmer-graph .read-kmer-graph .kept .1 .1 .1 .1 .1 .0
-  where
-    at-read-kmer-graph : tie.After-read-kmer-graph
-    at-read-kmer-graph =
-        let c : tie.After-sorted = search in
-        let c : tie.After-edges-sorted = search in
-        let c : tie.After-scratch = search in
-        let c : tie.After-es = search in
-        search
+same-length-22 c = at-read-kmer-graph-2 c .read-kmer-graph .kept .1 .1 .1 .1 .1 .0
 
 same-length-23 : tie.Need-same-length-23
 same-length-23 c =
-    at-edges-sorted .edges-sorted .kept .1 .1 .1 .0 ∙ at-read-kmer-graph .read-kmer-graph .kept .1 .1 .1 .1 .1 .1 .0
-  where
-    at-edges-sorted : tie.After-edges-sorted
-    at-edges-sorted = let c : tie.After-sorted = search in search
-
-    at-read-kmer-graph : tie.After-read-kmer-graph
-    at-read-kmer-graph = let c = at-edges-sorted in let c : tie.After-scratch = search in let c : tie.After-es = search in search
+    at-edges-sorted-2 c .edges-sorted .kept .1 .1 .1 .0
+    ∙ at-read-kmer-graph-2 c .read-kmer-graph .kept .1 .1 .1 .1 .1 .1 .0
 
 same-length-24 : tie.Need-same-length-24
 same-length-24 c =
-    at-edges-sorted .edges-sorted .kept .1 .1 .1 .1 .0
-    ∙ at-read-kmer-graph .read-kmer-graph .kept .1 .1 .1 .1 .1 .1 .1 .0
-  where
-    at-edges-sorted : tie.After-edges-sorted
-    at-edges-sorted = let c : tie.After-sorted = search in search
-
-    at-read-kmer-graph : tie.After-read-kmer-graph
-    at-read-kmer-graph = let c = at-edges-sorted in let c : tie.After-scratch = search in let c : tie.After-es = search in search
+    at-edges-sorted-2 c .edges-sorted .kept .1 .1 .1 .1 .0
+    ∙ at-read-kmer-graph-2 c .read-kmer-graph .kept .1 .1 .1 .1 .1 .1 .1 .0
 
 same-length-25 : tie.Need-same-length-25
 same-length-25 c =
-    at-edges-sorted .edges-sorted .kept .1 .1 .1 .1 .1 .0
-    ∙ at-read-kmer-graph .read-kmer-graph .kept .1 .1 .1 .1 .1 .1 .1 .1 .0
-  where
-    at-edges-sorted : tie.After-edges-sorted
-    at-edges-sorted = let c : tie.After-sorted = search in search
-
-    at-read-kmer-graph : tie.After-read-kmer-graph
-    at-read-kmer-graph = let c = at-edges-sorted in let c : tie.After-scratch = search in let c : tie.After-es = search in search
+    at-edges-sorted-2 c .edges-sorted .kept .1 .1 .1 .1 .1 .0
+    ∙ at-read-kmer-graph-2 c .read-kmer-graph .kept .1 .1 .1 .1 .1 .1 .1 .1 .0
 
 same-length-26 : tie.Need-same-length-26
-same-length-26 c = at-edges-sorted .edges-sorted .kept .1 .1 .1 .1 .1 .1 .0
-  where
-    at-edges-sorted : tie.After-edges-sorted
-    at-edges-sorted = let c : tie.After-sorted = search in search
+same-length-26 c = at-edges-sorted-2 c .edges-sorted .kept .1 .1 .1 .1 .1 .1 .0
 
 returns-3 : tie.Need-returns-3
 returns-3 c =
     done
-    (start .pre)
-    (at-read-kmer-graph .read-kmer-graph .ensures)
-    (at-held .held .given .1)
-    (at-as .additional-sequences .ensures)
-    (at-edges-sorted .edges-sorted .ensures)
-    (at-sequence-bytes .sequence-bytes .ensures)
+    (start-2 c .pre)
+    (at-read-kmer-graph-2 c .read-kmer-graph .ensures)
+    (at-held-2 c .held .given .1)
+    (at-as-2 c .additional-sequences .ensures)
+    (at-edges-sorted-2 c .edges-sorted .ensures)
+    (at-sequence-bytes-2 c .sequence-bytes .ensures)
     (c .if1 .left)
-    (at-as .additional-sequences .kept .1 .1 .1 .1 .1 .0)
-    (at-read-kmer-graph .read-kmer-graph .kept .1 .1 .0)
-    (at-edges-sorted .edges-sorted .kept .1 .1 .1 .1 .1 .1 .0)
-  where
-    at-sequence-bytes : tie.After-sequence-bytes
-    at-sequence-bytes = search
-
-    at-as : tie.After-additional-sequences
-    at-as = let c = at-sequence-bytes in search
-
-    at-edges-sorted : tie.After-edges-sorted
-    at-edges-sorted = let c = at-as in let c : tie.After-order2 = search in search
-
-    at-held : tie.After-held
-    at-held = let c = at-edges-sorted in search
-
-    at-read-kmer-graph : tie.After-read-kmer-graph
-    at-read-kmer-graph = let c = at-held in let c : tie.After-heads = search in search
-
-    start : tie.Start
-    start = let c = at-read-kmer-graph in let c : tie.After-slice-known6 = search in search
+    (at-as-2 c .additional-sequences .kept .1 .1 .1 .1 .1 .0)
+    (at-read-kmer-graph-2 c .read-kmer-graph .kept .1 .1 .0)
+    (at-edges-sorted-2 c .edges-sorted .kept .1 .1 .1 .1 .1 .1 .0)
 
 same-length : tie.Need-same-length
 same-length c =

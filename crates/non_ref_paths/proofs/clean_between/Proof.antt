@@ -53,81 +53,50 @@ remove-singleton-orphan-vertices-requires c κs = (
     start : tie.Start
     start = let c = at-drop-edges in let c : tie.After-slice-known = search in search
 
+module _ (c : tie.After-slice-known20) where
+  abbrev at-rsov : tie.After-remove-singleton-orphan-vertices
+  at-rsov = search
+
+  abbrev at-drop-edges2 : tie.After-drop-edges2
+  at-drop-edges2 = let c = at-rsov in let c : tie.After-nexts2 = search in search
+
+  abbrev at-drop-edges : tie.After-drop-edges
+  at-drop-edges = let c = at-drop-edges2 in let c : tie.After-nexts = search in search
+
+  abbrev start : tie.Start
+  start = let c = at-drop-edges in let c : tie.After-slice-known = search in search
+
 same-length : tie.Need-same-length
 same-length c =
-    at-rsov .remove-singleton-orphan-vertices .kept .1 .0
-    ∙ at-drop-edges2 .drop-edges2 .kept .0
-    ∙ at-drop-edges .drop-edges .kept .0
-  where
-    at-rsov : tie.After-remove-singleton-orphan-vertices
-    at-rsov = search
-
-    at-drop-edges2 : tie.After-drop-edges2
-    at-drop-edges2 = let c = at-rsov in let c : tie.After-nexts2 = search in search
-
-    at-drop-edges : tie.After-drop-edges
-    at-drop-edges = let c = at-drop-edges2 in let c : tie.After-nexts = search in search
+    at-rsov c .remove-singleton-orphan-vertices .kept .1 .0
+    ∙ at-drop-edges2 c .drop-edges2 .kept .0
+    ∙ at-drop-edges c .drop-edges .kept .0
 
 same-length-3 : tie.Need-same-length-3
-same-length-3 c = at-drop-edges2 .drop-edges2 .kept .1 .1 .1 .0 ∙ at-drop-edges .drop-edges .kept .1 .1 .1 .0
-  where
-    at-drop-edges2 : tie.After-drop-edges2
-    at-drop-edges2 = let c : tie.After-kmer-size = search in search
-
-    at-drop-edges : tie.After-drop-edges
-    at-drop-edges = let c = at-drop-edges2 in let c : tie.After-nexts = search in search
+same-length-3 c = at-drop-edges2 c .drop-edges2 .kept .1 .1 .1 .0 ∙ at-drop-edges c .drop-edges .kept .1 .1 .1 .0
 
 same-length-4 : tie.Need-same-length-4
-same-length-4 c = at-drop-edges2 .drop-edges2 .kept .1 .1 .1 .1 .0 ∙ at-drop-edges .drop-edges .kept .1 .1 .1 .1 .0
-  where
-    at-drop-edges2 : tie.After-drop-edges2
-    at-drop-edges2 = let c : tie.After-kmer-size = search in search
-
-    at-drop-edges : tie.After-drop-edges
-    at-drop-edges = let c = at-drop-edges2 in let c : tie.After-nexts = search in search
+same-length-4 c = at-drop-edges2 c .drop-edges2 .kept .1 .1 .1 .1 .0 ∙ at-drop-edges c .drop-edges .kept .1 .1 .1 .1 .0
 
 same-length-5 : tie.Need-same-length-5
 same-length-5 c =
-    at-drop-edges2 .drop-edges2 .kept .1 .1 .1 .1 .1 .1 .1 .0 ∙ at-drop-edges .drop-edges .kept .1 .1 .1 .1 .1 .1 .1 .0
-  where
-    at-drop-edges2 : tie.After-drop-edges2
-    at-drop-edges2 = let c : tie.After-kmer-size = search in search
-
-    at-drop-edges : tie.After-drop-edges
-    at-drop-edges = let c = at-drop-edges2 in let c : tie.After-nexts = search in search
+    at-drop-edges2 c .drop-edges2 .kept .1 .1 .1 .1 .1 .1 .1 .0
+    ∙ at-drop-edges c .drop-edges .kept .1 .1 .1 .1 .1 .1 .1 .0
 
 same-length-7 : tie.Need-same-length-7
 same-length-7 c =
-    at-drop-edges2 .drop-edges2 .kept .1 .1 .1 .1 .1 .1 .1 .1 .0
-    ∙ at-drop-edges .drop-edges .kept .1 .1 .1 .1 .1 .1 .1 .1 .0
-  where
-    at-drop-edges2 : tie.After-drop-edges2
-    at-drop-edges2 = let c : tie.After-kmer-size = search in search
-
-    at-drop-edges : tie.After-drop-edges
-    at-drop-edges = let c = at-drop-edges2 in let c : tie.After-nexts = search in search
+    at-drop-edges2 c .drop-edges2 .kept .1 .1 .1 .1 .1 .1 .1 .1 .0
+    ∙ at-drop-edges c .drop-edges .kept .1 .1 .1 .1 .1 .1 .1 .1 .0
 
 returns : tie.Need-returns
 returns c =
     between-reduced
-    (start .args .held)
-    (start .args .s)
-    (start .args .t)
-    (at-drop-edges .drop-edges .ensures .0)
-    (at-drop-edges2 .drop-edges2 .ensures .0) refl
-    (at-rsov .remove-singleton-orphan-vertices .ensures)
-  where
-    at-rsov : tie.After-remove-singleton-orphan-vertices
-    at-rsov = search
-
-    at-drop-edges2 : tie.After-drop-edges2
-    at-drop-edges2 = let c = at-rsov in let c : tie.After-nexts2 = search in search
-
-    at-drop-edges : tie.After-drop-edges
-    at-drop-edges = let c = at-drop-edges2 in let c : tie.After-nexts = search in search
-
-    start : tie.Start
-    start = let c = at-drop-edges in let c : tie.After-slice-known = search in search
+    (start c .args .held)
+    (start c .args .s)
+    (start c .args .t)
+    (at-drop-edges c .drop-edges .ensures .0)
+    (at-drop-edges2 c .drop-edges2 .ensures .0) refl
+    (at-rsov c .remove-singleton-orphan-vertices .ensures)
 
 same-length-2 : tie.Need-same-length-2
 same-length-2 c =

@@ -69,59 +69,47 @@ clean-between-requires c κs = (
     start : tie.Start
     start = let c = at-build-index in search
 
+module _ (c : tie.After-slice-known16) where
+  abbrev at-clean-between : tie.After-clean-between
+  at-clean-between = let c : tie.After-vs = search in search
+
+  abbrev at-t : tie.After-t
+  at-t = let c = at-clean-between in search
+
+  abbrev at-rsv : tie.After-reference-sink-vertex
+  at-rsv = let c = at-t in search
+
+  abbrev at-s : tie.After-s
+  at-s = let c = at-rsv in search
+
+  abbrev at-rsv-2 : tie.After-reference-source-vertex
+  at-rsv-2 = let c = at-s in search
+
+  abbrev start : tie.Start
+  start = let c = at-rsv-2 in let c : tie.After-build-index = search in search
+
+  abbrev at-build-index : tie.After-build-index
+  at-build-index =
+      let c = at-clean-between in
+      let c : tie.After-reference-sink-vertex = search in
+      let c : tie.After-heads = search in
+      search
+
 same-length-9 : tie.Need-same-length-9
 same-length-9 c =
-    at-clean-between .clean-between .kept .1 .1 .1 .1 .1 .0 ∙ at-build-index .build-index .kept .1 .1 .1 .0
-  where
-    at-clean-between : tie.After-clean-between
-    at-clean-between = let c : tie.After-vs = search in search
-
-    at-build-index : tie.After-build-index
-    at-build-index =
-        let c = at-clean-between in
-        let c : tie.After-reference-sink-vertex = search in
-        let c : tie.After-heads = search in
-        search
+    at-clean-between c .clean-between .kept .1 .1 .1 .1 .1 .0 ∙ at-build-index c .build-index .kept .1 .1 .1 .0
 
 same-length-10 : tie.Need-same-length-10
 same-length-10 c =
-    at-clean-between .clean-between .kept .1 .1 .1 .1 .1 .1 .0 ∙ at-build-index .build-index .kept .1 .1 .1 .1 .0
-  where
-    at-clean-between : tie.After-clean-between
-    at-clean-between = let c : tie.After-vs = search in search
-
-    at-build-index : tie.After-build-index
-    at-build-index =
-        let c = at-clean-between in
-        let c : tie.After-reference-sink-vertex = search in
-        let c : tie.After-heads = search in
-        search
+    at-clean-between c .clean-between .kept .1 .1 .1 .1 .1 .1 .0 ∙ at-build-index c .build-index .kept .1 .1 .1 .1 .0
 
 returns-3 : tie.Need-returns-3
 returns-3 c =
     reduced-as
-    (chosen-is (start .args .held) (start .args .es .now) (start .args .vs .now)
-    (at-rsv-2 .reference-source-vertex .ensures) (at-s .s .given .1) (at-rsv .reference-sink-vertex .ensures)
-    (at-t .t .given .1))
-    (at-clean-between .clean-between .ensures)
-  where
-    at-clean-between : tie.After-clean-between
-    at-clean-between = let c : tie.After-vs = search in search
-
-    at-t : tie.After-t
-    at-t = let c = at-clean-between in search
-
-    at-rsv : tie.After-reference-sink-vertex
-    at-rsv = let c = at-t in search
-
-    at-s : tie.After-s
-    at-s = let c = at-rsv in search
-
-    at-rsv-2 : tie.After-reference-source-vertex
-    at-rsv-2 = let c = at-s in search
-
-    start : tie.Start
-    start = let c = at-rsv-2 in let c : tie.After-build-index = search in search
+    (chosen-is (start c .args .held) (start c .args .es .now) (start c .args .vs .now)
+    (at-rsv-2 c .reference-source-vertex .ensures) (at-s c .s .given .1) (at-rsv c .reference-sink-vertex .ensures)
+    (at-t c .t .given .1))
+    (at-clean-between c .clean-between .ensures)
 
 same-length-7 : tie.Need-same-length-7
 same-length-7 c =

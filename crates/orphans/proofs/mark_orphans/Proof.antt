@@ -37,53 +37,37 @@ loop-again-2 c =
     (at-is-orphan .is-orphan .ensures)
     (c .if1 .left)
 
+module _ (c : tie.Then1 Inv-loop μ-loop) where
+  abbrev at-loop-test : tie.In-loop Inv-loop μ-loop
+  at-loop-test = search
+
+  abbrev at-loop : tie.At-loop Inv-loop μ-loop
+  at-loop = let c = at-loop-test in search
+
+  abbrev start : tie.Start Inv-loop μ-loop
+  start = let c = at-loop in search
+
 mul-map : tie.Need-mul-map Inv-loop μ-loop
-mul-map c = omega (arith, at-loop .loop .inv .len, start .pre .0, at-loop-test .loop-test .taken)
-  where
-    at-loop-test : tie.In-loop Inv-loop μ-loop
-    at-loop-test = search
-
-    at-loop : tie.At-loop Inv-loop μ-loop
-    at-loop = let c = at-loop-test in search
-
-    start : tie.Start Inv-loop μ-loop
-    start = let c = at-loop in search
+mul-map c = omega (arith, at-loop c .loop .inv .len, start c .pre .0, at-loop-test c .loop-test .taken)
 
 slice-write-map : tie.Need-slice-write-map Inv-loop μ-loop
-slice-write-map c = omega (arith, at-loop .loop .inv .len, start .pre .0, at-loop-test .loop-test .taken)
-  where
-    at-loop-test : tie.In-loop Inv-loop μ-loop
-    at-loop-test = search
+slice-write-map c = omega (arith, at-loop c .loop .inv .len, start c .pre .0, at-loop-test c .loop-test .taken)
 
-    at-loop : tie.At-loop Inv-loop μ-loop
-    at-loop = let c = at-loop-test in search
+module _ (c : tie.Else1 Inv-loop μ-loop) where
+  abbrev at-loop-test-2 : tie.In-loop Inv-loop μ-loop
+  at-loop-test-2 = search
 
-    start : tie.Start Inv-loop μ-loop
-    start = let c = at-loop in search
+  abbrev at-loop-2 : tie.At-loop Inv-loop μ-loop
+  at-loop-2 = let c = at-loop-test-2 in search
+
+  abbrev start-2 : tie.Start Inv-loop μ-loop
+  start-2 = let c = at-loop-2 in search
 
 mul-map-2 : tie.Need-mul-map-2 Inv-loop μ-loop
-mul-map-2 c = omega (arith, at-loop .loop .inv .len, start .pre .0, at-loop-test .loop-test .taken)
-  where
-    at-loop-test : tie.In-loop Inv-loop μ-loop
-    at-loop-test = search
-
-    at-loop : tie.At-loop Inv-loop μ-loop
-    at-loop = let c = at-loop-test in search
-
-    start : tie.Start Inv-loop μ-loop
-    start = let c = at-loop in search
+mul-map-2 c = omega (arith, at-loop-2 c .loop .inv .len, start-2 c .pre .0, at-loop-test-2 c .loop-test .taken)
 
 slice-write-map-2 : tie.Need-slice-write-map-2 Inv-loop μ-loop
-slice-write-map-2 c = omega (arith, at-loop .loop .inv .len, start .pre .0, at-loop-test .loop-test .taken)
-  where
-    at-loop-test : tie.In-loop Inv-loop μ-loop
-    at-loop-test = search
-
-    at-loop : tie.At-loop Inv-loop μ-loop
-    at-loop = let c = at-loop-test in search
-
-    start : tie.Start Inv-loop μ-loop
-    start = let c = at-loop in search
+slice-write-map-2 c = omega (arith, at-loop-2 c .loop .inv .len, start-2 c .pre .0, at-loop-test-2 c .loop-test .taken)
 
 pub mark-orphans-spec : {M : Type 1} → statement M
 mark-orphans-spec =

@@ -160,167 +160,76 @@ zip-linear-chains-requires c κs = (
     start : tie.Start
     start = let c = at-tuc in let c : tie.After-slice-known5 = search in search
 
+module _ (c : tie.After-slice-known45) where
+  abbrev at-zlc : tie.After-zip-linear-chains
+  at-zlc = let c : tie.After-p4 = search in search
+
+  abbrev at-tuc3 : tie.After-transform-until-complete3
+  at-tuc3 = let c = at-zlc in let c : tie.After-nodes4 = search in search
+
+  abbrev at-suc : tie.After-split-until-complete
+  at-suc = let c = at-tuc3 in let c : tie.After-map3 = search in search
+
+  abbrev at-tuc2 : tie.After-transform-until-complete2
+  at-tuc2 = let c = at-suc in let c : tie.After-nodes2 = search in search
+
+  abbrev at-tuc : tie.After-transform-until-complete
+  at-tuc = let c = at-tuc2 in let c : tie.After-nodes = search in search
+
 same-length : tie.Need-same-length
 same-length c =
-    at-zlc .zip-linear-chains .kept .1 .0
-    ∙ at-tuc3 .transform-until-complete3 .kept .1 .1 .1 .0
-    ∙ at-suc .split-until-complete .kept .1 .0
-    ∙ at-tuc2 .transform-until-complete2 .kept .1 .1 .1 .0
-    ∙ at-tuc .transform-until-complete .kept .1 .1 .1 .0
-  where
-    at-zlc : tie.After-zip-linear-chains
-    at-zlc = let c : tie.After-p4 = search in search
-
-    at-tuc3 : tie.After-transform-until-complete3
-    at-tuc3 = let c = at-zlc in let c : tie.After-nodes4 = search in search
-
-    at-suc : tie.After-split-until-complete
-    at-suc = let c = at-tuc3 in let c : tie.After-map3 = search in search
-
-    at-tuc2 : tie.After-transform-until-complete2
-    at-tuc2 = let c = at-suc in let c : tie.After-nodes2 = search in search
-
-    at-tuc : tie.After-transform-until-complete
-    at-tuc = let c = at-tuc2 in let c : tie.After-nodes = search in search
+    at-zlc c .zip-linear-chains .kept .1 .0
+    ∙ at-tuc3 c .transform-until-complete3 .kept .1 .1 .1 .0
+    ∙ at-suc c .split-until-complete .kept .1 .0
+    ∙ at-tuc2 c .transform-until-complete2 .kept .1 .1 .1 .0
+    ∙ at-tuc c .transform-until-complete .kept .1 .1 .1 .0
 
 same-length-2 : tie.Need-same-length-2
 same-length-2 c =
-    at-zlc .zip-linear-chains .kept .1 .1 .0
-    ∙ at-tuc3 .transform-until-complete3 .kept .1 .1 .1 .1 .0
-    ∙ at-suc .split-until-complete .kept .1 .1 .0
-    ∙ at-tuc2 .transform-until-complete2 .kept .1 .1 .1 .1 .0
-    ∙ at-tuc .transform-until-complete .kept .1 .1 .1 .1 .0
-  where
-    at-zlc : tie.After-zip-linear-chains
-    at-zlc = let c : tie.After-p4 = search in search
-
-    at-tuc3 : tie.After-transform-until-complete3
-    at-tuc3 = let c = at-zlc in let c : tie.After-nodes4 = search in search
-
-    at-suc : tie.After-split-until-complete
-    at-suc = let c = at-tuc3 in let c : tie.After-map3 = search in search
-
-    at-tuc2 : tie.After-transform-until-complete2
-    at-tuc2 = let c = at-suc in let c : tie.After-nodes2 = search in search
-
-    at-tuc : tie.After-transform-until-complete
-    at-tuc = let c = at-tuc2 in let c : tie.After-nodes = search in search
+    at-zlc c .zip-linear-chains .kept .1 .1 .0
+    ∙ at-tuc3 c .transform-until-complete3 .kept .1 .1 .1 .1 .0
+    ∙ at-suc c .split-until-complete .kept .1 .1 .0
+    ∙ at-tuc2 c .transform-until-complete2 .kept .1 .1 .1 .1 .0
+    ∙ at-tuc c .transform-until-complete .kept .1 .1 .1 .1 .0
 
 same-length-3 : tie.Need-same-length-3
 same-length-3 c =
-    at-zlc .zip-linear-chains .kept .1 .1 .1 .0
-    ∙ at-tuc3 .transform-until-complete3 .kept .1 .1 .1 .1 .1 .0
-    ∙ at-tuc2 .transform-until-complete2 .kept .1 .1 .1 .1 .1 .0
-    ∙ at-tuc .transform-until-complete .kept .1 .1 .1 .1 .1 .0
-  where
-    at-zlc : tie.After-zip-linear-chains
-    at-zlc = let c : tie.After-p4 = search in search
-
-    at-tuc3 : tie.After-transform-until-complete3
-    at-tuc3 = let c = at-zlc in let c : tie.After-nodes4 = search in search
-
-    at-tuc2 : tie.After-transform-until-complete2
-    at-tuc2 =
-        let c = at-tuc3 in
-        let c : tie.After-map3 = search in
-        let c : tie.After-split-until-complete = search in
-        let c : tie.After-nodes2 = search in
-        search
-
-    at-tuc : tie.After-transform-until-complete
-    at-tuc = let c = at-tuc2 in let c : tie.After-nodes = search in search
+    at-zlc c .zip-linear-chains .kept .1 .1 .1 .0
+    ∙ at-tuc3 c .transform-until-complete3 .kept .1 .1 .1 .1 .1 .0
+    ∙ at-tuc2 c .transform-until-complete2 .kept .1 .1 .1 .1 .1 .0
+    ∙ at-tuc c .transform-until-complete .kept .1 .1 .1 .1 .1 .0
 
 same-length-4 : tie.Need-same-length-4
 same-length-4 c =
-    at-zlc .zip-linear-chains .kept .1 .1 .1 .1 .0
-    ∙ at-tuc3 .transform-until-complete3 .kept .1 .1 .1 .1 .1 .1 .0
-    ∙ at-suc .split-until-complete .kept .1 .1 .1 .1 .0
-    ∙ at-tuc2 .transform-until-complete2 .kept .1 .1 .1 .1 .1 .1 .0
-    ∙ at-tuc .transform-until-complete .kept .1 .1 .1 .1 .1 .1 .0
-  where
-    at-zlc : tie.After-zip-linear-chains
-    at-zlc = let c : tie.After-p4 = search in search
-
-    at-tuc3 : tie.After-transform-until-complete3
-    at-tuc3 = let c = at-zlc in let c : tie.After-nodes4 = search in search
-
-    at-suc : tie.After-split-until-complete
-    at-suc = let c = at-tuc3 in let c : tie.After-map3 = search in search
-
-    at-tuc2 : tie.After-transform-until-complete2
-    at-tuc2 = let c = at-suc in let c : tie.After-nodes2 = search in search
-
-    at-tuc : tie.After-transform-until-complete
-    at-tuc = let c = at-tuc2 in let c : tie.After-nodes = search in search
+    at-zlc c .zip-linear-chains .kept .1 .1 .1 .1 .0
+    ∙ at-tuc3 c .transform-until-complete3 .kept .1 .1 .1 .1 .1 .1 .0
+    ∙ at-suc c .split-until-complete .kept .1 .1 .1 .1 .0
+    ∙ at-tuc2 c .transform-until-complete2 .kept .1 .1 .1 .1 .1 .1 .0
+    ∙ at-tuc c .transform-until-complete .kept .1 .1 .1 .1 .1 .1 .0
 
 same-length-5 : tie.Need-same-length-5
 same-length-5 c =
-    at-zlc .zip-linear-chains .kept .1 .1 .1 .1 .1 .0
-    ∙ at-tuc3 .transform-until-complete3 .kept .1 .1 .1 .1 .1 .1 .1 .0
-    ∙ at-suc .split-until-complete .kept .1 .1 .1 .1 .1 .0
-    ∙ at-tuc2 .transform-until-complete2 .kept .1 .1 .1 .1 .1 .1 .1 .0
-    ∙ at-tuc .transform-until-complete .kept .1 .1 .1 .1 .1 .1 .1 .0
-  where
-    at-zlc : tie.After-zip-linear-chains
-    at-zlc = let c : tie.After-p4 = search in search
-
-    at-tuc3 : tie.After-transform-until-complete3
-    at-tuc3 = let c = at-zlc in let c : tie.After-nodes4 = search in search
-
-    at-suc : tie.After-split-until-complete
-    at-suc = let c = at-tuc3 in let c : tie.After-map3 = search in search
-
-    at-tuc2 : tie.After-transform-until-complete2
-    at-tuc2 = let c = at-suc in let c : tie.After-nodes2 = search in search
-
-    at-tuc : tie.After-transform-until-complete
-    at-tuc = let c = at-tuc2 in let c : tie.After-nodes = search in search
+    at-zlc c .zip-linear-chains .kept .1 .1 .1 .1 .1 .0
+    ∙ at-tuc3 c .transform-until-complete3 .kept .1 .1 .1 .1 .1 .1 .1 .0
+    ∙ at-suc c .split-until-complete .kept .1 .1 .1 .1 .1 .0
+    ∙ at-tuc2 c .transform-until-complete2 .kept .1 .1 .1 .1 .1 .1 .1 .0
+    ∙ at-tuc c .transform-until-complete .kept .1 .1 .1 .1 .1 .1 .1 .0
 
 same-length-6 : tie.Need-same-length-6
 same-length-6 c =
-    at-zlc .zip-linear-chains .kept .1 .1 .1 .1 .1 .1 .0
-    ∙ at-tuc3 .transform-until-complete3 .kept .1 .1 .1 .1 .1 .1 .1 .1 .0
-    ∙ at-suc .split-until-complete .kept .1 .1 .1 .1 .1 .1 .0
-    ∙ at-tuc2 .transform-until-complete2 .kept .1 .1 .1 .1 .1 .1 .1 .1 .0
-    ∙ at-tuc .transform-until-complete .kept .1 .1 .1 .1 .1 .1 .1 .1 .0
-  where
-    at-zlc : tie.After-zip-linear-chains
-    at-zlc = let c : tie.After-p4 = search in search
-
-    at-tuc3 : tie.After-transform-until-complete3
-    at-tuc3 = let c = at-zlc in let c : tie.After-nodes4 = search in search
-
-    at-suc : tie.After-split-until-complete
-    at-suc = let c = at-tuc3 in let c : tie.After-map3 = search in search
-
-    at-tuc2 : tie.After-transform-until-complete2
-    at-tuc2 = let c = at-suc in let c : tie.After-nodes2 = search in search
-
-    at-tuc : tie.After-transform-until-complete
-    at-tuc = let c = at-tuc2 in let c : tie.After-nodes = search in search
+    at-zlc c .zip-linear-chains .kept .1 .1 .1 .1 .1 .1 .0
+    ∙ at-tuc3 c .transform-until-complete3 .kept .1 .1 .1 .1 .1 .1 .1 .1 .0
+    ∙ at-suc c .split-until-complete .kept .1 .1 .1 .1 .1 .1 .0
+    ∙ at-tuc2 c .transform-until-complete2 .kept .1 .1 .1 .1 .1 .1 .1 .1 .0
+    ∙ at-tuc c .transform-until-complete .kept .1 .1 .1 .1 .1 .1 .1 .1 .0
 
 same-length-7 : tie.Need-same-length-7
 same-length-7 c =
-    at-zlc .zip-linear-chains .kept .1 .1 .1 .1 .1 .1 .1 .0
-    ∙ at-tuc3 .transform-until-complete3 .kept .1 .1 .1 .1 .1 .1 .1 .1 .1 .0
-    ∙ at-suc .split-until-complete .kept .1 .1 .1 .1 .1 .1 .1 .0
-    ∙ at-tuc2 .transform-until-complete2 .kept .1 .1 .1 .1 .1 .1 .1 .1 .1 .0
-    ∙ at-tuc .transform-until-complete .kept .1 .1 .1 .1 .1 .1 .1 .1 .1 .0
-  where
-    at-zlc : tie.After-zip-linear-chains
-    at-zlc = let c : tie.After-p4 = search in search
-
-    at-tuc3 : tie.After-transform-until-complete3
-    at-tuc3 = let c = at-zlc in let c : tie.After-nodes4 = search in search
-
-    at-suc : tie.After-split-until-complete
-    at-suc = let c = at-tuc3 in let c : tie.After-map3 = search in search
-
-    at-tuc2 : tie.After-transform-until-complete2
-    at-tuc2 = let c = at-suc in let c : tie.After-nodes2 = search in search
-
-    at-tuc : tie.After-transform-until-complete
-    at-tuc = let c = at-tuc2 in let c : tie.After-nodes = search in search
+    at-zlc c .zip-linear-chains .kept .1 .1 .1 .1 .1 .1 .1 .0
+    ∙ at-tuc3 c .transform-until-complete3 .kept .1 .1 .1 .1 .1 .1 .1 .1 .1 .0
+    ∙ at-suc c .split-until-complete .kept .1 .1 .1 .1 .1 .1 .1 .0
+    ∙ at-tuc2 c .transform-until-complete2 .kept .1 .1 .1 .1 .1 .1 .1 .1 .1 .0
+    ∙ at-tuc c .transform-until-complete .kept .1 .1 .1 .1 .1 .1 .1 .1 .1 .0
 
 same-length-8 : tie.Need-same-length-8
 same-length-8 c =
@@ -328,49 +237,26 @@ same-length-8 c =
     at-zlc .zip-linear-chains .kept .1 .1 .1 .1 .1 .1 .1 .1 .0
 
 same-length-9 : tie.Need-same-length-9
-same-length-9 c = at-suc .split-until-complete .kept .1 .1 .1 .1 .1 .1 .1 .1 .0
-  where
-    at-suc : tie.After-split-until-complete
-    at-suc =
-        let c : tie.After-p4 = search in
-        let c : tie.After-zip-linear-chains-arg2 = search in
-        let c : tie.After-p3 = search in
-        let c : tie.After-transform-until-complete-arg15 = search in
-        let c : tie.After-vs3 = search in
-        search
+same-length-9 c = at-suc c .split-until-complete .kept .1 .1 .1 .1 .1 .1 .1 .1 .0
 
 returns : tie.Need-returns
 returns c =
     once
-    (at-tuc .transform-until-complete .ensures)
-    (at-tuc2 .transform-until-complete2 .ensures)
-    (at-suc .split-until-complete .ensures)
-    (at-tuc3 .transform-until-complete3 .ensures)
-    (at-zlc .zip-linear-chains .ensures)
-    (at-tuc2 .transform-until-complete2 .kept .1 .1 .1 .1 .1 .1 .0)
-    (at-suc .split-until-complete .kept .1 .1 .1 .1 .0 ∙ at-tuc2 .transform-until-complete2 .kept .1 .1 .1 .1 .1 .1 .0)
-    (at-tuc3 .transform-until-complete3 .kept .1 .1 .1 .1 .1 .1 .0
-    ∙ at-suc .split-until-complete .kept .1 .1 .1 .1 .0
-    ∙ at-tuc2 .transform-until-complete2 .kept .1 .1 .1 .1 .1 .1 .0)
-    (at-zlc .zip-linear-chains .kept .1 .1 .1 .1 .0
-    ∙ at-tuc3 .transform-until-complete3 .kept .1 .1 .1 .1 .1 .1 .0
-    ∙ at-suc .split-until-complete .kept .1 .1 .1 .1 .0
-    ∙ at-tuc2 .transform-until-complete2 .kept .1 .1 .1 .1 .1 .1 .0)
-  where
-    at-zlc : tie.After-zip-linear-chains
-    at-zlc = let c : tie.After-p4 = search in search
-
-    at-tuc3 : tie.After-transform-until-complete3
-    at-tuc3 = let c = at-zlc in let c : tie.After-nodes4 = search in search
-
-    at-suc : tie.After-split-until-complete
-    at-suc = let c = at-tuc3 in let c : tie.After-map3 = search in search
-
-    at-tuc2 : tie.After-transform-until-complete2
-    at-tuc2 = let c = at-suc in let c : tie.After-nodes2 = search in search
-
-    at-tuc : tie.After-transform-until-complete
-    at-tuc = let c = at-tuc2 in let c : tie.After-nodes = search in search
+    (at-tuc c .transform-until-complete .ensures)
+    (at-tuc2 c .transform-until-complete2 .ensures)
+    (at-suc c .split-until-complete .ensures)
+    (at-tuc3 c .transform-until-complete3 .ensures)
+    (at-zlc c .zip-linear-chains .ensures)
+    (at-tuc2 c .transform-until-complete2 .kept .1 .1 .1 .1 .1 .1 .0)
+    (at-suc c .split-until-complete .kept .1 .1 .1 .1 .0
+    ∙ at-tuc2 c .transform-until-complete2 .kept .1 .1 .1 .1 .1 .1 .0)
+    (at-tuc3 c .transform-until-complete3 .kept .1 .1 .1 .1 .1 .1 .0
+    ∙ at-suc c .split-until-complete .kept .1 .1 .1 .1 .0
+    ∙ at-tuc2 c .transform-until-complete2 .kept .1 .1 .1 .1 .1 .1 .0)
+    (at-zlc c .zip-linear-chains .kept .1 .1 .1 .1 .0
+    ∙ at-tuc3 c .transform-until-complete3 .kept .1 .1 .1 .1 .1 .1 .0
+    ∙ at-suc c .split-until-complete .kept .1 .1 .1 .1 .0
+    ∙ at-tuc2 c .transform-until-complete2 .kept .1 .1 .1 .1 .1 .1 .0)
 
 pub simplify-graph-once-spec : {M : Type 1} → statement M
 simplify-graph-once-spec =

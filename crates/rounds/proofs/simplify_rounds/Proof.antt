@@ -75,120 +75,63 @@ add-n c = omega arith
 end-with-requires : tie.Need-end-with-requires Inv-loop μ-loop
 end-with-requires c κs = omega arith
 
-same-length : tie.Need-same-length Inv-loop μ-loop
-same-length c = at-sgo .simplify-graph-once .kept .1 .1 .0 ∙ at-loop .loop .inv .1 .0
-  where
-    at-sgo : tie.After-simplify-graph-once Inv-loop μ-loop
-    at-sgo = let c : tie.After-nexts Inv-loop μ-loop = search in search
+module _ (c : tie.After-end-with Inv-loop μ-loop) where
+  abbrev at-if1 : tie.Then1 Inv-loop μ-loop
+  at-if1 = search
 
-    at-loop : tie.At-loop Inv-loop μ-loop
-    at-loop = let c = at-sgo in search
+  abbrev at-sgo : tie.After-simplify-graph-once Inv-loop μ-loop
+  at-sgo = let c = at-if1 in let c : tie.After-nexts Inv-loop μ-loop = search in search
+
+  abbrev at-loop-test : tie.In-loop Inv-loop μ-loop
+  at-loop-test = let c = at-sgo in search
+
+  abbrev at-loop : tie.At-loop Inv-loop μ-loop
+  at-loop = let c = at-loop-test in search
+
+same-length : tie.Need-same-length Inv-loop μ-loop
+same-length c = at-sgo c .simplify-graph-once .kept .1 .1 .0 ∙ at-loop c .loop .inv .1 .0
 
 same-length-2 : tie.Need-same-length-2 Inv-loop μ-loop
-same-length-2 c = at-sgo .simplify-graph-once .kept .1 .1 .1 .0 ∙ at-loop .loop .inv .1 .1 .0
-  where
-    at-sgo : tie.After-simplify-graph-once Inv-loop μ-loop
-    at-sgo = let c : tie.After-nexts Inv-loop μ-loop = search in search
-
-    at-loop : tie.At-loop Inv-loop μ-loop
-    at-loop = let c = at-sgo in search
+same-length-2 c = at-sgo c .simplify-graph-once .kept .1 .1 .1 .0 ∙ at-loop c .loop .inv .1 .1 .0
 
 same-length-3 : tie.Need-same-length-3 Inv-loop μ-loop
-same-length-3 c = at-sgo .simplify-graph-once .kept .1 .1 .1 .1 .0 ∙ at-loop .loop .inv .1 .1 .1 .0
-  where
-    at-sgo : tie.After-simplify-graph-once Inv-loop μ-loop
-    at-sgo = let c : tie.After-nexts Inv-loop μ-loop = search in search
-
-    at-loop : tie.At-loop Inv-loop μ-loop
-    at-loop = let c = at-sgo in search
+same-length-3 c = at-sgo c .simplify-graph-once .kept .1 .1 .1 .1 .0 ∙ at-loop c .loop .inv .1 .1 .1 .0
 
 same-length-4 : tie.Need-same-length-4 Inv-loop μ-loop
-same-length-4 c = at-sgo .simplify-graph-once .kept .1 .1 .1 .1 .1 .0 ∙ at-loop .loop .inv .1 .1 .1 .1 .0
-  where
-    at-sgo : tie.After-simplify-graph-once Inv-loop μ-loop
-    at-sgo = let c : tie.After-nexts Inv-loop μ-loop = search in search
-
-    at-loop : tie.At-loop Inv-loop μ-loop
-    at-loop = let c = at-sgo in search
+same-length-4 c = at-sgo c .simplify-graph-once .kept .1 .1 .1 .1 .1 .0 ∙ at-loop c .loop .inv .1 .1 .1 .1 .0
 
 same-length-5 : tie.Need-same-length-5 Inv-loop μ-loop
-same-length-5 c = at-sgo .simplify-graph-once .kept .1 .1 .1 .1 .1 .1 .0 ∙ at-loop .loop .inv .1 .1 .1 .1 .1 .0
-  where
-    at-sgo : tie.After-simplify-graph-once Inv-loop μ-loop
-    at-sgo = let c : tie.After-nexts Inv-loop μ-loop = search in search
-
-    at-loop : tie.At-loop Inv-loop μ-loop
-    at-loop = let c = at-sgo in search
+same-length-5 c = at-sgo c .simplify-graph-once .kept .1 .1 .1 .1 .1 .1 .0 ∙ at-loop c .loop .inv .1 .1 .1 .1 .1 .0
 
 same-length-6 : tie.Need-same-length-6 Inv-loop μ-loop
-same-length-6 c = at-sgo .simplify-graph-once .kept .1 .1 .1 .1 .1 .1 .1 .0 ∙ at-loop .loop .inv .1 .1 .1 .1 .1 .1 .0
-  where
-    at-sgo : tie.After-simplify-graph-once Inv-loop μ-loop
-    at-sgo = let c : tie.After-nexts Inv-loop μ-loop = search in search
-
-    at-loop : tie.At-loop Inv-loop μ-loop
-    at-loop = let c = at-sgo in search
+same-length-6 c =
+    at-sgo c .simplify-graph-once .kept .1 .1 .1 .1 .1 .1 .1 .0 ∙ at-loop c .loop .inv .1 .1 .1 .1 .1 .1 .0
 
 same-length-7 : tie.Need-same-length-7 Inv-loop μ-loop
 same-length-7 c =
-    at-sgo .simplify-graph-once .kept .1 .1 .1 .1 .1 .1 .1 .1 .0 ∙ at-loop .loop .inv .1 .1 .1 .1 .1 .1 .1 .0
-  where
-    at-sgo : tie.After-simplify-graph-once Inv-loop μ-loop
-    at-sgo = let c : tie.After-nexts Inv-loop μ-loop = search in search
-
-    at-loop : tie.At-loop Inv-loop μ-loop
-    at-loop = let c = at-sgo in search
+    at-sgo c .simplify-graph-once .kept .1 .1 .1 .1 .1 .1 .1 .1 .0 ∙ at-loop c .loop .inv .1 .1 .1 .1 .1 .1 .1 .0
 
 same-length-8 : tie.Need-same-length-8 Inv-loop μ-loop
 same-length-8 c =
-    at-sgo .simplify-graph-once .kept .1 .1 .1 .1 .1 .1 .1 .1 .1 .0 ∙ at-loop .loop .inv .1 .1 .1 .1 .1 .1 .1 .1 .0
-  where
-    at-sgo : tie.After-simplify-graph-once Inv-loop μ-loop
-    at-sgo = let c : tie.After-nexts Inv-loop μ-loop = search in search
-
-    at-loop : tie.At-loop Inv-loop μ-loop
-    at-loop = let c = at-sgo in search
+    at-sgo c .simplify-graph-once .kept .1 .1 .1 .1 .1 .1 .1 .1 .1 .0 ∙ at-loop c .loop .inv .1 .1 .1 .1 .1 .1 .1 .1 .0
 
 same-length-9 : tie.Need-same-length-9 Inv-loop μ-loop
 same-length-9 c =
-    at-sgo .simplify-graph-once .kept .1 .1 .1 .1 .1 .1 .1 .1 .1 .1 .0 ∙ at-loop .loop .inv .1 .1 .1 .1 .1 .1 .1 .1 .1
-  where
-    at-sgo : tie.After-simplify-graph-once Inv-loop μ-loop
-    at-sgo = let c : tie.After-nexts Inv-loop μ-loop = search in search
-
-    at-loop : tie.At-loop Inv-loop μ-loop
-    at-loop = let c = at-sgo in search
+    at-sgo c .simplify-graph-once .kept .1 .1 .1 .1 .1 .1 .1 .1 .1 .1 .0
+    ∙ at-loop c .loop .inv .1 .1 .1 .1 .1 .1 .1 .1 .1
 
 same-length-10 : tie.Need-same-length-10 Inv-loop μ-loop
-same-length-10 c = at-loop .loop .inv .0 .sig-len
-  where
-    at-loop : tie.At-loop Inv-loop μ-loop
-    at-loop =
-        let c : tie.After-nexts Inv-loop μ-loop = search in
-        let c : tie.After-simplify-graph-once Inv-loop μ-loop = search in
-        search
+same-length-10 c = at-loop c .loop .inv .0 .sig-len
 
 returns : tie.Need-returns Inv-loop μ-loop
 returns c =
     rw
     (c .end-with .ensures)
-    (round-quiet (at-loop .loop .inv .0) (at-loop-test .loop-test .taken) (at-sgo .simplify-graph-once .ensures)
-    (at-sgo .simplify-graph-once .kept .1 .1 .1 .1 .1 .0)
-    (sym (at-sgo .simplify-graph-once .kept .1 .1 .1 .1 .1 .0 ∙ at-loop .loop .inv .1 .1 .1 .1 .0))
-    (sym (at-sgo .simplify-graph-once .kept .1 .1 .1 .1 .1 .1 .0 ∙ at-loop .loop .inv .1 .1 .1 .1 .1 .0))
-    (at-if1 .if1 .taken))
-  where
-    at-if1 : tie.Then1 Inv-loop μ-loop
-    at-if1 = search
-
-    at-sgo : tie.After-simplify-graph-once Inv-loop μ-loop
-    at-sgo = let c = at-if1 in let c : tie.After-nexts Inv-loop μ-loop = search in search
-
-    at-loop-test : tie.In-loop Inv-loop μ-loop
-    at-loop-test = let c = at-sgo in search
-
-    at-loop : tie.At-loop Inv-loop μ-loop
-    at-loop = let c = at-loop-test in search
+    (round-quiet (at-loop c .loop .inv .0) (at-loop-test c .loop-test .taken) (at-sgo c .simplify-graph-once .ensures)
+    (at-sgo c .simplify-graph-once .kept .1 .1 .1 .1 .1 .0)
+    (sym (at-sgo c .simplify-graph-once .kept .1 .1 .1 .1 .1 .0 ∙ at-loop c .loop .inv .1 .1 .1 .1 .0))
+    (sym (at-sgo c .simplify-graph-once .kept .1 .1 .1 .1 .1 .1 .0 ∙ at-loop c .loop .inv .1 .1 .1 .1 .1 .0))
+    (at-if1 c .if1 .taken))
 
 replace-signature-requires : tie.Need-replace-signature-requires Inv-loop μ-loop
 replace-signature-requires c κs =
@@ -218,170 +161,123 @@ replace-signature-requires c κs =
 end-with-requires-2 : tie.Need-end-with-requires-2 Inv-loop μ-loop
 end-with-requires-2 c κs = omega arith
 
-same-length-11 : tie.Need-same-length-11 Inv-loop μ-loop
-same-length-11 c = at-sgo .simplify-graph-once .kept .1 .1 .0 ∙ at-loop .loop .inv .1 .0
-  where
-    at-sgo : tie.After-simplify-graph-once Inv-loop μ-loop
-    at-sgo = let c : tie.After-tried Inv-loop μ-loop = search in let c : tie.After-p Inv-loop μ-loop = search in search
+module _ (c : tie.After-end-with2 Inv-loop μ-loop) where
+  abbrev at-if3 : tie.Then3 Inv-loop μ-loop
+  at-if3 = search
 
-    at-loop : tie.At-loop Inv-loop μ-loop
-    at-loop = let c = at-sgo in search
+  abbrev at-rs : tie.After-replace-signature Inv-loop μ-loop
+  at-rs = let c = at-if3 in search
+
+  abbrev at-if2 : tie.Then2 Inv-loop μ-loop
+  at-if2 = let c = at-rs in search
+
+  abbrev at-if1-2 : tie.Else1 Inv-loop μ-loop
+  at-if1-2 = let c = at-if2 in search
+
+  abbrev at-sgo-2 : tie.After-simplify-graph-once Inv-loop μ-loop
+  at-sgo-2 = let c = at-if1-2 in let c : tie.After-nexts Inv-loop μ-loop = search in search
+
+  abbrev at-loop-test-2 : tie.In-loop Inv-loop μ-loop
+  at-loop-test-2 = let c = at-sgo-2 in search
+
+  abbrev at-loop-2 : tie.At-loop Inv-loop μ-loop
+  at-loop-2 = let c = at-loop-test-2 in search
+
+same-length-11 : tie.Need-same-length-11 Inv-loop μ-loop
+same-length-11 c = at-sgo-2 c .simplify-graph-once .kept .1 .1 .0 ∙ at-loop-2 c .loop .inv .1 .0
 
 same-length-12 : tie.Need-same-length-12 Inv-loop μ-loop
-same-length-12 c = at-sgo .simplify-graph-once .kept .1 .1 .1 .0 ∙ at-loop .loop .inv .1 .1 .0
-  where
-    at-sgo : tie.After-simplify-graph-once Inv-loop μ-loop
-    at-sgo = let c : tie.After-tried Inv-loop μ-loop = search in let c : tie.After-p Inv-loop μ-loop = search in search
-
-    at-loop : tie.At-loop Inv-loop μ-loop
-    at-loop = let c = at-sgo in search
+same-length-12 c = at-sgo-2 c .simplify-graph-once .kept .1 .1 .1 .0 ∙ at-loop-2 c .loop .inv .1 .1 .0
 
 same-length-13 : tie.Need-same-length-13 Inv-loop μ-loop
-same-length-13 c = at-sgo .simplify-graph-once .kept .1 .1 .1 .1 .0 ∙ at-loop .loop .inv .1 .1 .1 .0
-  where
-    at-sgo : tie.After-simplify-graph-once Inv-loop μ-loop
-    at-sgo = let c : tie.After-tried Inv-loop μ-loop = search in let c : tie.After-p Inv-loop μ-loop = search in search
-
-    at-loop : tie.At-loop Inv-loop μ-loop
-    at-loop = let c = at-sgo in search
+same-length-13 c = at-sgo-2 c .simplify-graph-once .kept .1 .1 .1 .1 .0 ∙ at-loop-2 c .loop .inv .1 .1 .1 .0
 
 same-length-14 : tie.Need-same-length-14 Inv-loop μ-loop
-same-length-14 c = at-sgo .simplify-graph-once .kept .1 .1 .1 .1 .1 .0 ∙ at-loop .loop .inv .1 .1 .1 .1 .0
-  where
-    at-sgo : tie.After-simplify-graph-once Inv-loop μ-loop
-    at-sgo = let c : tie.After-tried Inv-loop μ-loop = search in let c : tie.After-p Inv-loop μ-loop = search in search
-
-    at-loop : tie.At-loop Inv-loop μ-loop
-    at-loop = let c = at-sgo in search
+same-length-14 c = at-sgo-2 c .simplify-graph-once .kept .1 .1 .1 .1 .1 .0 ∙ at-loop-2 c .loop .inv .1 .1 .1 .1 .0
 
 same-length-15 : tie.Need-same-length-15 Inv-loop μ-loop
-same-length-15 c = at-sgo .simplify-graph-once .kept .1 .1 .1 .1 .1 .1 .0 ∙ at-loop .loop .inv .1 .1 .1 .1 .1 .0
-  where
-    at-sgo : tie.After-simplify-graph-once Inv-loop μ-loop
-    at-sgo = let c : tie.After-tried Inv-loop μ-loop = search in let c : tie.After-p Inv-loop μ-loop = search in search
-
-    at-loop : tie.At-loop Inv-loop μ-loop
-    at-loop = let c = at-sgo in search
+same-length-15 c = at-sgo-2 c .simplify-graph-once .kept .1 .1 .1 .1 .1 .1 .0 ∙ at-loop-2 c .loop .inv .1 .1 .1 .1 .1 .0
 
 same-length-16 : tie.Need-same-length-16 Inv-loop μ-loop
-same-length-16 c = at-sgo .simplify-graph-once .kept .1 .1 .1 .1 .1 .1 .1 .0 ∙ at-loop .loop .inv .1 .1 .1 .1 .1 .1 .0
-  where
-    at-sgo : tie.After-simplify-graph-once Inv-loop μ-loop
-    at-sgo = let c : tie.After-tried Inv-loop μ-loop = search in let c : tie.After-p Inv-loop μ-loop = search in search
-
-    at-loop : tie.At-loop Inv-loop μ-loop
-    at-loop = let c = at-sgo in search
+same-length-16 c =
+    at-sgo-2 c .simplify-graph-once .kept .1 .1 .1 .1 .1 .1 .1 .0 ∙ at-loop-2 c .loop .inv .1 .1 .1 .1 .1 .1 .0
 
 same-length-17 : tie.Need-same-length-17 Inv-loop μ-loop
 same-length-17 c =
-    at-sgo .simplify-graph-once .kept .1 .1 .1 .1 .1 .1 .1 .1 .0 ∙ at-loop .loop .inv .1 .1 .1 .1 .1 .1 .1 .0
-  where
-    at-sgo : tie.After-simplify-graph-once Inv-loop μ-loop
-    at-sgo = let c : tie.After-tried Inv-loop μ-loop = search in let c : tie.After-p Inv-loop μ-loop = search in search
-
-    at-loop : tie.At-loop Inv-loop μ-loop
-    at-loop = let c = at-sgo in search
+    at-sgo-2 c .simplify-graph-once .kept .1 .1 .1 .1 .1 .1 .1 .1 .0 ∙ at-loop-2 c .loop .inv .1 .1 .1 .1 .1 .1 .1 .0
 
 same-length-18 : tie.Need-same-length-18 Inv-loop μ-loop
 same-length-18 c =
-    at-sgo .simplify-graph-once .kept .1 .1 .1 .1 .1 .1 .1 .1 .1 .0 ∙ at-loop .loop .inv .1 .1 .1 .1 .1 .1 .1 .1 .0
-  where
-    at-sgo : tie.After-simplify-graph-once Inv-loop μ-loop
-    at-sgo = let c : tie.After-tried Inv-loop μ-loop = search in let c : tie.After-p Inv-loop μ-loop = search in search
-
-    at-loop : tie.At-loop Inv-loop μ-loop
-    at-loop = let c = at-sgo in search
+    at-sgo-2 c .simplify-graph-once .kept .1 .1 .1 .1 .1 .1 .1 .1 .1 .0
+    ∙ at-loop-2 c .loop .inv .1 .1 .1 .1 .1 .1 .1 .1 .0
 
 same-length-19 : tie.Need-same-length-19 Inv-loop μ-loop
 same-length-19 c =
-    at-sgo .simplify-graph-once .kept .1 .1 .1 .1 .1 .1 .1 .1 .1 .1 .0 ∙ at-loop .loop .inv .1 .1 .1 .1 .1 .1 .1 .1 .1
-  where
-    at-sgo : tie.After-simplify-graph-once Inv-loop μ-loop
-    at-sgo = let c : tie.After-tried Inv-loop μ-loop = search in let c : tie.After-p Inv-loop μ-loop = search in search
-
-    at-loop : tie.At-loop Inv-loop μ-loop
-    at-loop = let c = at-sgo in search
+    at-sgo-2 c .simplify-graph-once .kept .1 .1 .1 .1 .1 .1 .1 .1 .1 .1 .0
+    ∙ at-loop-2 c .loop .inv .1 .1 .1 .1 .1 .1 .1 .1 .1
 
 same-length-20 : tie.Need-same-length-20 Inv-loop μ-loop
-same-length-20 c = at-rs .replace-signature .kept .0 ∙ at-loop .loop .inv .0 .sig-len
-  where
-    at-rs : tie.After-replace-signature Inv-loop μ-loop
-    at-rs = search
-
-    at-loop : tie.At-loop Inv-loop μ-loop
-    at-loop =
-        let c = at-rs in
-        let c : tie.After-map Inv-loop μ-loop = search in
-        let c : tie.After-es Inv-loop μ-loop = search in
-        search
+same-length-20 c = at-rs c .replace-signature .kept .0 ∙ at-loop-2 c .loop .inv .0 .sig-len
 
 returns-2 : tie.Need-returns-2 Inv-loop μ-loop
 returns-2 c =
     rw
     (c .end-with2 .ensures)
-    (round-repeated (at-loop .loop .inv .0) (at-loop-test .loop-test .taken) (at-sgo .simplify-graph-once .ensures)
-    (at-sgo .simplify-graph-once .kept .1 .1 .1 .1 .1 .0) (at-if1 .if1 .left) (at-if2 .if2 .taken)
-    (at-rs .replace-signature .ensures)
-    (sym (at-sgo .simplify-graph-once .kept .1 .1 .1 .1 .1 .0 ∙ at-loop .loop .inv .1 .1 .1 .1 .0))
-    (sym (at-sgo .simplify-graph-once .kept .1 .1 .1 .1 .1 .1 .0 ∙ at-loop .loop .inv .1 .1 .1 .1 .1 .0))
-    (at-if3 .if3 .taken))
-  where
-    at-if3 : tie.Then3 Inv-loop μ-loop
-    at-if3 = search
+    (round-repeated (at-loop-2 c .loop .inv .0) (at-loop-test-2 c .loop-test .taken)
+    (at-sgo-2 c .simplify-graph-once .ensures) (at-sgo-2 c .simplify-graph-once .kept .1 .1 .1 .1 .1 .0)
+    (at-if1-2 c .if1 .left) (at-if2 c .if2 .taken) (at-rs c .replace-signature .ensures)
+    (sym (at-sgo-2 c .simplify-graph-once .kept .1 .1 .1 .1 .1 .0 ∙ at-loop-2 c .loop .inv .1 .1 .1 .1 .0))
+    (sym (at-sgo-2 c .simplify-graph-once .kept .1 .1 .1 .1 .1 .1 .0 ∙ at-loop-2 c .loop .inv .1 .1 .1 .1 .1 .0))
+    (at-if3 c .if3 .taken))
 
-    at-rs : tie.After-replace-signature Inv-loop μ-loop
-    at-rs = let c = at-if3 in search
+module _ (c : tie.Else3 Inv-loop μ-loop) where
+  abbrev at-rs-2 : tie.After-replace-signature Inv-loop μ-loop
+  at-rs-2 = search
 
-    at-if2 : tie.Then2 Inv-loop μ-loop
-    at-if2 = let c = at-rs in search
+  abbrev at-if2-2 : tie.Then2 Inv-loop μ-loop
+  at-if2-2 = let c = at-rs-2 in search
 
-    at-if1 : tie.Else1 Inv-loop μ-loop
-    at-if1 = let c = at-if2 in search
+  abbrev at-if1-3 : tie.Else1 Inv-loop μ-loop
+  at-if1-3 = let c = at-if2-2 in search
 
-    at-sgo : tie.After-simplify-graph-once Inv-loop μ-loop
-    at-sgo = let c = at-if1 in let c : tie.After-nexts Inv-loop μ-loop = search in search
+  abbrev at-sgo-3 : tie.After-simplify-graph-once Inv-loop μ-loop
+  at-sgo-3 = let c = at-if1-3 in let c : tie.After-nexts Inv-loop μ-loop = search in search
 
-    at-loop-test : tie.In-loop Inv-loop μ-loop
-    at-loop-test = let c = at-sgo in search
+  abbrev at-loop-test-3 : tie.In-loop Inv-loop μ-loop
+  at-loop-test-3 = let c = at-sgo-3 in search
 
-    at-loop : tie.At-loop Inv-loop μ-loop
-    at-loop = let c = at-loop-test in search
+  abbrev at-loop-3 : tie.At-loop Inv-loop μ-loop
+  at-loop-3 = let c = at-loop-test-3 in search
 
 loop-less : tie.Need-loop-less Inv-loop μ-loop
-loop-less c = omega (arith, at-loop-test .loop-test .taken)
-  where
-    at-loop-test : tie.In-loop Inv-loop μ-loop
-    at-loop-test =
-        let c : tie.After-tried Inv-loop μ-loop = search in
-        let c : tie.After-p Inv-loop μ-loop = search in
-        let c : tie.After-simplify-graph-once-arg3 Inv-loop μ-loop = search in
-        search
+loop-less c = omega (arith, at-loop-test-3 c .loop-test .taken)
 
 loop-again : tie.Need-loop-again Inv-loop μ-loop
 loop-again c = (
-  round-on (at-loop .loop .inv .0) (at-loop-test .loop-test .taken) (at-sgo .simplify-graph-once .ensures)
-      (at-sgo .simplify-graph-once .kept .1 .1 .1 .1 .1 .0) (at-if1 .if1 .left) (at-if2 .if2 .taken)
-      (at-rs .replace-signature .ensures) (c .if3 .left) (at-rs .replace-signature .kept .0),
+  round-on (at-loop-3 c .loop .inv .0) (at-loop-test-3 c .loop-test .taken) (at-sgo-3 c .simplify-graph-once .ensures)
+      (at-sgo-3 c .simplify-graph-once .kept .1 .1 .1 .1 .1 .0) (at-if1-3 c .if1 .left) (at-if2-2 c .if2 .taken)
+      (at-rs-2 c .replace-signature .ensures) (c .if3 .left) (at-rs-2 c .replace-signature .kept .0),
   (
-    (at-sgo .simplify-graph-once .kept .1 .1 .0 ∙ at-loop .loop .inv .1 .0),
+    (at-sgo-3 c .simplify-graph-once .kept .1 .1 .0 ∙ at-loop-3 c .loop .inv .1 .0),
     (
-      (at-sgo .simplify-graph-once .kept .1 .1 .1 .0 ∙ at-loop .loop .inv .1 .1 .0),
+      (at-sgo-3 c .simplify-graph-once .kept .1 .1 .1 .0 ∙ at-loop-3 c .loop .inv .1 .1 .0),
       (
-        (at-sgo .simplify-graph-once .kept .1 .1 .1 .1 .0 ∙ at-loop .loop .inv .1 .1 .1 .0),
+        (at-sgo-3 c .simplify-graph-once .kept .1 .1 .1 .1 .0 ∙ at-loop-3 c .loop .inv .1 .1 .1 .0),
         (
-          (at-sgo .simplify-graph-once .kept .1 .1 .1 .1 .1 .0 ∙ at-loop .loop .inv .1 .1 .1 .1 .0),
+          (at-sgo-3 c .simplify-graph-once .kept .1 .1 .1 .1 .1 .0 ∙ at-loop-3 c .loop .inv .1 .1 .1 .1 .0),
           (
-            (at-sgo .simplify-graph-once .kept .1 .1 .1 .1 .1 .1 .0 ∙ at-loop .loop .inv .1 .1 .1 .1 .1 .0),
+            (at-sgo-3 c .simplify-graph-once .kept .1 .1 .1 .1 .1 .1 .0 ∙ at-loop-3 c .loop .inv .1 .1 .1 .1 .1 .0),
             (
-              (at-sgo .simplify-graph-once .kept .1 .1 .1 .1 .1 .1 .1 .0 ∙ at-loop .loop .inv .1 .1 .1 .1 .1 .1 .0),
+              (at-sgo-3 c .simplify-graph-once .kept .1 .1 .1 .1 .1 .1 .1 .0
+                  ∙ at-loop-3 c .loop .inv .1 .1 .1 .1 .1 .1 .0),
               (
-                (at-sgo .simplify-graph-once .kept .1 .1 .1 .1 .1 .1 .1 .1 .0
-                    ∙ at-loop .loop .inv .1 .1 .1 .1 .1 .1 .1 .0),
+                (at-sgo-3 c .simplify-graph-once .kept .1 .1 .1 .1 .1 .1 .1 .1 .0
+                    ∙ at-loop-3 c .loop .inv .1 .1 .1 .1 .1 .1 .1 .0),
                 (
-                  (at-sgo .simplify-graph-once .kept .1 .1 .1 .1 .1 .1 .1 .1 .1 .0
-                      ∙ at-loop .loop .inv .1 .1 .1 .1 .1 .1 .1 .1 .0),
-                  (at-sgo .simplify-graph-once .kept .1 .1 .1 .1 .1 .1 .1 .1 .1 .1 .0
-                      ∙ at-loop .loop .inv .1 .1 .1 .1 .1 .1 .1 .1 .1),
+                  (at-sgo-3 c .simplify-graph-once .kept .1 .1 .1 .1 .1 .1 .1 .1 .1 .0
+                      ∙ at-loop-3 c .loop .inv .1 .1 .1 .1 .1 .1 .1 .1 .0),
+                  (at-sgo-3 c .simplify-graph-once .kept .1 .1 .1 .1 .1 .1 .1 .1 .1 .1 .0
+                      ∙ at-loop-3 c .loop .inv .1 .1 .1 .1 .1 .1 .1 .1 .1),
                 ),
               ),
             ),
@@ -391,58 +287,49 @@ loop-again c = (
     ),
   ),
 )
-  where
-    at-rs : tie.After-replace-signature Inv-loop μ-loop
-    at-rs = search
 
-    at-if2 : tie.Then2 Inv-loop μ-loop
-    at-if2 = let c = at-rs in search
+module _ (c : tie.Else2 Inv-loop μ-loop) where
+  abbrev at-if1-4 : tie.Else1 Inv-loop μ-loop
+  at-if1-4 = search
 
-    at-if1 : tie.Else1 Inv-loop μ-loop
-    at-if1 = let c = at-if2 in search
+  abbrev at-sgo-4 : tie.After-simplify-graph-once Inv-loop μ-loop
+  at-sgo-4 = let c = at-if1-4 in let c : tie.After-nexts Inv-loop μ-loop = search in search
 
-    at-sgo : tie.After-simplify-graph-once Inv-loop μ-loop
-    at-sgo = let c = at-if1 in let c : tie.After-nexts Inv-loop μ-loop = search in search
+  abbrev at-loop-test-4 : tie.In-loop Inv-loop μ-loop
+  at-loop-test-4 = let c = at-sgo-4 in search
 
-    at-loop-test : tie.In-loop Inv-loop μ-loop
-    at-loop-test = let c = at-sgo in search
-
-    at-loop : tie.At-loop Inv-loop μ-loop
-    at-loop = let c = at-loop-test in search
+  abbrev at-loop-4 : tie.At-loop Inv-loop μ-loop
+  at-loop-4 = let c = at-loop-test-4 in search
 
 loop-less-2 : tie.Need-loop-less-2 Inv-loop μ-loop
-loop-less-2 c = omega (arith, at-loop-test .loop-test .taken)
-  where
-    at-loop-test : tie.In-loop Inv-loop μ-loop
-    at-loop-test =
-        let c : tie.After-nexts Inv-loop μ-loop = search in
-        let c : tie.After-simplify-graph-once Inv-loop μ-loop = search in
-        search
+loop-less-2 c = omega (arith, at-loop-test-4 c .loop-test .taken)
 
 loop-again-2 : tie.Need-loop-again-2 Inv-loop μ-loop
 loop-again-2 c = (
-  round-early (at-loop .loop .inv .0) (at-loop-test .loop-test .taken) (at-sgo .simplify-graph-once .ensures)
-      (at-sgo .simplify-graph-once .kept .1 .1 .1 .1 .1 .0) (at-if1 .if1 .left) (c .if2 .left),
+  round-early (at-loop-4 c .loop .inv .0) (at-loop-test-4 c .loop-test .taken)
+      (at-sgo-4 c .simplify-graph-once .ensures) (at-sgo-4 c .simplify-graph-once .kept .1 .1 .1 .1 .1 .0)
+      (at-if1-4 c .if1 .left) (c .if2 .left),
   (
-    (at-sgo .simplify-graph-once .kept .1 .1 .0 ∙ at-loop .loop .inv .1 .0),
+    (at-sgo-4 c .simplify-graph-once .kept .1 .1 .0 ∙ at-loop-4 c .loop .inv .1 .0),
     (
-      (at-sgo .simplify-graph-once .kept .1 .1 .1 .0 ∙ at-loop .loop .inv .1 .1 .0),
+      (at-sgo-4 c .simplify-graph-once .kept .1 .1 .1 .0 ∙ at-loop-4 c .loop .inv .1 .1 .0),
       (
-        (at-sgo .simplify-graph-once .kept .1 .1 .1 .1 .0 ∙ at-loop .loop .inv .1 .1 .1 .0),
+        (at-sgo-4 c .simplify-graph-once .kept .1 .1 .1 .1 .0 ∙ at-loop-4 c .loop .inv .1 .1 .1 .0),
         (
-          (at-sgo .simplify-graph-once .kept .1 .1 .1 .1 .1 .0 ∙ at-loop .loop .inv .1 .1 .1 .1 .0),
+          (at-sgo-4 c .simplify-graph-once .kept .1 .1 .1 .1 .1 .0 ∙ at-loop-4 c .loop .inv .1 .1 .1 .1 .0),
           (
-            (at-sgo .simplify-graph-once .kept .1 .1 .1 .1 .1 .1 .0 ∙ at-loop .loop .inv .1 .1 .1 .1 .1 .0),
+            (at-sgo-4 c .simplify-graph-once .kept .1 .1 .1 .1 .1 .1 .0 ∙ at-loop-4 c .loop .inv .1 .1 .1 .1 .1 .0),
             (
-              (at-sgo .simplify-graph-once .kept .1 .1 .1 .1 .1 .1 .1 .0 ∙ at-loop .loop .inv .1 .1 .1 .1 .1 .1 .0),
+              (at-sgo-4 c .simplify-graph-once .kept .1 .1 .1 .1 .1 .1 .1 .0
+                  ∙ at-loop-4 c .loop .inv .1 .1 .1 .1 .1 .1 .0),
               (
-                (at-sgo .simplify-graph-once .kept .1 .1 .1 .1 .1 .1 .1 .1 .0
-                    ∙ at-loop .loop .inv .1 .1 .1 .1 .1 .1 .1 .0),
+                (at-sgo-4 c .simplify-graph-once .kept .1 .1 .1 .1 .1 .1 .1 .1 .0
+                    ∙ at-loop-4 c .loop .inv .1 .1 .1 .1 .1 .1 .1 .0),
                 (
-                  (at-sgo .simplify-graph-once .kept .1 .1 .1 .1 .1 .1 .1 .1 .1 .0
-                      ∙ at-loop .loop .inv .1 .1 .1 .1 .1 .1 .1 .1 .0),
-                  (at-sgo .simplify-graph-once .kept .1 .1 .1 .1 .1 .1 .1 .1 .1 .1 .0
-                      ∙ at-loop .loop .inv .1 .1 .1 .1 .1 .1 .1 .1 .1),
+                  (at-sgo-4 c .simplify-graph-once .kept .1 .1 .1 .1 .1 .1 .1 .1 .1 .0
+                      ∙ at-loop-4 c .loop .inv .1 .1 .1 .1 .1 .1 .1 .1 .0),
+                  (at-sgo-4 c .simplify-graph-once .kept .1 .1 .1 .1 .1 .1 .1 .1 .1 .1 .0
+                      ∙ at-loop-4 c .loop .inv .1 .1 .1 .1 .1 .1 .1 .1 .1),
                 ),
               ),
             ),
@@ -452,18 +339,6 @@ loop-again-2 c = (
     ),
   ),
 )
-  where
-    at-if1 : tie.Else1 Inv-loop μ-loop
-    at-if1 = search
-
-    at-sgo : tie.After-simplify-graph-once Inv-loop μ-loop
-    at-sgo = let c = at-if1 in let c : tie.After-nexts Inv-loop μ-loop = search in search
-
-    at-loop-test : tie.In-loop Inv-loop μ-loop
-    at-loop-test = let c = at-sgo in search
-
-    at-loop : tie.At-loop Inv-loop μ-loop
-    at-loop = let c = at-loop-test in search
 
 end-with-requires-3 : tie.Need-end-with-requires-3 Inv-loop μ-loop
 end-with-requires-3 c κs = omega arith
