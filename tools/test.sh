@@ -59,6 +59,7 @@ step sgshow tools/test_sgshow.py
 step 'the record tool' tools/test_sgr.py
 step 'what moved' tools/test_moved.py
 step layout tools/test_layout.py
+step 'shared bindings' tools/test_share.py
 step crates.txt tools/crates.py check
 step 'the comparison with the Rust' compare
 cat "$verdict"
