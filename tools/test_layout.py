@@ -1,5 +1,6 @@
 #!/usr/bin/env python3
-"""Tests that the files of crates/ can be read: laid out by `rt fmt`, no line too long, no place named by counting steps.
+"""Tests that the files of crates/ can be read: laid out by `rt fmt`, no line too long, no place named by counting steps,
+and no public name of a definition or a law in two files.
 
     tools/test_layout.py
 """
@@ -24,15 +25,28 @@ def faults(path, text):
             yield "%s:%d: a position in the source, which the next edit makes untrue" % (path, number)
 
 
+def public_names(text):
+    """The names that a file of definitions or laws declares for others, outside modules and records."""
+    return set(re.findall(r"(?m)^(?:unfoldable |abbrev )?pub (?:record |data )?(?!mod )([^\s:({]+)", text))
+
+
 def main():
-    found, count = [], 0
+    found, count, declared = [], 0, {}
     for folder, _, names in os.walk(os.path.join(ROOT, "crates")):
         for name in sorted(names):
             if name.endswith((".antt", ".rt")):
                 path = os.path.join(folder, name)
+                short = os.path.relpath(path, ROOT)
                 with open(path, encoding="utf-8") as f:
-                    found += faults(os.path.relpath(path, ROOT), f.read())
+                    text = f.read()
+                found += faults(short, text)
                 count += 1
+                if name.endswith(".antt") and name != "Proof.antt":
+                    for public in public_names(text):
+                        declared.setdefault(public, []).append(short)
+    for public, paths in sorted(declared.items()):
+        if len(paths) > 1:
+            found.append("`%s` is declared in %s: one name, one meaning" % (public, " and ".join(sorted(paths))))
     if found or not count:
         sys.exit("\n".join(found[:20] + ["%d faults" % len(found)]))
     subprocess.run(["rt", "fmt", "--check"], cwd=ROOT, check=True)
