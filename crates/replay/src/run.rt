@@ -1,4 +1,5 @@
 // Makes the call of a stored case.
+use crate::expected::BEFORE;
 use crate::expected::Got;
 use crate::expected::begins_with;
 use crate::expected::same_answer;
@@ -173,13 +174,18 @@ fn read_list(bytes: &[u8], list: &mut [u32]) {
     }
 }
 
+// Room for the list and for the output of every stored case.
+const LIST_MOST: usize = 16384;
+
+const OUT_MOST: usize = 65536;
+
 fn run(case: &[u8], rec: &[u8], numbers: &[u8], expected: &[u8]) -> Outcome {
     if word(case, 0) == 0 {
         return run_vertex(case, rec, expected);
     }
-    let mut list = [0u32; 16384];
+    let mut list = [0u32; LIST_MOST];
     read_list(numbers, &mut list);
-    let mut out = [165u8; 65536];
+    let mut out = [BEFORE; OUT_MOST];
     run_in(case, rec, &list, expected, &mut out)
 }
 
