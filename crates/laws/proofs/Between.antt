@@ -164,13 +164,13 @@ module _ (g : Graph) where
       none-kept zero h = refl
       none-kept (suc n) h = rank-no p n (h n (omega arith)) ∙ none-kept n (λ v l. h v (omega arith))
 
-      joinedData : (m n v : ℕ) → Way forward g m s v → Way backward g n t v → (k : ℕ) × Way forward g k s t
-      joinedData m zero v a b = (m, rw (← b) at a)
-      joinedData m (suc n) v a b =
+      joined-ways : (m n v : ℕ) → Way forward g m s v → Way backward g n t v → (k : ℕ) × Way forward g k s t
+      joined-ways m zero v a b = (m, rw (← b) at a)
+      joined-ways m (suc n) v a b =
           let z = way-last backward g n t v b in
-          joinedData (suc m) n (z .0) (way-more forward g m s v (z .0) a (edge-hop g v (z .0) (back (z .0) v (z .2)))) (z .1)
+          joined-ways (suc m) n (z .0) (way-more forward g m s v (z .0) a (edge-hop g v (z .0) (back (z .0) v (z .2)))) (z .1)
 
       pub unreached-empty : elemOf t (reached forward g s) ≡ false → nodeCount (removePathsNotConnectedToRef g s t) ≡ 0
       unreached-empty e = rw between-is (order-restrict p g ∙ none-kept (nodeCount g) (λ v _. byTest (p v)
-          (λ q. let w = of-p v q in let z = joinedData (w .0 .0) (w .1 .0) v (w .0 .1) (w .1 .1) in clash (is-forward (z .0) s t s-in (z .1)) e)
+          (λ q. let w = of-p v q in let z = joined-ways (w .0 .0) (w .1 .0) v (w .0 .1) (w .1 .1) in clash (is-forward (z .0) s t s-in (z .1)) e)
           (λ q. q)))

@@ -117,7 +117,7 @@ module _ (g : Graph) (bounded : Bounded g) (r : ℕ → ℕ) (ranks : Ranks g r)
     pub zip-weight : (f : List ℕ → ℕ) → ((a b : List ℕ) → f (a ++ b) ≤ f a + f b) → total f ((mergeLinearChain g s rest) .verts) ≤ total f (g .verts)
     unfolding mergeLinearChain removeVerticesById compactVertices
     zip-weight f sub =
-        omega (arith, total-kept f [] (G .verts) rest once-rest belowG, gone-same, joinedData, flat-le f sub (vertexSequence g) s rest, tails-sum)
+        omega (arith, total-kept f [] (G .verts) rest once-rest belowG, gone-same, joined-total, flat-le f sub (vertexSequence g) s rest, tails-sum)
       where
         s-old : s < length (g .verts)
         s-old = unfold nodeCount in (Z.s-old g bounded r ranks s y ys chained)
@@ -127,8 +127,8 @@ module _ (g : Graph) (bounded : Bounded g) (r : ℕ → ℕ) (ranks : Ranks g r)
             ap f (unfold vertexSequence in (Z.seq-other g bounded r ranks s y ys chained v
             (λ e. keeps-not rest s (Z.s-keep g bounded r ranks s y ys chained) (rw e at m)))))
 
-        joinedData : total f (G .verts) + f (vertexSequence g s) ≡ total f (g .verts) + f (concat (map (vertexSequence g) (s ∷ rest)))
-        joinedData = unfold vertexSequence in (total-set f [] (g .verts) s (concat (map (vertexSequence g) (s ∷ rest))) s-old)
+        joined-total : total f (G .verts) + f (vertexSequence g s) ≡ total f (g .verts) + f (concat (map (vertexSequence g) (s ∷ rest)))
+        joined-total = unfold vertexSequence in (total-set f [] (g .verts) s (concat (map (vertexSequence g) (s ∷ rest))) s-old)
 
         tails-sum : total (λ v. f (vertexSequence g v)) (s ∷ rest) ≡ f (vertexSequence g s) + total (λ v. f (vertexSequence g v)) rest
         tails-sum = unfold total in refl

@@ -1,4 +1,4 @@
-// Zip: each linear chain of vertices becomes one vertex (`zip_linear_chains`).
+// One linear chain of vertices becomes one vertex (`merge_linear_chain`); numbers kept elsewhere follow their vertices.
 ghost use mathlib.Core.Path.{_≡_};
 ghost use Prim.Native.Nat.{ℕ, _+_, _*_, _<_, _≤_};
 ghost use lib.ListN.{length, getD};

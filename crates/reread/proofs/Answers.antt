@@ -49,11 +49,11 @@ status-most justReference = omega arith
 status-most someVariation = omega arith
 
 module _ (bs : List ℕ) (small : Bytes bs) (ok : recordRefusal sequenceOnly bs ≡ 0) where
-  abbrev simplified : Graph
-  simplified = (simplifyGraphFull minTailSuffixLen (decode bs)) .graph
+  abbrev simplifiedGraph : Graph
+  simplifiedGraph = (simplifyGraphFull minTailSuffixLen (decode bs)) .graph
 
-  pub simplify-reread : RereadAs simplified (encode sequenceGraph 0 simplified)
-  simplify-reread = answer-reread simplified (simplified-answer (decode bs) (sequence-input bs small ok)) 0 (omega arith)
+  pub simplify-reread : RereadAs simplifiedGraph (encode sequenceGraph 0 simplifiedGraph)
+  simplify-reread = answer-reread simplifiedGraph (simplified-answer (decode bs) (sequence-input bs small ok)) 0 (omega arith)
 
   abbrev cleaned : Graph
   cleaned = (cleanupSeqGraph (decode bs)) .graph
