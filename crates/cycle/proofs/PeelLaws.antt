@@ -248,7 +248,9 @@ module _ {m n : ℕ} {es heads nexts : List ℕ} (X : Indexed m n es heads nexts
           place = P .place;
           queued = queued;
           zero = λ v b z. elim (ℕ-discrete v (edgeEnd 1 es e)) [
-            | yes s ↦ absurd (nz (ap (λ (x : ℕ). getD degrees x 0 - 1) t ∙ sym stored ∙ ap (λ (x : ℕ). getD (set degrees (edgeEnd 1 es e) (getD degrees (edgeEnd 1 es e) 0 - 1)) x 0) (sym s) ∙ z))
+            | yes s ↦
+                let less : List ℕ = set degrees (edgeEnd 1 es e) (getD degrees (edgeEnd 1 es e) 0 - 1) in
+                absurd (nz (ap (λ (x : ℕ). getD degrees x 0 - 1) t ∙ sym stored ∙ ap (λ (x : ℕ). getD less x 0) (sym s) ∙ z))
             | no ne ↦ other-zero v b ne z
           ];
         };
