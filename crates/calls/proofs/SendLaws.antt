@@ -4,7 +4,7 @@ use mathlib.Core.List.{List, _++_}
 use Prim.Native.Nat.{ℕ, _+_, _*_, _≤_, _<_}
 use native.Mathlib.Omega.{arith}
 use lib.ListN.{length, drop}
-use Rattle.defs.specs.Calls.{Response, numberOf, lengthOf, writtenOf, fits}
+use Rattle.defs.specs.Calls.{Response, refused, accepted, numberOf, lengthOf, writtenOf, fits}
 use Rattle.defs.specs.Record.{sequenceGraph, encode}
 use Rattle.memory.specs.Memory.{graphOf, vertexRoom, edgeRoom, Room, Holds}
 use Rattle.memory.specs.declared.Held.{Held}
@@ -14,11 +14,33 @@ use Rattle.accept.specs.declared.Read.{Read}
 use Rattle.accept.specs.declared.Read.the-variants as read
 use Rattle.accept.proofs.AcceptLaws.{number-graph, number-refused}
 use Rattle.write_record.specs.Written.{Measured, RecordWritable, RecordWritten}
-use Rattle.calls.specs.Sending.{Sendable, Sends, SendsGraph}
+use Rattle.calls.specs.Sending.{Sendable, Responds, SendsGraph}
 use Rattle.calls.proofs.ResponseLaws.{fits-short, fits-enough, respond-refused, respond-fits}
 use Rattle.store.specs.Store.{Within}
 use Rattle.write_record.proofs.WriteLaws.{bytes-are, encode-length}
 use Rattle.calls.specs.declared.Sent.{Sent}
+
+-- what is sent, by the response
+pub responds-refused : {x : Response} {n : ℕ} → x ≡ refused n → {s : Sent} → s ≡ record { number = n; length = 0 } → {out out′ : List ℕ}
+    → out′ ≡ out → Responds x out s out′
+unfolding numberOf lengthOf writtenOf
+responds-refused e q {out} w = record {
+  number = ap (λ (y : Sent). y .number) q ∙ sym (ap numberOf e);
+  size = ap (λ (y : Sent). y .length) q ∙ sym (ap lengthOf e);
+  written = w ∙ sym (ap (λ (y : Response). writtenOf y out) e);
+}
+
+pub responds-accepted : {x : Response} (r : List ℕ) → x ≡ accepted r → {s : Sent} {n : ℕ} → n ≡ length r → s ≡ record { number = 0; length = n }
+    → {out out′ : List ℕ} → out′ ≡ r ++ drop n out → Responds x out s out′
+unfolding numberOf lengthOf writtenOf
+responds-accepted r e l q {out} w = record {
+  number = ap (λ (y : Sent). y .number) q ∙ sym (ap numberOf e);
+  size = ap (λ (y : Sent). y .length) q ∙ l ∙ sym (ap lengthOf e);
+  written = w ∙ ap (λ (i : ℕ). r ++ drop i out) l ∙ sym (ap (λ (y : Response). writtenOf y out) e);
+}
+
+pub responds-as : {x y : Response} → x ≡ y → {out out′ : List ℕ} {s : Sent} → Responds y out s out′ → Responds x out s out′
+responds-as e {out} {out′} {s} R = subst (λ (z : Response). Responds z out s out′) (sym e) R
 
 -- a held graph whose counts fit 16 bits
 pub held-sendable : {h : Held} {es vs p heads nexts nodes mp : List ℕ} (status : ℕ) → status < 256 → vertexRoom heads < 65536
@@ -57,20 +79,17 @@ module _ {status : ℕ} {h : Held} {es vs p : List ℕ} (S : Sendable status h e
   long : length result ≡ size
   long = encode-length status (h .k .0) (h .n) (h .m) es vs p (S .within) ∙ sym q
 
-  as-fits : {x : Response} → fits (length out) result ≡ x → {r : Sent} {out′ : List ℕ} → r .number ≡ numberOf x → r .length ≡ lengthOf x
-      → out′ ≡ writtenOf x out → Sends result out r out′
-  as-fits e a b c = record { number = a ∙ ap numberOf (sym e); size = b ∙ ap lengthOf (sym e); written = c ∙ ap (λ (x : Response). writtenOf x out) (sym e) }
-
-  pub send-short : length out < size → Sends result out record { number = 11; length = 0 } out
-  unfolding numberOf lengthOf writtenOf
-  send-short l = as-fits (fits-short (length out) result (omega (arith, long))) refl refl refl
+  pub send-short : length out < size → Responds (fits (length out) result) out record { number = 11; length = 0 } out
+  send-short l = responds-refused (fits-short (length out) result (omega (arith, long))) refl refl
 
   pub send-writable : size ≤ length out → RecordWritable status h es vs p out
   send-writable l = S .writable out (omega (arith, q))
 
-  pub send-written : size ≤ length out → {r : ℕ} {out′ : List ℕ} → RecordWritten status h es vs p out r out′ → Sends result out record { number = 0; length = r } out′
-  unfolding numberOf lengthOf writtenOf
-  send-written l W = as-fits (fits-enough (length out) result (omega (arith, long))) refl (W .long) (W .is)
+  pub send-written : size ≤ length out → {r : ℕ} {out′ : List ℕ} → RecordWritten status h es vs p out r out′
+      → Responds (fits (length out) result) out record { number = 0; length = r } out′
+  send-written l W =
+      responds-accepted result (fits-enough (length out) result (omega (arith, long))) (W .long) refl
+      (W .is ∙ ap (λ (i : ℕ). result ++ drop i out) (sym (W .long)))
 
   pub send-small : {r : ℕ} {out′ : List ℕ} → RecordWritten status h es vs p out r out′ → r < 4294967296
   send-small W = omega (arith, W .long, long, q, S .measured .small)
@@ -78,22 +97,14 @@ module _ {status : ℕ} {h : Held} {es vs p : List ℕ} (S : Sendable status h e
 -- a number where a cause is present, else the record where it fits
 module _ {r : Read} {es vs p : List ℕ} where
   pub sends-refused : {n : ℕ} → r ≡ read.Refused n → {status : ℕ} {out : List ℕ} → SendsGraph status r es vs p out record { number = n; length = 0 } out
-  unfolding numberOf lengthOf writtenOf
   sends-refused {n} f {status} {out} = record {
     is = λ causes result M.
-        let e = respond-refused causes (length out) result n (sym (M .number) ∙ number-refused f) (M .refused n f) in
-        record { number = sym (ap numberOf e); size = sym (ap lengthOf e); written = sym (ap (λ (x : Response). writtenOf x out) e) };
+        responds-refused (respond-refused causes (length out) result n (sym (M .number) ∙ number-refused f) (M .refused n f)) refl refl;
   }
 
   pub sends-graph : {h : Held} → r ≡ read.Graph h → {status : ℕ} {out : List ℕ} {s : Sent} {out′ : List ℕ}
-      → Sends (encode sequenceGraph status (graphOf h es vs p)) out s out′ → SendsGraph status r es vs p out s out′
-  sends-graph {h} ok {status} {out} {s} {out′} S = record {
+      → Responds (fits (length out) (encode sequenceGraph status (graphOf h es vs p))) out s out′ → SendsGraph status r es vs p out s out′
+  sends-graph {h} ok {status} {out} S = record {
     is = λ causes result M.
-        let e = respond-fits causes (length out) result (sym (M .number) ∙ number-graph ok) in
-        let S′ = subst (λ (x : List ℕ). Sends x out s out′) (M .is h ok) S in
-        record {
-          number = S′ .number ∙ ap numberOf (sym e);
-          size = S′ .size ∙ ap lengthOf (sym e);
-          written = S′ .written ∙ ap (λ (x : Response). writtenOf x out) (sym e);
-        };
+        responds-as (respond-fits causes (length out) result (sym (M .number) ∙ number-graph ok) ∙ ap (fits (length out)) (sym (M .is h ok))) S;
   }

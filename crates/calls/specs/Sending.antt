@@ -5,7 +5,7 @@ use Prim.Native.Nat.{ℕ, _+_, _*_, _≤_}
 use lib.ListN.{length}
 use Rattle.defs.specs.Record.{sequenceGraph, encode}
 use Rattle.defs.specs.Refusals.{Cause, refusalOf}
-use Rattle.defs.specs.Calls.{Response, fits, respond, numberOf, lengthOf, writtenOf}
+use Rattle.defs.specs.Calls.{Response, respond, numberOf, lengthOf, writtenOf}
 use Rattle.store.specs.Store.{Within}
 use Rattle.pool.specs.Pool.{bytesIn}
 use Rattle.memory.specs.Memory.{graphOf}
@@ -21,12 +21,6 @@ pub record Sendable (status : ℕ) (h : Held) (es vs p : List ℕ) : Type 0 wher
   pub measured : Measured h vs
   pub within : Within (length p) (h .n) vs
   pub writable : (out : List ℕ) → 32 + 2 * h .n + 9 * h .m + bytesIn (h .n) vs ≤ length out → RecordWritable status h es vs p out
-
--- 11 where the output is shorter than the result, and all as it was; else the result is written
-pub record Sends (result out : List ℕ) (r : Sent) (out′ : List ℕ) : Type 0 where
-  pub number : r .number ≡ numberOf (fits (length out) result)
-  pub size : r .length ≡ lengthOf (fits (length out) result)
-  pub written : out′ ≡ writtenOf (fits (length out) result) out
 
 -- The promise of what a call sends: number, length and the output at exit are those of its response.
 pub record Responds (x : Response) (out : List ℕ) (s : Sent) (out′ : List ℕ) : Type 0 where

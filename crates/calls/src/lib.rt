@@ -3,9 +3,10 @@
 ghost use mathlib.Core.Path.{_≡_};
 ghost use lib.ListN.{length};
 ghost use Rattle.defs.specs.Record.{sequenceGraph, encode};
+ghost use Rattle.defs.specs.Calls.{fits};
 ghost use Rattle.memory.specs.Memory.{graphOf};
 ghost use Rattle.calls.specs.Answers.{CountsCall, Tallies, TalliesSimplify, TalliesCleanup};
-ghost use Rattle.calls.specs.Sending.{Sendable, Sends, GraphSendable, SendsGraph};
+ghost use Rattle.calls.specs.Sending.{Sendable, Responds, GraphSendable, SendsGraph};
 use accept::Read;
 use memory::Held;
 
@@ -125,8 +126,8 @@ pub fn tally_cleanup(sent: Sent, status: u32, rewrites: u32, t: Tally) -> Cleanu
 
 fn send_record(out: &mut [u8], status: u32, held: Held, es: &[u32], vs: &[u32], p: &[u8]) -> Sent
     requires { ⌜ Sendable status held (now es) (now vs) (now p) ⌝ }
-    ensures { λ r. ⌜ Sends (encode sequenceGraph status (graphOf held (now (es .entry)) (now (vs .entry)) (now (p .entry))))
-        (now (out .entry)) r (now (out .exit)) ⌝ }
+    ensures { λ r. ⌜ Responds (fits (length (now (out .entry)))
+        (encode sequenceGraph status (graphOf held (now (es .entry)) (now (vs .entry)) (now (p .entry))))) (now (out .entry)) r (now (out .exit)) ⌝ }
 {
     let length = write_record::record_length(held, vs);
     if out.len() < length {

@@ -26,29 +26,12 @@ use Rattle.spell.proofs.SpellLaws.{none-told, some-told}
 use Rattle.calls.specs.Sending.{Responds}
 use Rattle.calls.specs.declared.Sent.{Sent}
 use Rattle.calls.proofs.CauseLaws.{behind-refused, behind-present, behind-absent}
+use Rattle.calls.proofs.SendLaws.{responds-refused, responds-accepted}
 use Rattle.calls.proofs.ResponseLaws.{fits-short, fits-enough, respond-refused, respond-fits}
 use Rattle.reading_calls.specs.Reading.{pathResponse, Tells, Tellable, GraphAnswered}
 use Rattle.reading_calls.proofs.LengthLaws.{path-most, reference-most}
 
--- ---- what is sent, by the response
-
-pub responds-refused : {x : Response} {n : ℕ} → x ≡ refused n → {s : Sent} → s ≡ record { number = n; length = 0 } → {out out′ : List ℕ}
-    → out′ ≡ out → Responds x out s out′
-unfolding numberOf lengthOf writtenOf
-responds-refused e q {out} w = record {
-  number = ap (λ (y : Sent). y .number) q ∙ sym (ap numberOf e);
-  size = ap (λ (y : Sent). y .length) q ∙ sym (ap lengthOf e);
-  written = w ∙ sym (ap (λ (y : Response). writtenOf y out) e);
-}
-
-responds-accepted : {x : Response} (r : List ℕ) → x ≡ accepted r → {s : Sent} {n : ℕ} → n ≡ length r → s ≡ record { number = 0; length = n }
-    → {out out′ : List ℕ} → out′ ≡ r ++ drop n out → Responds x out s out′
-unfolding numberOf lengthOf writtenOf
-responds-accepted r e l q {out} w = record {
-  number = ap (λ (y : Sent). y .number) q ∙ sym (ap numberOf e);
-  size = ap (λ (y : Sent). y .length) q ∙ l ∙ sym (ap lengthOf e);
-  written = w ∙ ap (λ (i : ℕ). r ++ drop i out) l ∙ sym (ap (λ (y : Response). writtenOf y out) e);
-}
+-- ---- what is sent, by what is told
 
 byBytes : {A : Type 0} (b : OptionBytes) → ((n : ℕ) → b ≡ Some n → A) → (b ≡ None → A) → A
 byBytes (Some n) f g = f n refl
@@ -57,7 +40,6 @@ byBytes None f g = g refl
 some-or-none : {A : Type 0} {b : OptionBytes} {n : ℕ} → b ≡ None → b ≡ Some n → A
 some-or-none p q = absurd (let z : _≡_ {A = ℕ} 0 1 = cc in omega arith)
 
--- what is sent of what is told
 module _ {b : OptionBytes} {room missing : ℕ} {s : Sent} where
   pub tell-none : b ≡ None → s ≡ record { number = missing; length = 0 } → Tells b room missing s
   tell-none f q = record { none = λ _. q; short = λ n e. some-or-none f e; whole = λ n e. some-or-none f e }

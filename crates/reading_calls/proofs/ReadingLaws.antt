@@ -26,12 +26,12 @@ use Rattle.cleanup_room.proofs.CleanLean.{clean-lean}
 use Rattle.arrays.specs.Sized.{LentMarks}
 use Rattle.calls.specs.Sending.{Sendable, Responds, GraphSendable, SendsGraph}
 use Rattle.calls.specs.declared.Sent.{Sent}
-use Rattle.calls.proofs.SendLaws.{held-sendable}
+use Rattle.calls.proofs.SendLaws.{held-sendable, responds-refused}
 use Rattle.calls.proofs.ResponseLaws.{respond-refused}
 use Rattle.reading_calls.specs.Reading.{readingResponse, pathResponse, Answerable, Tellable, GraphAnswered, ReadAnswerable, ReadAnswered}
 use Rattle.reading_calls.specs.declared.ReadingCall.{ReadingCall}
 use Rattle.reading_calls.specs.declared.ReadingCall.the-variants.{CleanNonRefPaths, ReferencePathBytes, PathBasesBytes}
-use Rattle.reading_calls.proofs.BytesLaws.{responds-refused, reference-refused, path-refused}
+use Rattle.reading_calls.proofs.BytesLaws.{reference-refused, path-refused}
 
 -- what is lent is room enough for what was read
 module _ {bs es vs p heads nexts nodes mp tried : List ℕ} (Z : LentMarks bs es vs p heads nexts nodes mp tried) where
