@@ -2,14 +2,12 @@
 use mathlib.Core.Path.{_≡_, refl, sym, ap, _∙_}
 use mathlib.Core.List.{List}
 use Prim.Native.Nat.{ℕ}
-use native.Mathlib.Omega.{arith}
 use lib.ListN.{length}
 use Rattle.defs.specs.SeqGraph.{saturatingAdd}
 use Rattle.defs.specs.Calls as D
-use Rattle.defs.specs.Calls.{Response, refused, accepted, numberOf, lengthOf, fieldOf, tallied, respond}
-use Rattle.defs.specs.Simplify.{Simplified, endNumber}
-use Rattle.defs.specs.Cleanup.{Cleaned, statusNumber}
-use Rattle.defs.specs.Refusals.{Cause}
+use Rattle.defs.specs.Calls.{Response, refused, accepted, numberOf, lengthOf, fieldOf, tallied}
+use Rattle.defs.specs.Simplify.{endNumber}
+use Rattle.defs.specs.Cleanup.{statusNumber}
 use Rattle.calls.specs.Answers.{tallyOf, CountsCall, Tallies, TalliesSimplify, TalliesCleanup}
 use Rattle.calls.specs.declared.Tally.{Tally}
 use Rattle.calls.specs.declared.Sent.{Sent}

@@ -1,6 +1,6 @@
 -- Which response a call gives, and what follows from it. Assumes nothing.
-use mathlib.Core.Path.{_≡_, refl, sym, ap, _∙_}
-use mathlib.Core.List.{List, _++_}
+use mathlib.Core.Path.{_≡_, refl, sym, ap, _∙_, subst}
+use mathlib.Core.List.{List}
 use Prim.Native.Nat.{ℕ, zero, suc, _≤_, _<_}
 use native.Mathlib.Omega.{arith}
 use native.Mathlib.Decide.{ℕ-discrete}
@@ -51,6 +51,11 @@ module _ (causes : List Cause) (out result : List ℕ) where
   answered i = by-response causes (length out) result
       (λ n e o. absurd (o (sym (ap numberOf e) ∙ i)))
       (λ z l e. (z, ap (λ (x : Response). take (lengthOf x) (writtenOf x out)) e ∙ take-append-seam result (drop (length result) out)))
+
+  -- what holds of the result where there is no cause holds of what was written where the number is 0
+  pub answered-holds : (P : List ℕ → Type 0) → (refusalOf causes ≡ 0 → P result) → {n len : ℕ} {out′ : List ℕ} → n ≡ numberOf response
+      → len ≡ lengthOf response → out′ ≡ writtenOf response out → n ≡ 0 → P (take len out′)
+  answered-holds P f q l w i = let y = answered (sym q ∙ i) in subst P (sym ((λ j. take (l j) (w j)) ∙ y .1)) (f (y .0))
 
   -- a result of at most so many bytes is never too long for an output of as many
   pub room-enough : (most : ℕ) → (refusalOf causes ≡ 11 → ⊥) → (refusalOf causes ≡ 0 → length result ≤ most) → most ≤ length out

@@ -1,9 +1,9 @@
 -- The promise of clean_non_ref_paths: the answer and the output are the definition's, and of these the rest is known by laws. Assumes nothing.
-use mathlib.Core.Path.{_≡_, sym, ap, _∙_, subst}
+use mathlib.Core.Path.{_≡_, sym, ap, _∙_}
 use mathlib.Core.List.{List}
 use Prim.Native.Nat.{ℕ}
 use native.Mathlib.Omega.{arith}
-use lib.ListN.{length, take}
+use lib.ListN.{length}
 use Rattle.defs.specs.Cleanup.{cleanNonRefPaths}
 use Rattle.defs.specs.Record.{sequenceGraph, encode, decode}
 use Rattle.defs.specs.Refusals.{Cause, sequenceOnly, recordCauses, recordRefusal}
@@ -18,7 +18,7 @@ use Rattle.calls.specs.Sending.{Responds}
 use Rattle.calls.specs.declared.Tally.{Tally}
 use Rattle.calls.specs.declared.Sent.{Sent}
 use Rattle.calls.specs.declared.Answer.{Answer}
-use Rattle.calls.proofs.ResponseLaws.{answered, room-enough}
+use Rattle.calls.proofs.ResponseLaws.{answered-holds, room-enough}
 use Rattle.reading_calls.specs.Reading.{readingResponse}
 use Rattle.reading_calls.specs.declared.ReadingCall.the-variants.{CleanNonRefPaths}
 use Rattle.clean_non_ref_paths.specs.CleansPaths.{CleansPaths}
@@ -45,11 +45,9 @@ module _ (bs list : List ℕ) {out : List ℕ} {t : Tally} {s : Sent} {a : Answe
     written = S .written;
     room = λ l i. room-enough causes out result 49184 (λ e. omega (arith, e, record-most sequenceOnly bs)) (λ ok. (again ok) .size) l
         (sym number-is ∙ i);
-    reaccepted = λ i. subst (ReacceptedAs (cleanNonRefPaths (decode bs))) (sym (front i)) (again (answered causes out result (sym number-is ∙ i) .0));
+    reaccepted = answered-holds causes out result (ReacceptedAs (cleanNonRefPaths (decode bs))) again number-is
+        (ap (λ (x : D.Answer). x .length) answer-is) (S .written);
   }
     where
       number-is : a .number ≡ numberOf (cleanNonRefPathsResponse bs (length out))
       number-is = ap (λ (x : D.Answer). x .number) answer-is
-
-      front : a .number ≡ 0 → take (a .length) out′ ≡ result
-      front i = (λ j. take (ap (λ (x : D.Answer). x .length) answer-is j) (S .written j)) ∙ answered causes out result (sym number-is ∙ i) .1

@@ -4,12 +4,11 @@ use mathlib.Core.List.{List}
 use Prim.Native.Nat.{ℕ}
 use native.Mathlib.Omega.{arith}
 use lib.ListN.{length, take}
-use Rattle.defs.specs.SeqGraph.{Graph}
 use Rattle.defs.specs.Cleanup.{Status, justReference, someVariation, Cleaned, statusNumber, choiceGraph, cleanupSeqGraph}
 use Rattle.defs.specs.Record.{sequenceGraph, encode, decode}
 use Rattle.defs.specs.Refusals.{Cause, sequenceOnly, recordCauses, recordRefusal}
 use Rattle.defs.specs.Calls as D
-use Rattle.defs.specs.Calls.{numberOf, lengthOf, cleanupSeqGraphResponse, cleanupSeqGraphAnswer}
+use Rattle.defs.specs.Calls.{numberOf, cleanupSeqGraphResponse, cleanupSeqGraphAnswer}
 use Rattle.laws.proofs.Cleaned.{cleanup-varies, cleanup-plain}
 use Rattle.sound.proofs.Accepted.{accepted-good}
 use Rattle.reread.specs.Reread.{RereadAs}
@@ -18,7 +17,7 @@ use Rattle.reread.proofs.Answers.{cleanup-reread}
 use Rattle.calls.specs.Answers.{tallyOf, cleanupAnswerOf, TalliesCleanup}
 use Rattle.calls.specs.declared.Tally.{Tally}
 use Rattle.calls.specs.declared.CleanupAnswer.{CleanupAnswer}
-use Rattle.calls.proofs.ResponseLaws.{answered, room-enough, field-answered}
+use Rattle.calls.proofs.ResponseLaws.{answered-holds, room-enough, field-answered}
 use Rattle.rewriting.specs.Rewriting.{resultOf}
 use Rattle.rewriting.specs.declared.RewritingCall.the-variants.{CleanupSeqGraph}
 use Rattle.rewriting_calls.specs.Answered.{RewritingAnswered}
@@ -56,29 +55,26 @@ module _ {bs out : List ℕ} {t : Tally} {r : RewritingAnswer} {a : CleanupAnswe
   cleans = record {
     answer = answer-is;
     written = A .sent .written;
-    strings = λ i two.
-        subst (SpellsChosen (choiceGraph (decode bs))) (sym (again i .graph)) (chosen (none i) (status-two (z .status) (sym (status-is i) ∙ two)));
-    plain = λ i one. again i .graph ∙ cleanup-plain (decode bs) (status-one (z .status) (sym (status-is i) ∙ one));
+    strings = λ i two. holds (λ rec. SpellsChosen (choiceGraph (decode bs)) (decode rec)) (λ ok.
+        subst (SpellsChosen (choiceGraph (decode bs))) (sym (again ok .graph)) (chosen ok (status-two (z .status) (sym (status-is i) ∙ two)))) i;
+    plain = λ i one. holds (λ rec. decode rec ≡ choiceGraph (decode bs)) (λ ok.
+        again ok .graph ∙ cleanup-plain (decode bs) (status-one (z .status) (sym (status-is i) ∙ one))) i;
     room = λ l i. room-enough causes out result 176160 (λ e. omega (arith, e, record-most sequenceOnly bs))
-        (λ ok. (cleanup-reread bs small ok) .size) l (sym number-is ∙ i);
-    reread = again;
+        (λ ok. again ok .size) l (sym number-is ∙ i);
+    reread = holds (RereadAs (z .graph)) again;
   }
     where
       number-is : a .number ≡ numberOf (cleanupSeqGraphResponse bs (length out))
       number-is = ap (λ (x : D.CleanupAnswer). x .number) answer-is
 
-      none : a .number ≡ 0 → recordRefusal sequenceOnly bs ≡ 0
-      none i = answered causes out result (sym number-is ∙ i) .0
-
       status-is : a .number ≡ 0 → a .status ≡ statusNumber (z .status)
       status-is i = ap (λ (x : D.CleanupAnswer). x .status) answer-is ∙ field-answered causes out result (statusNumber (z .status)) (sym number-is ∙ i)
 
-      front : a .number ≡ 0 → take (a .length) out′ ≡ result
-      front i =
-          (λ j. take (ap (λ (x : D.CleanupAnswer). x .length) answer-is j) (A .sent .written j)) ∙ answered causes out result (sym number-is ∙ i) .1
+      again : recordRefusal sequenceOnly bs ≡ 0 → RereadAs (z .graph) result
+      again ok = cleanup-reread bs small ok
 
-      again : a .number ≡ 0 → RereadAs (z .graph) (take (a .length) out′)
-      again i = subst (RereadAs (z .graph)) (sym (front i)) (cleanup-reread bs small (none i))
+      holds : (P : List ℕ → Type 0) → (recordRefusal sequenceOnly bs ≡ 0 → P result) → a .number ≡ 0 → P (take (a .length) out′)
+      holds P f = answered-holds causes out result P f number-is (ap (λ (x : D.CleanupAnswer). x .length) answer-is) (A .sent .written)
 
       chosen : recordRefusal sequenceOnly bs ≡ 0 → z .status ≡ someVariation → SpellsChosen (choiceGraph (decode bs)) (z .graph)
       chosen ok v =

@@ -1,15 +1,15 @@
 -- The promise of from_assembly_graph. Assumes nothing.
-use mathlib.Core.Path.{_≡_, refl, sym, ap, _∙_, subst}
+use mathlib.Core.Path.{_≡_, refl, sym, ap, _∙_}
 use mathlib.Core.Bool.{Bool}
 use mathlib.Core.List.{List}
 use Prim.Native.Nat.{ℕ, _≤_}
 use native.Mathlib.Omega.{arith}
 use native.Mathlib.Decide.{ℕ-discrete}
 use lib.Dec.{ltb}
-use lib.ListN.{length, take}
+use lib.ListN.{length}
 use Rattle.defs.specs.SeqGraph.{Graph, nodeCount}
 use Rattle.defs.specs.Calls as D
-use Rattle.defs.specs.Calls.{numberOf, lengthOf, writtenOf, conversionCauses}
+use Rattle.defs.specs.Calls.{numberOf, conversionCauses}
 use Rattle.defs.specs.Calls.{fromAssemblyGraphResponse, fromAssemblyGraphAnswer}
 use Rattle.defs.specs.Record.{kindOf, verticesOf, edgesOf, bytesOf, sequenceGraph, encode, decode}
 use Rattle.defs.specs.Refusals.{kmerOnly, refusalOf, recordRefusal}
@@ -30,7 +30,7 @@ use Rattle.calls.specs.Sending.{Responds, GraphSendable, SendsGraph}
 use Rattle.calls.specs.declared.Tally.{Tally}
 use Rattle.calls.specs.declared.Answer.{Answer}
 use Rattle.calls.specs.declared.Sent.{Sent}
-use Rattle.calls.proofs.ResponseLaws.{answered, room-enough}
+use Rattle.calls.proofs.ResponseLaws.{answered-holds, room-enough}
 use Rattle.calls.proofs.CauseLaws.{behind-refused, behind-present, behind-absent}
 use Rattle.read_kmers.proofs.KmerLaws.{kmer-bytes-least, kmer-bytes-most}
 use Rattle.from_kmers.specs.Conversion.{RoomToConvert, ConvertedAs}
@@ -118,16 +118,12 @@ module _ (bs : List ℕ) {out : List ℕ} {t : Tally} {s : Sent} {a : Answer} {o
     written = S .written;
     room = λ l i. room-enough (conversionCauses bs) out (result bs) 49184 (never-11 bs)
         (λ ok. (convert-reaccepted bs small ok) .size) l (sym number-is ∙ i);
-    reaccepted = λ i. let y = answered (conversionCauses bs) out (result bs) (sym number-is ∙ i) in
-        subst (ReacceptedAs (fromAssemblyGraph (decode bs))) (sym (front ∙ y .1)) (convert-reaccepted bs small (y .0));
+    reaccepted = answered-holds (conversionCauses bs) out (result bs) (ReacceptedAs (fromAssemblyGraph (decode bs))) (convert-reaccepted bs small)
+        number-is (ap (λ (x : D.Answer). x .length) answer-is) (S .written);
   }
     where
       number-is : a .number ≡ numberOf (fromAssemblyGraphResponse bs (length out))
       number-is = ap (λ (x : D.Answer). x .number) answer-is
-
-      front : take (a .length) out′
-          ≡ take (lengthOf (fromAssemblyGraphResponse bs (length out))) (writtenOf (fromAssemblyGraphResponse bs (length out)) out)
-      front = λ j. take (ap (λ (x : D.Answer). x .length) answer-is j) (S .written j)
 
 -- ---- room
 

@@ -1,18 +1,18 @@
 -- The bytes that are told are the call's response. Assumes nothing.
-use mathlib.Core.Path.{_≡_, refl, sym, ap, _∙_, subst}
+use mathlib.Core.Path.{_≡_, refl, ap, _∙_, subst}
 use mathlib.Core.Bool.{not}
 use mathlib.Core.Option.{Option, none, some}
-use mathlib.Core.List.{List, _++_}
+use mathlib.Core.List.{List}
 use Prim.Native.Nat.{ℕ, _≤_, _<_}
 use native.Mathlib.Omega.{arith}
-use lib.ListN.{length, drop}
+use lib.ListN.{length}
 use Rattle.defs.specs.Lists.{given}
 use Rattle.defs.specs.SeqGraph.{Graph}
 use Rattle.defs.specs.Simplify.{sequenceBytes}
 use Rattle.defs.specs.Paths.{isPathOf, pathBasesBytes, referencePathBytes}
 use Rattle.defs.specs.Record.{decode}
 use Rattle.defs.specs.Refusals.{sequenceOnly, recordRefusal}
-use Rattle.defs.specs.Calls.{Response, refused, accepted, numberOf, lengthOf, writtenOf, fits, isNothing, bytesOrNone}
+use Rattle.defs.specs.Calls.{Response, refused, fits, isNothing, bytesOrNone}
 use Rattle.defs.specs.Calls.{referencePathBytesResponse, pathBasesBytesResponse}
 use Rattle.laws.proofs.Walks.{byTest}
 use Rattle.laws.proofs.ListLaws.{given-some, byOrder, given-yes}

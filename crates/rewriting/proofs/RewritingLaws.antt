@@ -5,7 +5,7 @@ use Prim.Native.Nat.{ℕ}
 use native.Mathlib.Omega.{arith}
 use lib.ListN.{length}
 use Rattle.defs.specs.SeqGraph.{Graph}
-use Rattle.defs.specs.Simplify.{minTailSuffixLen, endNumber}
+use Rattle.defs.specs.Simplify.{minTailSuffixLen}
 use Rattle.defs.specs.Cleanup.{statusNumber}
 use Rattle.defs.specs.Record.{decode}
 use Rattle.memory.specs.Memory.{Holds}
@@ -15,7 +15,6 @@ use Rattle.accept.specs.Accept.{ReadAs}
 use Rattle.accept.specs.declared.Read.{Read}
 use Rattle.accept.specs.declared.Read.the-variants as read
 use Rattle.accept.proofs.AcceptLaws.{byRead, not-both, number-graph, number-refused, same-held}
-use Rattle.choice.specs.Choice.{Cleanable}
 use Rattle.choice.proofs.ChoiceLaws.{holds-lean-kept}
 use Rattle.cleanup_room.proofs.ReadLean.{read-lean}
 use Rattle.rounds.specs.Rounds.{Full}

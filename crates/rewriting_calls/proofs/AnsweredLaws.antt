@@ -1,16 +1,13 @@
 -- What was rewritten is sent. Assumes nothing.
-use mathlib.Core.Path.{_≡_, refl, sym, ap, _∙_}
+use mathlib.Core.Path.{_≡_, sym, ap, _∙_}
 use mathlib.Core.List.{List}
 use Prim.Native.Nat.{ℕ, _<_}
 use native.Mathlib.Omega.{arith}
 use lib.ListN.{length}
 use Rattle.defs.specs.SeqGraph.{Graph}
 use Rattle.defs.specs.Cleanup.{Status, justReference, someVariation, statusNumber, cleanupSeqGraph}
-use Rattle.defs.specs.Record.{sequenceGraph, encode, decode}
+use Rattle.defs.specs.Record.{decode}
 use Rattle.defs.specs.Refusals.{sequenceOnly, recordCauses, recordRefusal}
-use Rattle.memory.specs.declared.Held.{Held}
-use Rattle.accept.specs.Accept.{readNumber}
-use Rattle.accept.specs.declared.Read.{Read}
 use Rattle.accept.specs.declared.Read.the-variants as read
 use Rattle.accept.proofs.AcceptLaws.{byRead, number-refused}
 use Rattle.rewriting.specs.Rewriting.{Result, resultOf, RewrittenAs}

@@ -12,7 +12,7 @@ use Rattle.defs.specs.Strings.{Spells}
 use Rattle.defs.specs.Record.{sequenceGraph, encode, decode}
 use Rattle.defs.specs.Refusals.{Cause, sequenceOnly, recordCauses, recordRefusal}
 use Rattle.defs.specs.Calls as D
-use Rattle.defs.specs.Calls.{numberOf, lengthOf, simplifyGraphResponse, simplifyGraphAnswer}
+use Rattle.defs.specs.Calls.{numberOf, simplifyGraphResponse, simplifyGraphAnswer}
 use Rattle.laws.proofs.Fuel.{Good}
 use Rattle.laws.proofs.Measures.{weight}
 use Rattle.laws.proofs.Bound.{simplify-bound}
@@ -24,7 +24,7 @@ use Rattle.reread.proofs.Answers.{simplify-reread}
 use Rattle.calls.specs.Answers.{tallyOf, simplifyAnswerOf, TalliesSimplify}
 use Rattle.calls.specs.declared.Tally.{Tally}
 use Rattle.calls.specs.declared.SimplifyAnswer.{SimplifyAnswer}
-use Rattle.calls.proofs.ResponseLaws.{answered, room-enough, field-most}
+use Rattle.calls.proofs.ResponseLaws.{answered-holds, room-enough, field-most}
 use Rattle.rewriting.specs.Rewriting.{resultOf}
 use Rattle.rewriting.specs.declared.RewritingCall.the-variants.{SimplifyGraph}
 use Rattle.rewriting_calls.specs.Answered.{RewritingAnswered}
@@ -51,8 +51,8 @@ module _ {bs out : List ℕ} {t : Tally} {r : RewritingAnswer} {a : SimplifyAnsw
   simplifies = record {
     answer = answer-is;
     written = A .sent .written;
-    strings = λ i s.
-        subst (λ (g : Graph). Spells (decode bs) s ↔ Spells g s) (sym (again i .graph)) (simplify-spells (decode bs) (good (none i) .0) s);
+    strings = holds (λ rec. (s : List ℕ) → Spells (decode bs) s ↔ Spells (decode rec) s) (λ ok s.
+        subst (λ (g : Graph). Spells (decode bs) s ↔ Spells g s) (sym (again ok .graph)) (simplify-spells (decode bs) (good ok .0) s));
     bound = omega (
       arith,
       ap (λ (x : D.SimplifyAnswer). x .rewrites) answer-is,
@@ -60,22 +60,18 @@ module _ {bs out : List ℕ} {t : Tally} {r : RewritingAnswer} {a : SimplifyAnsw
           (λ ok. simplify-bound minTailSuffixLen (omega arith) (decode bs) (good ok)),
     );
     room = λ l i. room-enough causes out result 176160 (λ e. omega (arith, e, record-most sequenceOnly bs))
-        (λ ok. (simplify-reread bs small ok) .size) l (sym number-is ∙ i);
-    reread = again;
+        (λ ok. again ok .size) l (sym number-is ∙ i);
+    reread = holds (RereadAs (z .graph)) again;
   }
     where
       number-is : a .number ≡ numberOf (simplifyGraphResponse bs (length out))
       number-is = ap (λ (x : D.SimplifyAnswer). x .number) answer-is
 
-      none : a .number ≡ 0 → recordRefusal sequenceOnly bs ≡ 0
-      none i = answered causes out result (sym number-is ∙ i) .0
-
       good : recordRefusal sequenceOnly bs ≡ 0 → Good (decode bs)
       good ok = accepted-good sequenceOnly bs ok
 
-      front : a .number ≡ 0 → take (a .length) out′ ≡ result
-      front i =
-          (λ j. take (ap (λ (x : D.SimplifyAnswer). x .length) answer-is j) (A .sent .written j)) ∙ answered causes out result (sym number-is ∙ i) .1
+      again : recordRefusal sequenceOnly bs ≡ 0 → RereadAs (z .graph) result
+      again ok = simplify-reread bs small ok
 
-      again : a .number ≡ 0 → RereadAs (z .graph) (take (a .length) out′)
-      again i = subst (RereadAs (z .graph)) (sym (front i)) (simplify-reread bs small (none i))
+      holds : (P : List ℕ → Type 0) → (recordRefusal sequenceOnly bs ≡ 0 → P result) → a .number ≡ 0 → P (take (a .length) out′)
+      holds P f = answered-holds causes out result P f number-is (ap (λ (x : D.SimplifyAnswer). x .length) answer-is) (A .sent .written)
