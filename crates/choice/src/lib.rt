@@ -45,7 +45,7 @@ fn keep_connected(
     nexts: &mut [u32],
     nodes: &mut [u32],
     map: &mut [u32],
-    tried: &mut [u64],
+    tried: &mut [u8],
 ) -> Held
     requires { ⌜ Compactable (held .n) (held .m) (now es) (now vs) (now map)
         × (Indexed (held .m) (held .n) (now es) (now heads) (now nexts)
@@ -69,7 +69,7 @@ pub fn before_choice(
     nodes: &mut [u32],
     map: &mut [u32],
     starts: &mut [u32],
-    tried: &mut [u64],
+    tried: &mut [u8],
     sig: &mut [u32],
 ) -> Work
     requires { ⌜ Cleanable held (now es) (now vs) (now p) (now heads) (now nexts) (now nodes) (now map) (now starts) (now tried) (now sig) ⌝ }

@@ -52,7 +52,7 @@ fn keep_between(
     nodes: &mut [u32],
     map: &mut [u32],
     starts: &mut [u32],
-    tried: &mut [u64],
+    tried: &mut [u8],
     sig: &mut [u32],
 ) -> CleanedUp
     requires { ⌜ Cleanable (work .held) (now es) (now vs) (now p) (now heads) (now nexts) (now nodes) (now map) (now starts) (now tried)
@@ -112,7 +112,7 @@ fn after_choice(
     nodes: &mut [u32],
     map: &mut [u32],
     starts: &mut [u32],
-    tried: &mut [u64],
+    tried: &mut [u8],
     sig: &mut [u32],
 ) -> CleanedUp
     requires { ⌜ Cleanable (work .held) (now es) (now vs) (now p) (now heads) (now nexts) (now nodes) (now map) (now starts) (now tried)
@@ -156,7 +156,7 @@ pub fn cleanup_seq_graph(
     nodes: &mut [u32],
     map: &mut [u32],
     starts: &mut [u32],
-    tried: &mut [u64],
+    tried: &mut [u8],
     sig: &mut [u32],
 ) -> CleanedUp
     requires { ⌜ Cleanable held (now es) (now vs) (now p) (now heads) (now nexts) (now nodes) (now map) (now starts) (now tried) (now sig) ⌝ }

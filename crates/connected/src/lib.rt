@@ -12,7 +12,7 @@ use memory::Held;
 use refs::OptionVertex;
 
 // Those of n vertices without a mark go: they get 1 in `map`.
-fn mark_missed(marks: &[u64], n: usize, map: &mut [u32])
+fn mark_missed(marks: &[u8], n: usize, map: &mut [u32])
     requires { ⌜ (n ≤ length (now marks)) × (n ≤ length (now map)) ⌝ }
     ensures { λ _. ⌜ Missed n (now (marks .entry)) (now (map .entry)) (now (map .exit)) ⌝ }
 {
@@ -37,7 +37,7 @@ fn mark_unreached(
     s: usize,
     nodes: &mut [u32],
     map: &mut [u32],
-    tried: &mut [u64],
+    tried: &mut [u8],
 )
     requires { ⌜ (s < n) × ((n ≤ length (now map)) × (Indexed m n (now es) (now heads) (now nexts) × Walkable n (now tried) (now nodes))) ⌝ }
     ensures { λ _. ⌜ Unreached kind m n (now (es .entry)) s (now (map .entry)) (now (map .exit)) ⌝ }
@@ -55,7 +55,7 @@ pub fn remove_vertices_not_connected_to_ref(
     nexts: &[u32],
     nodes: &mut [u32],
     map: &mut [u32],
-    tried: &mut [u64],
+    tried: &mut [u8],
 ) -> Held
     requires { ⌜ Compactable (held .n) (held .m) (now es) (now vs) (now map)
         × (Indexed (held .m) (held .n) (now es) (now heads) (now nexts) × Walkable (held .n) (now tried) (now nodes)) ⌝ }
@@ -82,7 +82,7 @@ pub fn remove_paths_not_connected_to_ref(
     nexts: &[u32],
     nodes: &mut [u32],
     map: &mut [u32],
-    tried: &mut [u64],
+    tried: &mut [u8],
 ) -> Held
     requires { ⌜ (s < held .n) × ((t < held .n) × (Compactable (held .n) (held .m) (now es) (now vs) (now map)
         × (Indexed (held .m) (held .n) (now es) (now heads) (now nexts) × Walkable (held .n) (now tried) (now nodes)))) ⌝ }

@@ -15,7 +15,7 @@ use memory::Held;
 use refs::OptionVertex;
 
 // An edge stays that is a reference edge, or whose end `off` has no mark; off 0 is the end that it leaves, 1 the end that it enters.
-fn edge_stays(es: &[u32], e: usize, off: usize, n: usize, marks: &[u64]) -> bool
+fn edge_stays(es: &[u32], e: usize, off: usize, n: usize, marks: &[u8]) -> bool
     requires { ⌜ (4 * e + 4 ≤ length (now es)) × ((off ≤ 1) × ((getD (now es) (4 * e + off) 0 < n) × (n ≤ length (now marks)))) ⌝ }
     ensures { λ r. ⌜ r ≡ staysBy off (now (marks .entry)) (edgeIn (now (es .entry)) e) ⌝ }
 {
@@ -26,7 +26,7 @@ fn edge_stays(es: &[u32], e: usize, off: usize, n: usize, marks: &[u64]) -> bool
 }
 
 // Closes m edges up over those that do not stay, in place; the number left.
-fn keep_edges(es: &mut [u32], m: usize, off: usize, n: usize, marks: &[u64]) -> usize
+fn keep_edges(es: &mut [u32], m: usize, off: usize, n: usize, marks: &[u8]) -> usize
     requires { ⌜ (4 * m ≤ length (now es)) × ((off ≤ 1) × (EndsBelow n m (now es) × (n ≤ length (now marks)))) ⌝ }
     ensures { λ r. ⌜ EdgesKept off n m (now (es .entry)) (now (marks .entry)) r (now (es .exit)) ⌝ }
 {
@@ -57,7 +57,7 @@ fn drop_edges(
     kind: u32,
     s: usize,
     nodes: &mut [u32],
-    tried: &mut [u64],
+    tried: &mut [u8],
 ) -> usize
     requires { ⌜ (s < n) × ((kind ≤ 1) × ((m < 4294967296) × (Indexed m n (now es) (now heads) (now nexts) × Walkable n (now tried) (now nodes)))) ⌝ }
     ensures { λ r. ⌜ EdgesDropped kind m n (now (es .entry)) s r (now (es .exit)) × Indexed r n (now (es .exit)) (now (heads .exit)) (now (nexts .exit)) ⌝ }
@@ -79,7 +79,7 @@ fn clean_between(
     nexts: &mut [u32],
     nodes: &mut [u32],
     map: &mut [u32],
-    tried: &mut [u64],
+    tried: &mut [u8],
 ) -> Held
     requires { ⌜ (s < held .n) × ((t < held .n) × ((held .m < 4294967296)
         × (Compactable (held .n) (held .m) (now es) (now vs) (now map)
@@ -109,7 +109,7 @@ pub fn clean_non_ref_paths(
     nexts: &mut [u32],
     nodes: &mut [u32],
     map: &mut [u32],
-    tried: &mut [u64],
+    tried: &mut [u8],
 ) -> Held
     requires { ⌜ Compactable (held .n) (held .m) (now es) (now vs) (now map)
         × (Indexable (held .m) (held .n) (now es) (now heads) (now nexts) × Walkable (held .n) (now tried) (now nodes)) ⌝ }

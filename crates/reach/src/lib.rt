@@ -30,7 +30,7 @@ fn may_pass(es: &[u32], e: usize, plain: bool) -> bool
     true
 }
 
-fn clear_marks(marks: &mut [u64], n: usize)
+fn clear_marks(marks: &mut [u8], n: usize)
     requires { ⌜ n ≤ length (now marks) ⌝ }
     ensures { λ _. ⌜ NoneMarked n (now (marks .exit)) ⌝ }
 {
@@ -53,7 +53,7 @@ fn push_steps(
     off: usize,
     s: usize,
     h: usize,
-    marks: &mut [u64],
+    marks: &mut [u8],
     queue: &mut [u32],
     queued: usize,
 ) -> usize
@@ -94,7 +94,7 @@ fn leave_vertex(
     kind: u32,
     s: usize,
     h: usize,
-    marks: &mut [u64],
+    marks: &mut [u8],
     queue: &mut [u32],
     queued: usize,
 ) -> usize
@@ -145,7 +145,7 @@ pub fn mark_reached(
     plain: bool,
     kind: u32,
     s: usize,
-    marks: &mut [u64],
+    marks: &mut [u8],
     queue: &mut [u32],
 )
     requires { ⌜ (s < n) × (Indexed m n (now es) (now heads) (now nexts) × Walkable n (now marks) (now queue)) ⌝ }

@@ -57,7 +57,7 @@ fn clean_in(
     nexts: &mut [u32],
     nodes: &mut [u32],
     map: &mut [u32],
-    tried: &mut [u64],
+    tried: &mut [u8],
 ) -> Sent
     requires { ⌜ Answerable held (now es) (now vs) (now p) (now heads) (now nexts) (now nodes) (now map) (now tried) ⌝ }
     ensures { λ r. ⌜ GraphAnswered cleanNonRefPathsResponse held (now (es .entry)) (now (vs .entry)) (now (p .entry)) (now (out .entry)) r
@@ -121,7 +121,7 @@ fn answer_read(
     nexts: &mut [u32],
     nodes: &mut [u32],
     map: &mut [u32],
-    tried: &mut [u64],
+    tried: &mut [u8],
 ) -> Sent
     requires { ⌜ ReadAnswerable read (now es) (now vs) (now p) (now heads) (now nexts) (now nodes) (now map) (now tried) ⌝ }
     ensures { λ r. ⌜ ReadAnswered (readingResponse call (now (list .entry))) read (now (es .entry)) (now (vs .entry)) (now (p .entry))
@@ -159,7 +159,7 @@ fn answer_in(
     nexts: &mut [u32],
     nodes: &mut [u32],
     map: &mut [u32],
-    tried: &mut [u64],
+    tried: &mut [u8],
 ) -> Sent
     requires { ⌜ LentMarks (now rec) (now es) (now vs) (now p) (now heads) (now nexts) (now nodes) (now map) (now tried) ⌝ }
     ensures { λ r. ⌜ Responds (readingResponse call (now (list .entry)) (now (rec .entry)) (length (now (out .entry)))) (now (out .entry)) r (now (out .exit)) ⌝ }
@@ -194,7 +194,7 @@ fn large_with(
     nexts: &mut [u32; 2 * LARGE_EDGES],
     nodes: &mut [u32; LARGE_EDGES],
     map: &mut [u32; 2 * LARGE_VERTICES],
-    tried: &mut [u64; LARGE_VERTICES],
+    tried: &mut [u8; LARGE_VERTICES],
 ) -> Sent
     ensures { λ r. ⌜ Responds (readingResponse call (now (list .entry)) (now (rec .entry)) (length (now (out .entry)))) (now (out .entry)) r (now (out .exit)) ⌝ }
 {
@@ -224,7 +224,7 @@ fn large(call: ReadingCall, list: &[u32], rec: &[u8], out: &mut [u8]) -> Sent
     let mut nexts = [0u32; 2 * LARGE_EDGES];
     let mut nodes = [0u32; LARGE_EDGES];
     let mut map = [0u32; 2 * LARGE_VERTICES];
-    let mut tried = [0u64; LARGE_VERTICES];
+    let mut tried = [0u8; LARGE_VERTICES];
     large_with(
         call,
         list,
@@ -253,7 +253,7 @@ fn small_with(
     nexts: &mut [u32; 2 * SMALL_EDGES],
     nodes: &mut [u32; SMALL_EDGES],
     map: &mut [u32; 2 * SMALL_VERTICES],
-    tried: &mut [u64; SMALL_VERTICES],
+    tried: &mut [u8; SMALL_VERTICES],
 ) -> Sent
     requires { ⌜ length (now rec) ≤ 1024 ⌝ }
     ensures { λ r. ⌜ Responds (readingResponse call (now (list .entry)) (now (rec .entry)) (length (now (out .entry)))) (now (out .entry)) r (now (out .exit)) ⌝ }
@@ -285,7 +285,7 @@ fn small(call: ReadingCall, list: &[u32], rec: &[u8], out: &mut [u8]) -> Sent
     let mut nexts = [0u32; 2 * SMALL_EDGES];
     let mut nodes = [0u32; SMALL_EDGES];
     let mut map = [0u32; 2 * SMALL_VERTICES];
-    let mut tried = [0u64; SMALL_VERTICES];
+    let mut tried = [0u8; SMALL_VERTICES];
     small_with(
         call,
         list,

@@ -46,7 +46,7 @@ fn simplify(
     nodes: &mut [u32],
     map: &mut [u32],
     starts: &mut [u32],
-    tried: &mut [u64],
+    tried: &mut [u8],
     sig: &mut [u32],
 ) -> Rewritten
     requires { ⌜ Cleanable held (now es) (now vs) (now p) (now heads) (now nexts) (now nodes) (now map) (now starts) (now tried) (now sig) ⌝ }
@@ -87,7 +87,7 @@ fn clean_up(
     nodes: &mut [u32],
     map: &mut [u32],
     starts: &mut [u32],
-    tried: &mut [u64],
+    tried: &mut [u8],
     sig: &mut [u32],
 ) -> Rewritten
     requires { ⌜ Cleanable held (now es) (now vs) (now p) (now heads) (now nexts) (now nodes) (now map) (now starts) (now tried) (now sig) ⌝ }
@@ -130,7 +130,7 @@ fn rewrite(
     nodes: &mut [u32],
     map: &mut [u32],
     starts: &mut [u32],
-    tried: &mut [u64],
+    tried: &mut [u8],
     sig: &mut [u32],
 ) -> Rewritten
     requires { ⌜ ReadCleanable read (now es) (now vs) (now p) (now heads) (now nexts) (now nodes) (now map) (now starts) (now tried) (now sig) ⌝ }
@@ -192,7 +192,7 @@ pub fn read_and_rewrite(
     nodes: &mut [u32],
     map: &mut [u32],
     starts: &mut [u32],
-    tried: &mut [u64],
+    tried: &mut [u8],
     sig: &mut [u32],
 ) -> Rewritten
     requires { ⌜ Lent (now rec) (now es) (now vs) (now p) (now heads) (now nexts) (now nodes) (now map) (now starts) (now tried) (now sig) ⌝ }

@@ -33,7 +33,7 @@ fn answer_in(
     nodes: &mut [u32],
     map: &mut [u32],
     starts: &mut [u32],
-    tried: &mut [u64],
+    tried: &mut [u8],
     sig: &mut [u32],
 ) -> RewritingAnswer
     requires { ⌜ Lent (now rec) (now es) (now vs) (now p) (now heads) (now nexts) (now nodes) (now map) (now starts) (now tried) (now sig) ⌝ }
@@ -77,7 +77,7 @@ fn large_with(
     nodes: &mut [u32; LARGE_EDGES],
     map: &mut [u32; 2 * LARGE_VERTICES],
     starts: &mut [u32; LARGE_VERTICES],
-    tried: &mut [u64; LARGE_VERTICES],
+    tried: &mut [u8; LARGE_VERTICES],
     sig: &mut [u32; 2 * LARGE_VERTICES + 2],
 ) -> RewritingAnswer
     ensures { λ r. ⌜ RewritingAnswered call (now (rec .entry)) (now (out .entry)) r (now (out .exit)) ⌝ }
@@ -110,7 +110,7 @@ fn large(call: RewritingCall, rec: &[u8], out: &mut [u8]) -> RewritingAnswer
     let mut nodes = [0u32; LARGE_EDGES];
     let mut map = [0u32; 2 * LARGE_VERTICES];
     let mut starts = [0u32; LARGE_VERTICES];
-    let mut tried = [0u64; LARGE_VERTICES];
+    let mut tried = [0u8; LARGE_VERTICES];
     let mut sig = [0u32; 2 * LARGE_VERTICES + 2];
     large_with(
         call,
@@ -141,7 +141,7 @@ fn small_with(
     nodes: &mut [u32; SMALL_EDGES],
     map: &mut [u32; 2 * SMALL_VERTICES],
     starts: &mut [u32; SMALL_VERTICES],
-    tried: &mut [u64; SMALL_VERTICES],
+    tried: &mut [u8; SMALL_VERTICES],
     sig: &mut [u32; 2 * SMALL_VERTICES + 2],
 ) -> RewritingAnswer
     requires { ⌜ length (now rec) ≤ 1024 ⌝ }
@@ -176,7 +176,7 @@ fn small(call: RewritingCall, rec: &[u8], out: &mut [u8]) -> RewritingAnswer
     let mut nodes = [0u32; SMALL_EDGES];
     let mut map = [0u32; 2 * SMALL_VERTICES];
     let mut starts = [0u32; SMALL_VERTICES];
-    let mut tried = [0u64; SMALL_VERTICES];
+    let mut tried = [0u8; SMALL_VERTICES];
     let mut sig = [0u32; 2 * SMALL_VERTICES + 2];
     small_with(
         call,

@@ -42,7 +42,7 @@ pub fn simplify_graph_once(
     nodes: &mut [u32],
     map: &mut [u32],
     starts: &mut [u32],
-    tried: &mut [u64],
+    tried: &mut [u8],
 ) -> Work
     requires { ⌜ Ready least (work .held) (now es) (now vs) (now p) (now heads) (now nexts) (now nodes) (now map)
         × (Countable 5 (work .rewrites) (now heads) × Scratch (now heads) (now starts) (now tried)) ⌝ }
@@ -68,7 +68,7 @@ pub fn simplify_rounds(
     nodes: &mut [u32],
     map: &mut [u32],
     starts: &mut [u32],
-    tried: &mut [u64],
+    tried: &mut [u8],
     sig: &mut [u32],
 ) -> Simplified
     requires { ⌜ Ready least (work .held) (now es) (now vs) (now p) (now heads) (now nexts) (now nodes) (now map)
@@ -111,7 +111,7 @@ pub fn simplify_graph_full(
     nodes: &mut [u32],
     map: &mut [u32],
     starts: &mut [u32],
-    tried: &mut [u64],
+    tried: &mut [u8],
     sig: &mut [u32],
 ) -> Simplified
     requires { ⌜ Simplifiable least held (now es) (now vs) (now p) (now heads) (now nexts) (now nodes) (now map) (now starts) (now tried) (now sig) ⌝ }

@@ -44,7 +44,7 @@ fn show_in(
     nodes: &mut [u32],
     map: &mut [u32],
     starts: &mut [u32],
-    tried: &mut [u64],
+    tried: &mut [u8],
     sig: &mut [u32],
 ) -> usize
     requires { ⌜ (340000 ≤ length (now text)) × Lent (now rec) (now es) (now vs) (now p) (now heads) (now nexts) (now nodes) (now map)
@@ -83,7 +83,7 @@ fn show_with(
     nodes: &mut [u32; LARGE_EDGES],
     map: &mut [u32; 2 * LARGE_VERTICES],
     starts: &mut [u32; LARGE_VERTICES],
-    tried: &mut [u64; LARGE_VERTICES],
+    tried: &mut [u8; LARGE_VERTICES],
     sig: &mut [u32; 2 * LARGE_VERTICES + 2],
 ) -> usize
     ensures { λ r. ⌜ Shown (now (rec .entry)) (now (text .entry)) r (now (text .exit)) ⌝ }
@@ -116,7 +116,7 @@ pub fn show(rec: &[u8], text: &mut [u8; TEXT_MOST]) -> usize
     let mut nodes = [0u32; LARGE_EDGES];
     let mut map = [0u32; 2 * LARGE_VERTICES];
     let mut starts = [0u32; LARGE_VERTICES];
-    let mut tried = [0u64; LARGE_VERTICES];
+    let mut tried = [0u8; LARGE_VERTICES];
     let mut sig = [0u32; 2 * LARGE_VERTICES + 2];
     show_with(
         rec,

@@ -9,7 +9,7 @@ use memory::Tried;
 use memory::Work;
 
 // The marks of the vertices that stay close up; how many these are.
-fn move_marks(tried: &mut [u64], n: usize, map: &[u32]) -> usize
+fn move_marks(tried: &mut [u8], n: usize, map: &[u32]) -> usize
     requires { ⌜ Movable (now tried) n (now map) ⌝ }
     ensures { λ r. ⌜ MarksMoved (now (tried .entry)) n (now (map .entry)) r (now (tried .exit)) ⌝ }
 {
@@ -27,7 +27,7 @@ fn move_marks(tried: &mut [u64], n: usize, map: &[u32]) -> usize
 }
 
 // No mark at `from` to `to`.
-fn clear_marks(tried: &mut [u64], from: usize, to: usize)
+fn clear_marks(tried: &mut [u8], from: usize, to: usize)
     requires { ⌜ (from ≤ to) × (to ≤ length (now tried)) ⌝ }
     ensures { λ _. ⌜ Cleared (now (tried .entry)) from to (now (tried .exit)) ⌝ }
 {
@@ -48,7 +48,7 @@ fn split_at(
     nexts: &[u32],
     nodes: &mut [u32],
     map: &mut [u32],
-    tried: &mut [u64],
+    tried: &mut [u8],
     v: usize,
 ) -> Tried
     requires { ⌜ Ready 4 held (now es) (now vs) (now p) (now heads) (now nexts) (now nodes) (now map)
@@ -77,7 +77,7 @@ fn first_split(
     nexts: &[u32],
     nodes: &mut [u32],
     map: &mut [u32],
-    tried: &mut [u64],
+    tried: &mut [u8],
 ) -> Tried
     requires { ⌜ Ready 4 held (now es) (now vs) (now p) (now heads) (now nexts) (now nodes) (now map) × (vertexRoom (now heads) ≤ length (now tried)) ⌝ }
     ensures { λ r. ⌜ SplitFirst held (now (es .entry)) (now (vs .entry)) (now (p .entry)) (now (heads .entry)) (now (nexts .entry))
@@ -113,7 +113,7 @@ pub fn split_until_complete(
     nexts: &mut [u32],
     nodes: &mut [u32],
     map: &mut [u32],
-    tried: &mut [u64],
+    tried: &mut [u8],
 ) -> Work
     requires { ⌜ Ready 4 (work .held) (now es) (now vs) (now p) (now heads) (now nexts) (now nodes) (now map)
         × (Counted (work .rewrites) (now heads) × (vertexRoom (now heads) ≤ length (now tried))) ⌝ }

@@ -65,7 +65,6 @@ mark-missed-spec =
     μ-loop
     (λ c. missing-start)
     (λ c. omega arith)
-    (λ c. omega arith)
     shared-slice-read-if1
     mul-map
     slice-write-map

@@ -11,15 +11,6 @@ Inv-loop marks₀ n i₀ marks i = ClearingWalk n marks₀ marks i
 abbrev μ-loop : tie.MeasureT-loop
 μ-loop marks₀ n i₀ marks i = n - i
 
-mul-marks : tie.Need-mul-marks Inv-loop μ-loop
-mul-marks c = omega (arith, at-loop .loop .inv .len, start .pre)
-  where
-    at-loop : tie.At-loop Inv-loop μ-loop
-    at-loop = search
-
-    start : tie.Start Inv-loop μ-loop
-    start = let c = at-loop in search
-
 slice-write-marks : tie.Need-slice-write-marks Inv-loop μ-loop
 slice-write-marks c = omega (arith, at-loop .loop .inv .len, start .pre)
   where
@@ -42,7 +33,6 @@ clear-marks-spec =
     Inv-loop
     μ-loop
     (λ c. clearing-start)
-    mul-marks
     slice-write-marks
     (λ c. omega arith)
     (λ c. omega arith)

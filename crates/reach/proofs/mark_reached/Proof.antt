@@ -20,9 +20,6 @@ module _ (c : tie.After-slice-known3 Inv-loop μ-loop) where
   abbrev start : tie.Start Inv-loop μ-loop
   start = let c = at-clear-marks in search
 
-mul-marks : tie.Need-mul-marks Inv-loop μ-loop
-mul-marks c = omega (arith, start c .pre .0, start c .pre .1 .1 .marks-room, at-clear-marks c .clear-marks .kept .0)
-
 slice-write-marks : tie.Need-slice-write-marks Inv-loop μ-loop
 slice-write-marks c =
     omega (arith, start c .pre .0, start c .pre .1 .1 .marks-room, at-clear-marks c .clear-marks .kept .0)
@@ -128,7 +125,6 @@ mark-reached-spec =
     Inv-loop
     μ-loop
     (λ c κs. let start : tie.Start Inv-loop μ-loop = search in start .pre .1 .1 .marks-room)
-    mul-marks
     slice-write-marks
     cast-queue
     slice-write-queue

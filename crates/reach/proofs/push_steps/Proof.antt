@@ -154,16 +154,6 @@ cast-if3 c =
       start-6 c .pre .1 .1 .1 .0 .small,
     )
 
-mul-if3 : tie.Need-mul-if3 Inv-loop μ-loop
-mul-if3 c =
-    omega (
-      arith,
-      pushing-below (start-6 c .pre .1 .1 .0) (start-6 c .pre .1 .0) (at-loop-2 c .loop .inv)
-          (at-loop-test-3 c .loop-test .taken),
-      at-loop-2 c .loop .inv .marks-len,
-      start-6 c .pre .1 .1 .1 .0 .marks-room,
-    )
-
 slice-read-if3 : tie.Need-slice-read-if3 Inv-loop μ-loop
 slice-read-if3 c =
     omega (
@@ -214,16 +204,6 @@ cast-marks c =
       pushing-below (start-7 c .pre .1 .1 .0) (start-7 c .pre .1 .0) (at-loop-3 c .loop .inv)
           (at-loop-test-4 c .loop-test .taken),
       start-7 c .pre .1 .1 .1 .0 .small,
-    )
-
-mul-marks : tie.Need-mul-marks Inv-loop μ-loop
-mul-marks c =
-    omega (
-      arith,
-      pushing-below (start-7 c .pre .1 .1 .0) (start-7 c .pre .1 .0) (at-loop-3 c .loop .inv)
-          (at-loop-test-4 c .loop-test .taken),
-      at-loop-3 c .loop .inv .marks-len,
-      start-7 c .pre .1 .1 .1 .0 .marks-room,
     )
 
 slice-write-marks : tie.Need-slice-write-marks Inv-loop μ-loop
@@ -398,10 +378,8 @@ push-steps-spec =
     sub-edge-end
     edge-end-requires
     cast-if3
-    mul-if3
     slice-read-if3
     cast-marks
-    mul-marks
     slice-write-marks
     mul-queue
     slice-write-queue

@@ -27,7 +27,6 @@ clear-marks-spec =
     (λ c. omega arith)
     (λ c. omega arith)
     (λ c. omega arith)
-    (λ c. omega arith)
     loop-again
     (λ c. omega arith)
     (λ c. let at-loop : tie.At-loop Inv-loop μ-loop = search in clearing-end (at-loop .loop .inv) (c .loop-test .left)))

@@ -161,9 +161,7 @@ first-split-spec =
     μ-loop
     (λ c. splitting-start)
     (λ c. omega arith)
-    (λ c. omega arith)
     slice-read-if1
-    (λ c. omega arith)
     slice-write-tried
     split-at-requires
     same-length

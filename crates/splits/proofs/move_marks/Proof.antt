@@ -45,8 +45,6 @@ move-marks-spec =
     (λ c. omega arith)
     (λ c. omega arith)
     (λ c. omega arith)
-    (λ c. omega arith)
-    (λ c. omega arith)
     loop-again
     (λ c. omega arith)
     loop-again-2
