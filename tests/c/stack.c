@@ -1,5 +1,6 @@
 /*
- * Runs each call on a thread of 2 MiB of stack, on records at the limits, and prints how much of the stack was touched.
+ * Runs each call on a thread of 2 MiB of stack, on records at the limits, and prints how much of the stack was touched;
+ * simplification also on a record of at most 1,024 bytes, which has small arrays.
  * The stack is this program's own memory, filled beforehand, below it a page that faults.
  */
 #undef NDEBUG
@@ -12,14 +13,14 @@
 #include <stdlib.h>
 #include <sys/mman.h>
 
-enum { STACK = 2 << 20, PAGE = 4096, FILL = 0x5A, VERTICES = 2048, K = 128, ROOM = 1 << 19 };
+enum { STACK = 2 << 20, PAGE = 4096, FILL = 0x5A, VERTICES = 2048, FEW = 66, K = 128, ROOM = 1 << 19 };
 
 static uint8_t rec[ROOM], out[ROOM];
 static uint8_t *stack;
 
-/* A chain of 2,048 vertices of this many bytes, each different from the others. */
-static size_t chain(unsigned kind, unsigned each) {
-    const unsigned v = VERTICES, e = VERTICES - 1;
+/* A chain of v vertices of this many bytes, each different from the others. */
+static size_t chain(unsigned v, unsigned kind, unsigned each) {
+    const unsigned e = v - 1;
     uint8_t *bytes = rec + HEADER + 2 * v + 9 * e;
     put_header(rec, kind, K, v, e, v * each);
     for (unsigned i = 0; i < v; i++) {
@@ -35,42 +36,50 @@ static const sg_tally none = {0, 0, 0};
 
 static void *vertex_sequence(void *unused) {
     uint32_t number = 99;
-    assert(sg_vertex_sequence(rec, chain(KMERS, K), VERTICES - 1, &number).length == K && number == 0);
+    assert(sg_vertex_sequence(rec, chain(VERTICES, KMERS, K), VERTICES - 1, &number).length == K && number == 0);
     return unused;
 }
 
 static void *from_assembly_graph(void *unused) {
-    assert(sg_from_assembly_graph(rec, chain(KMERS, K), out, ROOM, none).number == 0);
+    assert(sg_from_assembly_graph(rec, chain(VERTICES, KMERS, K), out, ROOM, none).number == 0);
     return unused;
 }
 
 static void *simplify_graph(void *unused) {
-    sg_simplify_answer a = sg_simplify_graph(rec, chain(SEQUENCES, 4), out, ROOM, none);
+    sg_simplify_answer a = sg_simplify_graph(rec, chain(VERTICES, SEQUENCES, 4), out, ROOM, none);
+    assert(a.number == 0 && a.rewrites == 1);
+    return unused;
+}
+
+static void *simplify_short_record(void *unused) {
+    size_t length = chain(FEW, SEQUENCES, 4);
+    assert(length <= 1024);
+    sg_simplify_answer a = sg_simplify_graph(rec, length, out, ROOM, none);
     assert(a.number == 0 && a.rewrites == 1);
     return unused;
 }
 
 static void *cleanup_seq_graph(void *unused) {
-    sg_cleanup_answer a = sg_cleanup_seq_graph(rec, chain(SEQUENCES, 4), out, ROOM, none);
+    sg_cleanup_answer a = sg_cleanup_seq_graph(rec, chain(VERTICES, SEQUENCES, 4), out, ROOM, none);
     assert(a.number == 0 && a.status == 2);
     return unused;
 }
 
 static void *clean_non_ref_paths(void *unused) {
-    size_t length = chain(SEQUENCES, 4);
+    size_t length = chain(VERTICES, SEQUENCES, 4);
     assert(sg_clean_non_ref_paths(rec, length, out, ROOM, none).length == length);
     return unused;
 }
 
 static void *reference_path_bytes(void *unused) {
-    assert(sg_reference_path_bytes(rec, chain(SEQUENCES, 4), out, ROOM, none).length == 4 * VERTICES);
+    assert(sg_reference_path_bytes(rec, chain(VERTICES, SEQUENCES, 4), out, ROOM, none).length == 4 * VERTICES);
     return unused;
 }
 
 static void *path_bases_bytes(void *unused) {
     static uint32_t path[2 * (VERTICES - 1)];
     for (unsigned i = 0; i < 2 * (VERTICES - 1); i++) path[i] = (i + 1) / 2;
-    sg_answer a = sg_path_bases_bytes(rec, chain(SEQUENCES, 4), 0, path, 2 * (VERTICES - 1), out, ROOM, none);
+    sg_answer a = sg_path_bases_bytes(rec, chain(VERTICES, SEQUENCES, 4), 0, path, 2 * (VERTICES - 1), out, ROOM, none);
     assert(a.length == 4 * VERTICES);
     return unused;
 }
@@ -97,5 +106,6 @@ int main(void) {
     run("clean_non_ref_paths", clean_non_ref_paths);
     run("reference_path_bytes", reference_path_bytes);
     run("path_bases_bytes", path_bases_bytes);
+    run("simplify_graph, a record of at most 1,024 bytes", simplify_short_record);
     return 0;
 }

@@ -1,4 +1,4 @@
--- TriedMarks of tried vertices, and what splitting leaves. Assumes nothing.
+-- Marks of tried vertices, and what splitting leaves. Assumes nothing.
 use mathlib.Core.Path.{_≡_}
 use mathlib.Core.Bool.{Bool, true, false}
 use mathlib.Core.Option.{Option, none, some}
