@@ -135,24 +135,22 @@ module _ (c : tie.Then2 Inv-loop μ-loop) where
 edge-end-requires : tie.Need-edge-end-requires Inv-loop μ-loop
 edge-end-requires c κs = omega (arith, start-5 c .pre .1 .1 .0 .room, at-loop-test-2 c .loop-test .taken)
 
-module _ (c : tie.After-edge-end Inv-loop μ-loop) where
-  abbrev at-loop-test-3 : tie.In-loop Inv-loop μ-loop
-  at-loop-test-3 = search
-
-  abbrev at-loop-2 : tie.At-loop Inv-loop μ-loop
-  at-loop-2 = let c = at-loop-test-3 in search
-
-  abbrev start-6 : tie.Start Inv-loop μ-loop
-  start-6 = let c = at-loop-2 in search
-
 cast-if3 : tie.Need-cast-if3 Inv-loop μ-loop
 cast-if3 c =
     omega (
       arith,
-      pushing-below (start-6 c .pre .1 .1 .0) (start-6 c .pre .1 .0) (at-loop-2 c .loop .inv)
-          (at-loop-test-3 c .loop-test .taken),
-      start-6 c .pre .1 .1 .1 .0 .small,
+      pushing-below (start .pre .1 .1 .0) (start .pre .1 .0) (at-loop .loop .inv) (at-loop-test .loop-test .taken),
+      start .pre .1 .1 .1 .0 .small,
     )
+  where
+    at-loop-test : tie.In-loop Inv-loop μ-loop
+    at-loop-test = search
+
+    at-loop : tie.At-loop Inv-loop μ-loop
+    at-loop = let c = at-loop-test in search
+
+    start : tie.Start Inv-loop μ-loop
+    start = let c = at-loop in search
 
 slice-read-if3 : tie.Need-slice-read-if3 Inv-loop μ-loop
 slice-read-if3 c =
@@ -182,91 +180,91 @@ module _ (c : tie.Then3 Inv-loop μ-loop) where
   abbrev at-may-pass : tie.After-may-pass Inv-loop μ-loop
   at-may-pass = let c = at-if2 in search
 
-  abbrev at-loop-test-4 : tie.In-loop Inv-loop μ-loop
-  at-loop-test-4 = let c = at-may-pass in search
+  abbrev at-loop-test-3 : tie.In-loop Inv-loop μ-loop
+  at-loop-test-3 = let c = at-may-pass in search
 
-  abbrev at-loop-3 : tie.At-loop Inv-loop μ-loop
-  at-loop-3 = let c = at-loop-test-4 in search
+  abbrev at-loop-2 : tie.At-loop Inv-loop μ-loop
+  at-loop-2 = let c = at-loop-test-3 in search
 
   abbrev at-if1 : tie.Else1 Inv-loop μ-loop
-  at-if1 = let c = at-loop-3 in search
+  at-if1 = let c = at-loop-2 in search
 
   abbrev at-takes-end : tie.After-takes-end Inv-loop μ-loop
   at-takes-end = let c = at-if1 in search
 
-  abbrev start-7 : tie.Start Inv-loop μ-loop
-  start-7 = let c = at-takes-end in search
+  abbrev start-6 : tie.Start Inv-loop μ-loop
+  start-6 = let c = at-takes-end in search
 
 cast-marks : tie.Need-cast-marks Inv-loop μ-loop
 cast-marks c =
     omega (
       arith,
-      pushing-below (start-7 c .pre .1 .1 .0) (start-7 c .pre .1 .0) (at-loop-3 c .loop .inv)
-          (at-loop-test-4 c .loop-test .taken),
-      start-7 c .pre .1 .1 .1 .0 .small,
+      pushing-below (start-6 c .pre .1 .1 .0) (start-6 c .pre .1 .0) (at-loop-2 c .loop .inv)
+          (at-loop-test-3 c .loop-test .taken),
+      start-6 c .pre .1 .1 .1 .0 .small,
     )
 
 slice-write-marks : tie.Need-slice-write-marks Inv-loop μ-loop
 slice-write-marks c =
     omega (
       arith,
-      pushing-below (start-7 c .pre .1 .1 .0) (start-7 c .pre .1 .0) (at-loop-3 c .loop .inv)
-          (at-loop-test-4 c .loop-test .taken),
-      at-loop-3 c .loop .inv .marks-len,
-      start-7 c .pre .1 .1 .1 .0 .marks-room,
+      pushing-below (start-6 c .pre .1 .1 .0) (start-6 c .pre .1 .0) (at-loop-2 c .loop .inv)
+          (at-loop-test-3 c .loop-test .taken),
+      at-loop-2 c .loop .inv .marks-len,
+      start-6 c .pre .1 .1 .1 .0 .marks-room,
     )
 
 mul-queue : tie.Need-mul-queue Inv-loop μ-loop
 mul-queue c =
     omega (
       arith,
-      pushing-room (start-7 c .pre .1 .1 .0) (start-7 c .pre .1 .0) (at-loop-3 c .loop .inv)
-          (at-loop-test-4 c .loop-test .taken) (start-7 c .pre .1 .1 .1 .0) (at-edge-end c .edge-end .ensures)
+      pushing-room (start-6 c .pre .1 .1 .0) (start-6 c .pre .1 .0) (at-loop-2 c .loop .inv)
+          (at-loop-test-3 c .loop-test .taken) (start-6 c .pre .1 .1 .1 .0) (at-edge-end c .edge-end .ensures)
           (set-not (c .if3 .taken)),
-      at-loop-3 c .loop .inv .queue-len,
-      start-7 c .pre .1 .1 .1 .0 .queue-room,
+      at-loop-2 c .loop .inv .queue-len,
+      start-6 c .pre .1 .1 .1 .0 .queue-room,
     )
 
 slice-write-queue : tie.Need-slice-write-queue Inv-loop μ-loop
 slice-write-queue c =
     omega (
       arith,
-      pushing-room (start-7 c .pre .1 .1 .0) (start-7 c .pre .1 .0) (at-loop-3 c .loop .inv)
-          (at-loop-test-4 c .loop-test .taken) (start-7 c .pre .1 .1 .1 .0) (at-edge-end c .edge-end .ensures)
+      pushing-room (start-6 c .pre .1 .1 .0) (start-6 c .pre .1 .0) (at-loop-2 c .loop .inv)
+          (at-loop-test-3 c .loop-test .taken) (start-6 c .pre .1 .1 .1 .0) (at-edge-end c .edge-end .ensures)
           (set-not (c .if3 .taken)),
-      at-loop-3 c .loop .inv .queue-len,
-      start-7 c .pre .1 .1 .1 .0 .queue-room,
+      at-loop-2 c .loop .inv .queue-len,
+      start-6 c .pre .1 .1 .1 .0 .queue-room,
     )
 
 add-tail : tie.Need-add-tail Inv-loop μ-loop
 add-tail c =
     omega (
       arith,
-      pushing-room (start-7 c .pre .1 .1 .0) (start-7 c .pre .1 .0) (at-loop-3 c .loop .inv)
-          (at-loop-test-4 c .loop-test .taken) (start-7 c .pre .1 .1 .1 .0) (at-edge-end c .edge-end .ensures)
+      pushing-room (start-6 c .pre .1 .1 .0) (start-6 c .pre .1 .0) (at-loop-2 c .loop .inv)
+          (at-loop-test-3 c .loop-test .taken) (start-6 c .pre .1 .1 .1 .0) (at-edge-end c .edge-end .ensures)
           (set-not (c .if3 .taken)),
-      start-7 c .pre .1 .1 .1 .0 .small,
+      start-6 c .pre .1 .1 .1 .0 .small,
     )
 
 loop-less : tie.Need-loop-less Inv-loop μ-loop
 loop-less c =
     omega (
       arith,
-      pushing-later (start-7 c .pre .1 .1 .0) (start-7 c .pre .1 .0) (at-loop-3 c .loop .inv)
-          (at-loop-test-4 c .loop-test .taken),
+      pushing-later (start-6 c .pre .1 .1 .0) (start-6 c .pre .1 .0) (at-loop-2 c .loop .inv)
+          (at-loop-test-3 c .loop-test .taken),
     )
 
 loop-again : tie.Need-loop-again Inv-loop μ-loop
 loop-again c =
     pushing-push
-    (start-7 c .pre .1 .1 .0)
-    (start-7 c .pre .1 .0)
-    (at-loop-3 c .loop .inv)
-    (at-loop-test-4 c .loop-test .taken)
-    (start-7 c .pre .1 .1 .1 .0)
+    (start-6 c .pre .1 .1 .0)
+    (start-6 c .pre .1 .0)
+    (at-loop-2 c .loop .inv)
+    (at-loop-test-3 c .loop-test .taken)
+    (start-6 c .pre .1 .1 .1 .0)
     (at-edge-end c .edge-end .ensures)
     (set-not (c .if3 .taken))
-    (start-7 c .pre .0)
+    (start-6 c .pre .0)
     (sym (at-takes-end c .takes-end .ensures) ∙ not-false _ (at-if1 c .if1 .left))
     (sym (at-may-pass c .may-pass .ensures) ∙ at-if2 c .if2 .taken)
 
@@ -274,30 +272,30 @@ module _ (c : tie.Else3 Inv-loop μ-loop) where
   abbrev at-edge-end-2 : tie.After-edge-end Inv-loop μ-loop
   at-edge-end-2 = search
 
-  abbrev at-loop-test-5 : tie.In-loop Inv-loop μ-loop
-  at-loop-test-5 = let c = at-edge-end-2 in search
+  abbrev at-loop-test-4 : tie.In-loop Inv-loop μ-loop
+  at-loop-test-4 = let c = at-edge-end-2 in search
 
-  abbrev at-loop-4 : tie.At-loop Inv-loop μ-loop
-  at-loop-4 = let c = at-loop-test-5 in search
+  abbrev at-loop-3 : tie.At-loop Inv-loop μ-loop
+  at-loop-3 = let c = at-loop-test-4 in search
 
-  abbrev start-8 : tie.Start Inv-loop μ-loop
-  start-8 = let c = at-loop-4 in search
+  abbrev start-7 : tie.Start Inv-loop μ-loop
+  start-7 = let c = at-loop-3 in search
 
 loop-less-2 : tie.Need-loop-less-2 Inv-loop μ-loop
 loop-less-2 c =
     omega (
       arith,
-      pushing-later (start-8 c .pre .1 .1 .0) (start-8 c .pre .1 .0) (at-loop-4 c .loop .inv)
-          (at-loop-test-5 c .loop-test .taken),
+      pushing-later (start-7 c .pre .1 .1 .0) (start-7 c .pre .1 .0) (at-loop-3 c .loop .inv)
+          (at-loop-test-4 c .loop-test .taken),
     )
 
 loop-again-2 : tie.Need-loop-again-2 Inv-loop μ-loop
 loop-again-2 c =
     pushing-seen
-    (start-8 c .pre .1 .1 .0)
-    (start-8 c .pre .1 .0)
-    (at-loop-4 c .loop .inv)
-    (at-loop-test-5 c .loop-test .taken)
+    (start-7 c .pre .1 .1 .0)
+    (start-7 c .pre .1 .0)
+    (at-loop-3 c .loop .inv)
+    (at-loop-test-4 c .loop-test .taken)
     (at-edge-end-2 c .edge-end .ensures)
     (set-is (c .if3 .left))
 
@@ -305,30 +303,30 @@ module _ (c : tie.Else2 Inv-loop μ-loop) where
   abbrev at-may-pass-2 : tie.After-may-pass Inv-loop μ-loop
   at-may-pass-2 = search
 
-  abbrev at-loop-test-6 : tie.In-loop Inv-loop μ-loop
-  at-loop-test-6 = let c = at-may-pass-2 in search
+  abbrev at-loop-test-5 : tie.In-loop Inv-loop μ-loop
+  at-loop-test-5 = let c = at-may-pass-2 in search
 
-  abbrev at-loop-5 : tie.At-loop Inv-loop μ-loop
-  at-loop-5 = let c = at-loop-test-6 in search
+  abbrev at-loop-4 : tie.At-loop Inv-loop μ-loop
+  at-loop-4 = let c = at-loop-test-5 in search
 
-  abbrev start-9 : tie.Start Inv-loop μ-loop
-  start-9 = let c = at-loop-5 in search
+  abbrev start-8 : tie.Start Inv-loop μ-loop
+  start-8 = let c = at-loop-4 in search
 
 loop-less-3 : tie.Need-loop-less-3 Inv-loop μ-loop
 loop-less-3 c =
     omega (
       arith,
-      pushing-later (start-9 c .pre .1 .1 .0) (start-9 c .pre .1 .0) (at-loop-5 c .loop .inv)
-          (at-loop-test-6 c .loop-test .taken),
+      pushing-later (start-8 c .pre .1 .1 .0) (start-8 c .pre .1 .0) (at-loop-4 c .loop .inv)
+          (at-loop-test-5 c .loop-test .taken),
     )
 
 loop-again-3 : tie.Need-loop-again-3 Inv-loop μ-loop
 loop-again-3 c =
     pushing-shut
-    (start-9 c .pre .1 .1 .0)
-    (start-9 c .pre .1 .0)
-    (at-loop-5 c .loop .inv)
-    (at-loop-test-6 c .loop-test .taken)
+    (start-8 c .pre .1 .1 .0)
+    (start-8 c .pre .1 .0)
+    (at-loop-4 c .loop .inv)
+    (at-loop-test-5 c .loop-test .taken)
     (sym (at-may-pass-2 c .may-pass .ensures) ∙ c .if2 .left)
 
 returns-2 : tie.Need-returns-2 Inv-loop μ-loop
