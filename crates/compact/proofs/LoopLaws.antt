@@ -23,7 +23,40 @@ use Rattle.store.proofs.EdgeLaws.{put-push, put-other, length-put}
 use Rattle.store.proofs.VertexLaws.{put-start, put-len, put-rest, length-put-vertex}
 use Rattle.tabs.proofs.ListTabs.{tab-append, keepIf-tab-yes, keepIf-tab-no, keepAt-tab-yes, keepAt-tab-no, mem-tab, of-mem-tab, elemOf-snoc}
 use Rattle.tabs.proofs.Ranks.{rank-same}
-use Rattle.compact.specs.Compact.{BothSet, Marked, Renumbered, VertsClosed, EdgesClosed, unmarked}
+use Rattle.compact.specs.Compact.{BothSet, Cleared, Marked, Renumbered, VertsClosed, EdgesClosed, unmarked}
+
+-- ---- filling
+
+-- x stands from `from` on, below i; what is before stays
+pub record Filling (l₀ : List ℕ) (from to x : ℕ) (l : List ℕ) (i : ℕ) : Type 0 where
+  pub low : from ≤ i
+  pub high : i ≤ to
+  pub len : length l ≡ length l₀
+  pub is : (k : ℕ) → from ≤ k → k < i → getD l k 0 ≡ x
+  pub same : (k : ℕ) → k < from → getD l k 0 ≡ getD l₀ k 0
+
+module _ {l₀ : List ℕ} {from to x : ℕ} where
+  pub filling-start : from ≤ to → Filling l₀ from to x l₀ from
+  filling-start h = record { low = omega arith; high = h; len = refl; is = λ k a b. absurd (omega arith); same = λ k b. refl }
+
+  pub filling-more : {l : List ℕ} {i : ℕ} → Filling l₀ from to x l i → i < to → to ≤ length l₀ → Filling l₀ from to x (set l i x) (i + 1)
+  filling-more {l} {i} F h r = record {
+    low = omega (arith, F .low);
+    high = omega arith;
+    len = length-set l _ _ ∙ F .len;
+    is = λ k a b. elim (ℕ-discrete k i) [
+      | yes q ↦ rw q (getD-set-same l i x 0 (omega (arith, F .len)))
+      | no ne ↦ getD-set-other l i k x 0 ne ∙ F .is k a (omega arith)
+    ];
+    same = λ k b. getD-set-other l i k x 0 (λ z. omega (arith, F .low)) ∙ F .same k b;
+  }
+
+  pub filling-end : {l : List ℕ} {i : ℕ} → Filling l₀ from to x l i → to ≤ i → (k : ℕ) → from ≤ k → k < to → getD l k 0 ≡ x
+  filling-end F h k a b = F .is k a (omega arith)
+
+-- marks are cleared by filling with 0
+pub cleared : {l₀ l : List ℕ} {from to i : ℕ} → Filling l₀ from to 0 l i → to ≤ i → Cleared l₀ from to l
+cleared F h = record { none = filling-end F h; same = F .same }
 
 -- ---- marks
 

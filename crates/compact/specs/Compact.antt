@@ -15,6 +15,11 @@ pub record BothSet (a b : ℕ) (r : Bool) : Type 0 where
   pub left : r ≡ true → 0 < a
   pub right : r ≡ true → 0 < b
 
+-- no mark from `from` on, below `to`; those before stay
+pub record Cleared (l : List ℕ) (from to : ℕ) (l′ : List ℕ) : Type 0 where
+  pub none : (i : ℕ) → from ≤ i → i < to → getD l′ i 0 ≡ 0
+  pub same : (i : ℕ) → i < from → getD l′ i 0 ≡ getD l i 0
+
 -- of n vertices those that are in the list have 1, the others 0
 pub record Marked (gone : List ℕ) (n : ℕ) (mp : List ℕ) : Type 0 where
   pub at : (v : ℕ) → v < n → getD mp v 0 ≡ bit (elemOf v gone)

@@ -3,7 +3,7 @@ ghost use mathlib.Core.Path.{_≡_};
 ghost use Prim.Native.Nat.{ℕ, _+_, _*_, _<_, _≤_};
 ghost use lib.ListN.{length, getD};
 ghost use Rattle.store.specs.Store.{numsIn, EndsBelow, Numbered};
-ghost use Rattle.compact.specs.Compact.{BothSet, Marked, Renumbered, VertsClosed, EdgesClosed, Compactable, Compacted, Below, Removed};
+ghost use Rattle.compact.specs.Compact.{BothSet, Cleared, Marked, Renumbered, VertsClosed, EdgesClosed, Compactable, Compacted, Below, Removed};
 
 pub struct Counts {
     pub n: usize,
@@ -18,6 +18,18 @@ pub fn fill(dst: &mut [u32], n: usize, x: u32)
     let mut i = 0;
     while i < n {
         dst[i] = x;
+        i += 1;
+    }
+}
+
+// No mark from `from` on, below `to`.
+pub fn clear_marks(marks: &mut [u8], from: usize, to: usize)
+    requires { ⌜ (from ≤ to) × (to ≤ length (now marks)) ⌝ }
+    ensures { λ _. ⌜ Cleared (now (marks .entry)) from to (now (marks .exit)) ⌝ }
+{
+    let mut i = from;
+    while i < to {
+        marks[i] = 0;
         i += 1;
     }
 }

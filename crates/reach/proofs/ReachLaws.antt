@@ -19,36 +19,17 @@ use Rattle.tabs.proofs.Tabs.{length-tab, set-more}
 use Rattle.tabs.proofs.ListTabs.{of-mem-tab}
 use Rattle.store.specs.Store.{isSet, graphIn, EndsBelow}
 use Rattle.store.proofs.EdgeLaws.{set-not}
+use Rattle.compact.specs.Compact.{Cleared}
 use Rattle.compact.proofs.CompactLaws.{order-in}
 use Rattle.index.specs.Index.{edgeEnd, pairAt, Next, Index, Indexed}
 use Rattle.index.proofs.IndexLaws.{end-below}
 use Rattle.tabs.proofs.Ranks.{distinct-tab}
-use Rattle.reach.specs.Reach.{walkStep, takesEnd, passable, bare, Walkable, NoneMarked, QueueFound, MarksGrown, Spread, Pushed, VertexLeft, Reached}
+use Rattle.reach.specs.Reach.{walkStep, takesEnd, passable, bare, Walkable, QueueFound, MarksGrown, Spread, Pushed, VertexLeft, Reached}
 use Rattle.reach.proofs.StepLaws.{step-hop, hop-step}
 
 pub both-ways : (a b : Bool) → (a ≡ true → b ≡ true) → (b ≡ true → a ≡ true) → a ≡ b
 both-ways true b f g = sym (f refl)
 both-ways false b f g = byTest b (λ t. clash (g t) refl) (λ t. sym t)
-
--- ---- clearing
-
-pub record ClearingWalk (n : ℕ) (marks₀ marks : List ℕ) (i : ℕ) : Type 0 where
-  pub high : i ≤ n
-  pub len : length marks ≡ length marks₀
-  pub none : (v : ℕ) → v < i → getD marks v 0 ≡ 0
-
-pub clearing-start : {n : ℕ} {marks : List ℕ} → ClearingWalk n marks marks 0
-clearing-start = record { high = omega arith; len = refl; none = λ v b. absurd (omega arith) }
-
-pub clearing-more : {n : ℕ} {marks₀ marks : List ℕ} {i : ℕ} → ClearingWalk n marks₀ marks i → i < n → n ≤ length marks₀ → ClearingWalk n marks₀ (set marks i 0) (i + 1)
-clearing-more {n} {marks₀} {marks} {i} C b room = record {
-  high = omega arith;
-  len = length-set marks i 0 ∙ C .len;
-  none = set-more (λ v x. x ≡ 0) marks i 0 (omega (arith, C .len)) (C .none) refl;
-}
-
-pub clearing-end : {n : ℕ} {marks₀ marks : List ℕ} {i : ℕ} → ClearingWalk n marks₀ marks i → n ≤ i → NoneMarked n marks
-clearing-end C l = record { none = λ v b. C .none v (omega arith) }
 
 -- ---- marks and queue
 
@@ -310,7 +291,7 @@ pub walkable-kept : {n : ℕ} {marks marks′ queue queue′ : List ℕ} → Wal
 walkable-kept R a b = record { marks-room = omega (arith, R .marks-room); queue-room = omega (arith, R .queue-room); small = R .small }
 
 module _ {plain : Bool} {kind m n : ℕ} {es : List ℕ} {s : ℕ} where
-  pub walking-start : (marks queue : List ℕ) → NoneMarked n marks → s < n → n ≤ length marks → n ≤ length queue
+  pub walking-start : {marks₀ : List ℕ} (marks queue : List ℕ) → Cleared marks₀ 0 n marks → s < n → n ≤ length marks → n ≤ length queue
       → WalkingQueue plain kind m n es s (set marks s 1) (set queue 0 s) (set marks s 1) (set queue 0 s) 1 0
   walking-start marks queue C b r y = record {
     high = omega arith;
@@ -336,7 +317,7 @@ module _ {plain : Bool} {kind m n : ℕ} {es : List ℕ} {s : ℕ} where
       is-s : (v : ℕ) → v < n → isSet (getD (set marks s 1) v 0) ≡ true → s ≡ v
       is-s v k t = elim (ℕ-discrete v s) [
         | yes q ↦ sym q
-        | no ne ↦ clash t (set-not (getD-set-other marks s v 1 0 ne ∙ C .none v k))
+        | no ne ↦ clash t (set-not (getD-set-other marks s v 1 0 ne ∙ C .none v (omega arith) k))
       ]
 
   pub walking-more : {marks₀ queue₀ marks queue : List ℕ} {tail h : ℕ} → WalkingQueue plain kind m n es s marks₀ queue₀ marks queue tail h → h < tail

@@ -36,9 +36,6 @@ pub record Reached (plain : Bool) (kind m n : ℕ) (es : List ℕ) (s : ℕ) (ma
 
 -- ---- on the way
 
-pub record NoneMarked (n : ℕ) (marks : List ℕ) : Type 0 where
-  pub none : (v : ℕ) → v < n → getD marks v 0 ≡ 0
-
 -- whether a walk of this kind leaves a vertex over the edges at its end `off`: 0 those that leave it, 1 those that enter it
 unfoldable pub takesEnd : ℕ → ℕ → Bool
 takesEnd zero off = eqb off 0

@@ -4,7 +4,7 @@ ghost use mathlib.Core.Path.{_≡_};
 ghost use Prim.Native.Nat.{_+_, _*_, _<_, _≤_};
 ghost use lib.ListN.{length};
 ghost use Rattle.index.specs.Index.{Indexed};
-ghost use Rattle.reach.specs.Reach.{takesEnd, passable, Walkable, NoneMarked, QueueFound, Pushed, VertexLeft, Reached};
+ghost use Rattle.reach.specs.Reach.{takesEnd, passable, Walkable, QueueFound, Pushed, VertexLeft, Reached};
 
 // Whether a walk of this kind takes the edges at the end `off` of a vertex. Kind 0 goes along the edges, 1 against them, any other either way.
 fn takes_end(kind: u32, off: usize) -> bool
@@ -28,17 +28,6 @@ fn may_pass(es: &[u32], e: usize, plain: bool) -> bool
         return store::edge_flag(es, e) == 0;
     }
     true
-}
-
-fn clear_marks(marks: &mut [u8], n: usize)
-    requires { ⌜ n ≤ length (now marks) ⌝ }
-    ensures { λ _. ⌜ NoneMarked n (now (marks .exit)) ⌝ }
-{
-    let mut i = 0;
-    while i < n {
-        marks[i] = 0;
-        i += 1;
-    }
 }
 
 // Marks and queues what the edges at the end `off` of u lead to; u stands at h of the queue. The queue's new length.
@@ -151,7 +140,7 @@ pub fn mark_reached(
     requires { ⌜ (s < n) × (Indexed m n (now es) (now heads) (now nexts) × Walkable n (now marks) (now queue)) ⌝ }
     ensures { λ _. ⌜ Reached plain kind m n (now (es .entry)) s (now (marks .exit)) ⌝ }
 {
-    clear_marks(marks, n);
+    compact::clear_marks(marks, 0, n);
     marks[s] = 1;
     queue[0] = s as u32;
     let mut tail = 1;

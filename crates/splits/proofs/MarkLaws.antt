@@ -1,4 +1,4 @@
--- TriedMarks that follow their vertices. Assumes nothing.
+-- Marks that follow their vertices. Assumes nothing.
 use mathlib.Core.Path.{_≡_, refl, sym, ap, _∙_, subst}
 use mathlib.Core.Bool.{Bool, true, false, not}
 use mathlib.Core.List.{List, [], _∷_, map}
@@ -16,7 +16,8 @@ use Rattle.laws.proofs.Walks.{byTest}
 use Rattle.laws.proofs.ListLaws.{clash, byOrder, rank-yes, rank-no, rank-mono, rank-lt, rank-inj, keepIf-yes, keepIf-no}
 use Rattle.tabs.proofs.Ranks.{rank-same}
 use Rattle.store.specs.Store.{isSet, keptBy, Numbered}
-use Rattle.splits.specs.Splits.{TriedMarks, Movable, MarksMoved, Cleared}
+use Rattle.compact.specs.Compact.{Cleared}
+use Rattle.splits.specs.Splits.{TriedMarks, Movable, MarksMoved}
 
 -- ---- moving
 
@@ -60,35 +61,6 @@ module _ {l₀ : List ℕ} {n : ℕ} {mp : List ℕ} where
   pub moving-end : {l : List ℕ} {j v : ℕ} → MovingMarks l₀ n mp l j v → n ≤ v → MarksMoved l₀ n mp j l
   moving-end {l} {j} {v} M h = let q : v ≡ n = omega (arith, M .high) in
       record { count = M .count ∙ ap (rank (keptBy mp)) q; at = λ u b. M .at u (omega arith) }
-
--- ---- clearing
-
-pub record Clearing (l₀ : List ℕ) (from to : ℕ) (l : List ℕ) (i : ℕ) : Type 0 where
-  pub low : from ≤ i
-  pub high : i ≤ to
-  pub len : length l ≡ length l₀
-  pub none : (k : ℕ) → from ≤ k → k < i → getD l k 0 ≡ 0
-  pub same : (k : ℕ) → k < from → getD l k 0 ≡ getD l₀ k 0
-
-module _ {l₀ : List ℕ} {from to : ℕ} where
-  pub clearing-start : from ≤ to → Clearing l₀ from to l₀ from
-  clearing-start h = record { low = omega arith; high = h; len = refl; none = λ k a b. absurd (omega arith); same = λ k b. refl }
-
-  pub clearing-more : {l : List ℕ} {i : ℕ} → Clearing l₀ from to l i → i < to → to ≤ length l₀ → Clearing l₀ from to (set l i 0) (i + 1)
-  clearing-more {l} {i} C h r = record {
-    low = omega (arith, C .low);
-    high = omega arith;
-    len = length-set l _ _ ∙ C .len;
-    none = λ k a b. elim (ℕ-discrete k i) [
-      | yes q ↦ rw q (getD-set-same l i 0 0 (omega (arith, C .len)))
-      | no ne ↦
-          getD-set-other l i k 0 0 ne ∙ C .none k a (omega arith)
-    ];
-    same = λ k b. getD-set-other l i k 0 0 (λ z. omega (arith, C .low)) ∙ C .same k b;
-  }
-
-  pub clearing-end : {l : List ℕ} {i : ℕ} → Clearing l₀ from to l i → to ≤ i → Cleared l₀ from to l
-  clearing-end C h = record { none = λ k a b. C .none k a (omega arith); same = C .same }
 
 -- ---- the list under its new numbers
 

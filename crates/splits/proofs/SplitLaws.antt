@@ -23,6 +23,7 @@ use Rattle.laws.proofs.Bound.{firstSplit-tame}
 use Rattle.laws.proofs.Whole.{again, firstSplit-zero, firstSplit-tried, firstSplit-none, firstSplit-some, splitAll-none, splitAll-some}
 use Rattle.tabs.proofs.Tabs.{one-less}
 use Rattle.tabs.proofs.Ranks.{rank-same}
+use Rattle.compact.specs.Compact.{Cleared}
 use Rattle.compact.proofs.CompactLaws.{order-in}
 use Rattle.store.specs.Store.{isSet, keptBy, Numbered}
 use Rattle.store.proofs.EdgeLaws.{set-is, set-not}
@@ -33,7 +34,7 @@ use Rattle.memory.specs.declared.Tried.{Tried}
 use Rattle.memory.specs.declared.Work.{Work}
 use Rattle.memory.proofs.RoomLaws.{held-vertices, held-edges, held-ends, room-kept, holds-kept}
 use Rattle.split_suffix.specs.Split.{SplitTried}
-use Rattle.splits.specs.Splits.{TriedMarks, MarksMoved, Cleared, Remarked, SplitFound, SplitFirst, SplitAll}
+use Rattle.splits.specs.Splits.{TriedMarks, MarksMoved, Remarked, SplitFound, SplitFirst, SplitAll}
 use Rattle.splits.proofs.MarkLaws.{marks-after}
 
 -- ---- one split

@@ -29,10 +29,6 @@ pub record MarksMoved (l : List ℕ) (n : ℕ) (mp : List ℕ) (r : ℕ) (l′ :
   pub count : r ≡ rank (keptBy mp) n
   pub at : (v : ℕ) → v < n → keptBy mp v ≡ true → getD l′ (rank (keptBy mp) v) 0 ≡ getD l v 0
 
-pub record Cleared (l : List ℕ) (from to : ℕ) (l′ : List ℕ) : Type 0 where
-  pub none : (i : ℕ) → from ≤ i → i < to → getD l′ i 0 ≡ 0
-  pub same : (i : ℕ) → i < from → getD l′ i 0 ≡ getD l i 0
-
 -- with the marks: as they were, or those of the list under its new numbers
 pub record Remarked (h : Held) (es vs p heads nexts tried : List ℕ) (v : ℕ) (r : Tried) (es′ vs′ tried′ : List ℕ) : Type 0 where
   pub left : Left (trySplitCommonSuffix (graphOf h es vs p) v) h es vs p heads nexts r es′ vs′ p

@@ -3,7 +3,7 @@ ghost use mathlib.Core.Path.{_≡_};
 ghost use Prim.Native.Nat.{ℕ, _+_, _*_, _<_, _≤_};
 ghost use lib.ListN.{length, getD};
 ghost use Rattle.memory.specs.Memory.{graphOf, vertexRoom, Ready, Counted};
-ghost use Rattle.splits.specs.Splits.{Movable, MarksMoved, Cleared, Remarked, SplitFirst, SplitAll};
+ghost use Rattle.splits.specs.Splits.{Movable, MarksMoved, Remarked, SplitFirst, SplitAll};
 use memory::Held;
 use memory::Tried;
 use memory::Work;
@@ -24,18 +24,6 @@ fn move_marks(tried: &mut [u8], n: usize, map: &[u32]) -> usize
         }
     }
     j
-}
-
-// No mark at `from` to `to`.
-fn clear_marks(tried: &mut [u8], from: usize, to: usize)
-    requires { ⌜ (from ≤ to) × (to ≤ length (now tried)) ⌝ }
-    ensures { λ _. ⌜ Cleared (now (tried .entry)) from to (now (tried .exit)) ⌝ }
-{
-    let mut i = from;
-    while i < to {
-        tried[i] = 0;
-        i += 1;
-    }
 }
 
 // The split at v, and the marks under the new numbers.
@@ -63,7 +51,7 @@ fn split_at(
     }
     let h = t.held;
     let kept = move_marks(tried, held.n, map);
-    clear_marks(tried, kept, h.n);
+    compact::clear_marks(tried, kept, h.n);
     t
 }
 
@@ -121,7 +109,7 @@ pub fn split_until_complete(
         (now (heads .exit)) (now (nexts .exit)) (now (nodes .exit)) (now (map .exit)) ⌝ }
 {
     let held = work.held;
-    clear_marks(tried, 0, held.n);
+    compact::clear_marks(tried, 0, held.n);
     let mut w = work;
     loop {
         let t = first_split(w.held, es, vs, p, heads, nexts, nodes, map, tried);

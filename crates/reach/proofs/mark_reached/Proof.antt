@@ -124,7 +124,7 @@ mark-reached-spec =
     (tie.spec
     Inv-loop
     μ-loop
-    (λ c κs. let start : tie.Start Inv-loop μ-loop = search in start .pre .1 .1 .marks-room)
+    (λ c κs. let start : tie.Start Inv-loop μ-loop = search in (omega arith, start .pre .1 .1 .marks-room))
     slice-write-marks
     cast-queue
     slice-write-queue
