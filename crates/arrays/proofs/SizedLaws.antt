@@ -80,7 +80,7 @@ module _ {v e : ℕ} {bs : List ℕ} (S : Enough v e bs) where
   lent Z = record {
     graph = graph-lent (Z .graph);
     scratch = record { starts-room = omega (arith, Z .graph .heads-is, Z .starts-is); tried-room = omega (arith, Z .graph .heads-is, Z .tried-is) };
-    sig-room = omega (arith, Z .graph .heads-is, Z .sig-is);
+    sig-room = omega (arith, Z .graph .heads-is, Z .graph .nexts-is, Z .sig-is);
   }
 
 module _ {bs es vs p heads nexts nodes mp : List ℕ} where

@@ -3,7 +3,7 @@ use mathlib.Core.Path.{_≡_}
 use mathlib.Core.List.{List}
 use Prim.Native.Nat.{ℕ, _+_, _*_, _≤_}
 use lib.ListN.{length}
-use Rattle.memory.specs.Memory.{vertexRoom, edgeRoom, Room, Scratch}
+use Rattle.memory.specs.Memory.{vertexRoom, edgeRoom, signatureRoom, Room, Scratch}
 use Rattle.accept.specs.Accept.{RoomToRead}
 
 -- Slices lent for the record bs: room to read it and for every rewrite of its graph; and no more vertices and edges than an answer may have.
@@ -22,7 +22,7 @@ pub record LentMarks (bs es vs p heads nexts nodes mp tried : List ℕ) : Type 0
 pub record Lent (bs es vs p heads nexts nodes mp starts tried sig : List ℕ) : Type 0 where
   pub graph : LentGraph bs es vs p heads nexts nodes mp
   pub scratch : Scratch heads starts tried
-  pub sig-room : 2 + 2 * vertexRoom heads ≤ length sig
+  pub sig-room : signatureRoom heads nexts ≤ length sig
 
 -- the lengths of arrays for v vertices and e edges between two rewrites (`Room`)
 pub record SizedGraph (v e : ℕ) (es vs p heads nexts nodes mp : List ℕ) : Type 0 where
@@ -44,4 +44,4 @@ pub record Sized (v e : ℕ) (es vs p heads nexts nodes mp starts tried sig : Li
   pub graph : SizedGraph v e es vs p heads nexts nodes mp
   pub starts-is : length starts ≡ v
   pub tried-is : length tried ≡ v
-  pub sig-is : length sig ≡ 2 + 2 * v
+  pub sig-is : length sig ≡ 2 + 2 * v + 3 * e

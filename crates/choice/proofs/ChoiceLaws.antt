@@ -151,7 +151,7 @@ module _ {h : Held} {es vs p heads nexts nodes mp starts tried sig : List ℕ} (
     room = room-kept (C .room) la lb lc ld le lf lg;
     holds = holds-lean-kept H ld le;
     scratch = record { starts-room = omega (arith, C .scratch .starts-room); tried-room = rw (ld, lj) (C .scratch .tried-room) };
-    sig-room = rw (ld, lk) (C .sig-room);
+    sig-room = rw (ld, le, lk) (C .sig-room);
     countable = record { small = rw ld (C .countable .small) };
   }
 
@@ -164,8 +164,7 @@ module _ {h : Held} {es vs p heads nexts nodes mp starts tried sig : List ℕ} (
     room = C .room;
     holds = lean-holds (C .holds);
     scratch = C .scratch;
-    sig-room =
-        C .sig-room;
+    sig-room = C .sig-room;
     countable = C .countable;
   }
 

@@ -10,7 +10,7 @@ use Rattle.laws.proofs.Fuel.{Good}
 use Rattle.laws.proofs.Measures.{weight}
 use Rattle.laws.proofs.Branching.{branching}
 use Rattle.store.specs.Store.{Within}
-use Rattle.memory.specs.Memory.{graphOf, workOf, vertexRoom, edgeRoom, Room, Holds, Scratch, Countable}
+use Rattle.memory.specs.Memory.{graphOf, workOf, vertexRoom, edgeRoom, signatureRoom, Room, Holds, Scratch, Countable}
 use Rattle.memory.specs.declared.Held.{Held}
 use Rattle.memory.specs.declared.Work.{Work}
 
@@ -40,7 +40,7 @@ pub record Cleanable (h : Held) (es vs p heads nexts nodes mp starts tried sig :
   pub room : Room es vs p heads nexts nodes mp
   pub holds : HoldsLean h es vs p heads nexts
   pub scratch : Scratch heads starts tried
-  pub sig-room : 2 + 2 * vertexRoom heads ≤ length sig
+  pub sig-room : signatureRoom heads nexts ≤ length sig
   pub countable : Countable 501 0 heads
 
 -- the graph of the choice and the rewrites

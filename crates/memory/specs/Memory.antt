@@ -31,6 +31,10 @@ vertexRoom heads = length heads / 2
 abbrev pub edgeRoom : List ℕ → ℕ
 edgeRoom nexts = length nexts / 2
 
+-- how many numbers a signature has at most: two counts, each vertex's length and the bytes of all, three numbers for each edge
+abbrev pub signatureRoom : List ℕ → List ℕ → ℕ
+signatureRoom heads nexts = 2 + 2 * vertexRoom heads + 3 * edgeRoom nexts
+
 -- Twice as many vertices and edges while a rewrite has added its own and nothing has gone yet. The pool holds the sequences three times:
 -- as they are, a new one behind them, and the copy that packs them.
 pub record Room (es vs p heads nexts nodes map : List ℕ) : Type 0 where
@@ -80,7 +84,7 @@ pub record Simplifiable (least : ℕ) (h : Held) (es vs p heads nexts nodes mp s
   pub room : Room es vs p heads nexts nodes mp
   pub holds : Holds h es vs p heads nexts
   pub scratch : Scratch heads starts tried
-  pub sig-room : 2 + 2 * vertexRoom heads ≤ length sig
+  pub sig-room : signatureRoom heads nexts ≤ length sig
   pub countable : Countable 501 0 heads
 
 -- What trying a rewrite leaves, where `o` is what the definition makes: none, and all as it was; or the graph then held.

@@ -112,7 +112,7 @@ module _ {bs es vs p heads nexts nodes mp starts tried sig : List ℕ} (Z : Lent
       room = room-kept (Z .graph .room) la lb lc ld le lf lg;
       holds = holds-lean-kept (read-lean A (Z .graph .roomy) ok) ld le;
       scratch = lent-scratch Z ld;
-      sig-room = omega (arith, ld, Z .sig-room);
+      sig-room = omega (arith, ld, le, Z .sig-room);
       countable = lent-countable Z ld;
     };
   }

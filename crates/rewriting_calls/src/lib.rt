@@ -78,7 +78,7 @@ fn large_with(
     map: &mut [u32; 2 * LARGE_VERTICES],
     starts: &mut [u32; LARGE_VERTICES],
     tried: &mut [u8; LARGE_VERTICES],
-    sig: &mut [u32; 2 * LARGE_VERTICES + 2],
+    sig: &mut [u32; 2 + 2 * LARGE_VERTICES + 3 * LARGE_EDGES],
 ) -> RewritingAnswer
     ensures { λ r. ⌜ RewritingAnswered call (now (rec .entry)) (now (out .entry)) r (now (out .exit)) ⌝ }
 {
@@ -111,7 +111,7 @@ fn large(call: RewritingCall, rec: &[u8], out: &mut [u8]) -> RewritingAnswer
     let mut map = [0u32; 2 * LARGE_VERTICES];
     let mut starts = [0u32; LARGE_VERTICES];
     let mut tried = [0u8; LARGE_VERTICES];
-    let mut sig = [0u32; 2 * LARGE_VERTICES + 2];
+    let mut sig = [0u32; 2 + 2 * LARGE_VERTICES + 3 * LARGE_EDGES];
     large_with(
         call,
         rec,
@@ -142,7 +142,7 @@ fn small_with(
     map: &mut [u32; 2 * SMALL_VERTICES],
     starts: &mut [u32; SMALL_VERTICES],
     tried: &mut [u8; SMALL_VERTICES],
-    sig: &mut [u32; 2 * SMALL_VERTICES + 2],
+    sig: &mut [u32; 2 + 2 * SMALL_VERTICES + 3 * SMALL_EDGES],
 ) -> RewritingAnswer
     requires { ⌜ length (now rec) ≤ 1024 ⌝ }
     ensures { λ r. ⌜ RewritingAnswered call (now (rec .entry)) (now (out .entry)) r (now (out .exit)) ⌝ }
@@ -177,7 +177,7 @@ fn small(call: RewritingCall, rec: &[u8], out: &mut [u8]) -> RewritingAnswer
     let mut map = [0u32; 2 * SMALL_VERTICES];
     let mut starts = [0u32; SMALL_VERTICES];
     let mut tried = [0u8; SMALL_VERTICES];
-    let mut sig = [0u32; 2 * SMALL_VERTICES + 2];
+    let mut sig = [0u32; 2 + 2 * SMALL_VERTICES + 3 * SMALL_EDGES];
     small_with(
         call,
         rec,

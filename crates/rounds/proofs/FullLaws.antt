@@ -9,7 +9,7 @@ use Rattle.defs.specs.Zip.{zipLinearChains}
 use Rattle.defs.specs.Simplify as S
 use Rattle.defs.specs.Simplify.{roundsFrom, simplifyGraphFull}
 use Rattle.index.specs.Index.{Indexed, Indexable}
-use Rattle.memory.specs.Memory.{graphOf, workOf, vertexRoom, Room, Holds, Ready, Scratch, Countable, Simplifiable}
+use Rattle.memory.specs.Memory.{graphOf, workOf, signatureRoom, Room, Holds, Ready, Scratch, Countable, Simplifiable}
 use Rattle.memory.specs.declared.Held.{Held}
 use Rattle.memory.specs.declared.Work.{Work}
 use Rattle.memory.proofs.RoomLaws.{held-vertices, held-edges, held-ends, room-kept, holds-kept}
@@ -50,8 +50,8 @@ module _ {least : ℕ} {h : Held} {es vs p heads nexts nodes mp starts tried sig
         pub full-scratch : {starts₂ : List ℕ} → length starts₂ ≡ length starts → Scratch heads₂ starts₂ tried
         full-scratch l = record { starts-room = omega (arith, F .scratch .starts-room, l₂, lh, l); tried-room = rw (l₂ ∙ lh) (F .scratch .tried-room) }
 
-        pub full-sig : 2 + 2 * vertexRoom heads₂ ≤ length sig
-        full-sig = rw (l₂ ∙ lh) (F .sig-room)
+        pub full-sig : length nexts₂ ≡ length nexts₁ → signatureRoom heads₂ nexts₂ ≤ length sig
+        full-sig m₂ = rw (l₂ ∙ lh, m₂ ∙ ln) (F .sig-room)
 
         pub full-all : {r : Simplified} {es′ vs′ p′ : List ℕ} → Whole least w es₂ vs₂ p₂ heads₂ nexts₂ r es′ vs′ p′ → length nexts₂
             ≡ length nexts₁ → Full least h es vs p heads nexts r es′ vs′ p′

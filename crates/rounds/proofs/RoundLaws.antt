@@ -14,14 +14,14 @@ use Rattle.defs.specs.SeqGraph.{Graph}
 use Rattle.defs.specs.Zip as Z
 use Rattle.defs.specs.Simplify as S
 use Rattle.defs.specs.Simplify.{simplifyGraphOnce, graphTopologySignature, roundsFrom, simplified, endNumber, quiet, repeated, full}
-use Rattle.tabs.proofs.Tabs.{tab-zero, length-tab}
-use Rattle.store.specs.Store.{numsIn, edgeIn}
-use Rattle.memory.specs.Memory.{graphOf, workOf, vertexRoom, Holds, Ready, Countable}
+use Rattle.tabs.proofs.Tabs.{tab-zero}
+use Rattle.store.specs.Store.{numsIn}
+use Rattle.memory.specs.Memory.{graphOf, workOf, vertexRoom, signatureRoom, Holds, Ready, Countable}
 use Rattle.memory.specs.declared.Held.{Held}
 use Rattle.memory.specs.declared.Work.{Work}
-use Rattle.memory.proofs.RoomLaws.{held-vertices, held-edges, fit-bytes, holds-kept}
-use Rattle.merge_linear_chain.proofs.JoinLaws.{held-bytes}
-use Rattle.signature.specs.Signature.{SignatureWritable, Signature}
+use Rattle.memory.proofs.RoomLaws.{fit-vertices, fit-edges, fit-bytes, held-vertices, held-edges, held-ends, held-pool, holds-kept}
+use Rattle.signature.specs.Signature.{storedSignature, SignatureWritable, Signature}
+use Rattle.signature.proofs.StoredLaws.{stored-same, none-stored, stored-long}
 use Rattle.signature.specs.declared.Signed.{Signed}
 use Rattle.rounds.specs.Rounds.{Once, SimplifiedTo, Whole}
 use Rattle.rounds.specs.declared.Simplified.{Simplified}
@@ -63,6 +63,7 @@ three = refl
 
 -- ---- the loop
 
+-- after n rounds: `last` is the signature that the definition has from the round before, and the slice holds it as it is stored
 pub record Rounding (least : ℕ) (w₀ : Work) (es₀ vs₀ p₀ heads₀ sig₀ : List ℕ) (w : Work) (es vs p heads nexts nodes mp sig : List ℕ) (n old : ℕ) : Type 0 where
   pub high : n ≤ 100
   pub ready : Ready least (w .held) es vs p heads nexts nodes mp
@@ -70,7 +71,9 @@ pub record Rounding (least : ℕ) (w₀ : Work) (es₀ vs₀ p₀ heads₀ sig�
   pub sig-len : length sig ≡ length sig₀
   pub old-room : old ≤ length sig
   pub count : w .rewrites ≤ w₀ .rewrites + n * (5 * vertexRoom heads₀)
-  pub is : roundsFrom least (100 - n) n (numsIn old sig) (workOf w es vs p) ≡ roundsFrom least 100 0 [] (workOf w₀ es₀ vs₀ p₀)
+  pub last : List ℕ
+  pub stored : (g : Graph) → sameList (numsIn old sig) (storedSignature g) ≡ sameList last (graphTopologySignature g)
+  pub is : roundsFrom least (100 - n) n last (workOf w es vs p) ≡ roundsFrom least 100 0 [] (workOf w₀ es₀ vs₀ p₀)
 
 module _ {least : ℕ} {w₀ : Work} {es₀ vs₀ p₀ heads₀ sig₀ : List ℕ} where
   pub rounding-start : {nexts nodes mp : List ℕ} → Ready least (w₀ .held) es₀ vs₀ p₀ heads₀ nexts nodes mp
@@ -82,7 +85,9 @@ module _ {least : ℕ} {w₀ : Work} {es₀ vs₀ p₀ heads₀ sig₀ : List �
     sig-len = refl;
     old-room = omega arith;
     count = omega arith;
-    is = ap (λ (l : List ℕ). roundsFrom least 100 0 l (workOf w₀ es₀ vs₀ p₀)) (tab-zero (λ (i : ℕ). getD sig₀ i 0));
+    last = [];
+    stored = λ g. ap (λ (l : List ℕ). sameList l (storedSignature g)) (tab-zero (λ (i : ℕ). getD sig₀ i 0)) ∙ none-stored g;
+    is = refl;
   }
 
   module _ {w : Work} {es vs p heads nexts nodes mp sig : List ℕ} {n old : ℕ} (Q :
@@ -101,8 +106,8 @@ module _ {least : ℕ} {w₀ : Work} {es₀ vs₀ p₀ heads₀ sig₀ : List �
       fuel-is : 100 - n ≡ suc (100 - (n + 1))
       fuel-is = omega arith
 
-      turn : roundsFrom least (suc (100 - (n + 1))) n (numsIn old sig) (workOf w es vs p) ≡ roundsFrom least 100 0 [] (workOf w₀ es₀ vs₀ p₀)
-      turn = ap (λ (x : ℕ). roundsFrom least x n (numsIn old sig) (workOf w es vs p)) (sym fuel-is) ∙ Q .is
+      turn : roundsFrom least (suc (100 - (n + 1))) n (Q .last) (workOf w es vs p) ≡ roundsFrom least 100 0 [] (workOf w₀ es₀ vs₀ p₀)
+      turn = ap (λ (x : ℕ). roundsFrom least x n (Q .last) (workOf w es vs p)) (sym fuel-is) ∙ Q .is
 
       rewrites-is : r .rewrites ≡ (simplifyGraphOnce least (workOf w es vs p)) .rewrites
       rewrites-is = ap (λ (x : Z.Work). x .rewrites) (O .is)
@@ -128,7 +133,7 @@ module _ {least : ℕ} {w₀ : Work} {es₀ vs₀ p₀ heads₀ sig₀ : List �
       pub round-quiet : {heads″ nexts″ : List ℕ} → length heads″ ≡ length heads′ → length nexts″ ≡ length nexts′ → r .rewrites ≡ w .rewrites
           → Whole least w₀ es₀ vs₀ p₀ heads″ nexts″ record { held = r .held; rewrites = r .rewrites; rounds = n + 1; end = 1 } es′ vs′ p′
       round-quiet a b e = ended quiet 1 (unfold endNumber in refl) a b (sym turn
-          ∙ rounds-quiet least (100 - (n + 1)) n (numsIn old sig) (workOf w es vs p) (eq-eqb _ _ (sym rewrites-is ∙ e)))
+          ∙ rounds-quiet least (100 - (n + 1)) n (Q .last) (workOf w es vs p) (eq-eqb _ _ (sym rewrites-is ∙ e)))
 
       module _ (o : r .rewrites ≡ w .rewrites → ⊥) where
         worked : eqb ((simplifyGraphOnce least (workOf w es vs p)) .rewrites) (w .rewrites) ≡ false
@@ -145,38 +150,52 @@ module _ {least : ℕ} {w₀ : Work} {es₀ vs₀ p₀ heads₀ sig₀ : List �
           sig-len = Q .sig-len;
           old-room = Q .old-room;
           count = omega (arith, Q .count, O .most, more, lh, Q .heads-len);
-          is = (λ j. roundsFrom least (100 - (n + 1)) (add-one n j) (numsIn old sig) (O .is j))
-              ∙ sym (rounds-early least (100 - (n + 1)) n (numsIn old sig) (workOf w es vs p) worked (lt-ltb n 6 (omega arith))) ∙ turn;
+          last = Q .last;
+          stored = Q .stored;
+          is = (λ j. roundsFrom least (100 - (n + 1)) (add-one n j) (Q .last) (O .is j))
+              ∙ sym (rounds-early least (100 - (n + 1)) n (Q .last) (workOf w es vs p) worked (lt-ltb n 6 (omega arith))) ∙ turn;
         }
 
-        pub round-writable : 2 + 2 * vertexRoom heads₀ ≤ length sig₀ → SignatureWritable sig old (r .held) vs′ p′
+        pub round-writable : signatureRoom heads′ nexts′ ≤ length sig₀ → SignatureWritable sig old (r .held) es′ vs′ p′
         round-writable b =
+            let R = O .ready .room in
             let H = O .ready .holds in
-            let W : Rattle.store.specs.Store.Within (length p′) (r .held .n) vs′ =
-            record { at = λ v c. omega (arith, H .within .at v c, H .used-room, O .ready .room .p-room) } in
             record {
-              old-room = Q .old-room;
-              vs-room = omega (arith, held-vertices H, O .ready .room .vs-room);
-              within = W;
-              small-n = omega (arith, held-vertices H, O .ready .room .vertices-edges, O .ready .room .small);
-              small-m = omega (arith, held-edges H, O .ready .room .small);
-              room = omega (arith, held-vertices H, fit-bytes (H .fit), held-bytes (r .held .n) vs′ p′ W, b, Q .sig-len, lh, Q .heads-len);
+              vertices = record {
+                small = omega (arith, held-vertices H, R .vertices-edges, R .small);
+                vs-room = omega (arith, held-vertices H, R .vs-room);
+                within = held-pool H R;
+              };
+              edges = record {
+                es-room = omega (arith, held-edges H, R .es-room);
+                small = λ i c. omega (arith, (held-ends H .at i c) .1, held-vertices H, R .vertices-edges, R .small);
+              };
+              small-m = omega (arith, held-edges H, R .small);
+              room = record {
+                old-room = Q .old-room;
+                room = omega (
+                  arith,
+                  stored-long (graphOf (r .held) es′ vs′ p′),
+                  fit-vertices (H .fit),
+                  fit-bytes (H .fit),
+                  fit-edges (H .fit),
+                  b,
+                  Q .sig-len,
+                );
+              };
             }
 
-        module _ (e : 7 ≤ n + 1) {s : Signed} {sig′ : List ℕ} (G : Signature sig old (r .held) vs′ p′ s sig′) where
+        module _ (e : 7 ≤ n + 1) {s : Signed} {sig′ : List ℕ} (G : Signature sig old (r .held) es′ vs′ p′ s sig′) where
           late : ltb n 6 ≡ false
           late = le-ltb n 6 (omega arith)
 
-          edges-are : length ((graphOf (r .held) es′ vs′ p′) .edges) ≡ r .held .m
-          edges-are = length-tab (r .held .m) (edgeIn es′)
-
-          same-is : s .same ≡ sameList (numsIn old sig) (graphTopologySignature ((simplifyGraphOnce least (workOf w es vs p)) .graph))
-          same-is = G .same (graphOf (r .held) es′ vs′ p′) refl edges-are ∙ ap (λ (x : Graph). sameList (numsIn old sig) (graphTopologySignature x)) graph-is
+          same-is : s .same ≡ sameList (Q .last) (graphTopologySignature ((simplifyGraphOnce least (workOf w es vs p)) .graph))
+          same-is = G .same ∙ Q .stored (graphOf (r .held) es′ vs′ p′) ∙ ap (λ (x : Graph). sameList (Q .last) (graphTopologySignature x)) graph-is
 
           pub round-repeated : {heads″ nexts″ : List ℕ} → length heads″ ≡ length heads′ → length nexts″ ≡ length nexts′ → s .same ≡ true
               → Whole least w₀ es₀ vs₀ p₀ heads″ nexts″ record { held = r .held; rewrites = r .rewrites; rounds = n + 1; end = 2 } es′ vs′ p′
           round-repeated a b t = ended repeated 2 (unfold endNumber in refl) a b (sym turn
-              ∙ rounds-repeated least (100 - (n + 1)) n (numsIn old sig) (workOf w es vs p) worked late (sym same-is ∙ t))
+              ∙ rounds-repeated least (100 - (n + 1)) n (Q .last) (workOf w es vs p) worked late (sym same-is ∙ t))
 
           pub round-on : s .same ≡ false → length sig′ ≡ length sig
               → Rounding least w₀ es₀ vs₀ p₀ heads₀ sig₀ r es′ vs′ p′ heads′ nexts′ nodes′ mp′ sig′ (n + 1) (s .at)
@@ -187,12 +206,12 @@ module _ {least : ℕ} {w₀ : Work} {es₀ vs₀ p₀ heads₀ sig₀ : List �
             sig-len = l ∙ Q .sig-len;
             old-room = omega (arith, G .room, l);
             count = omega (arith, Q .count, O .most, more, lh, Q .heads-len);
-            is = (λ j. roundsFrom least (100 - (n + 1)) (add-one n j) (sig-is j) (O .is j))
-                ∙ sym (rounds-on least (100 - (n + 1)) n (numsIn old sig) (workOf w es vs p) worked late (sym same-is ∙ t)) ∙ turn;
+            last = graphTopologySignature ((simplifyGraphOnce least (workOf w es vs p)) .graph);
+            stored = λ g. ap (λ (l : List ℕ). sameList l (storedSignature g)) (G .is) ∙ stored-same (graphOf (r .held) es′ vs′ p′) g
+                ∙ ap (λ (x : Graph). sameList (graphTopologySignature x) (graphTopologySignature g)) graph-is;
+            is = (λ j. roundsFrom least (100 - (n + 1)) (add-one n j) (graphTopologySignature ((simplifyGraphOnce least (workOf w es vs p)) .graph)) (O .is j))
+                ∙ sym (rounds-on least (100 - (n + 1)) n (Q .last) (workOf w es vs p) worked late (sym same-is ∙ t)) ∙ turn;
           }
-            where
-              sig-is : numsIn (s .at) sig′ ≡ graphTopologySignature ((simplifyGraphOnce least (workOf w es vs p)) .graph)
-              sig-is = G .is (graphOf (r .held) es′ vs′ p′) refl edges-are ∙ ap graphTopologySignature graph-is
 
     pub round-full : 100 ≤ n → {heads″ nexts″ : List ℕ} → length heads″ ≡ length heads → length nexts″ ≡ length nexts
         → Whole least w₀ es₀ vs₀ p₀ heads″ nexts″ record { held = w .held; rewrites = w .rewrites; rounds = n; end = 3 } es vs p
@@ -200,8 +219,8 @@ module _ {least : ℕ} {w₀ : Work} {es₀ vs₀ p₀ heads₀ sig₀ : List �
     round-full b a c =
         let z : 100 - n ≡ 0 = omega (arith, Q .high) in
         let i : roundsFrom least 100 0 [] (workOf w₀ es₀ vs₀ p₀) ≡ simplified (workOf w es vs p) n full = sym (Q .is)
-        ∙ ap (λ (x : ℕ). roundsFrom least x n (numsIn old sig) (workOf w es vs p)) z
-        ∙ rounds-full least n (numsIn old sig) (workOf w es vs p) in
+        ∙ ap (λ (x : ℕ). roundsFrom least x n (Q .last) (workOf w es vs p)) z
+        ∙ rounds-full least n (Q .last) (workOf w es vs p) in
         record {
           answers = record {
             graph = sym (ap (λ (x : S.Simplified). x .graph) i);

@@ -2,7 +2,7 @@
 ghost use mathlib.Core.Path.{_≡_};
 ghost use Prim.Native.Nat.{ℕ, _+_, _*_, _<_, _≤_};
 ghost use lib.ListN.{length};
-ghost use Rattle.memory.specs.Memory.{graphOf, vertexRoom, Room, Holds, Ready, Scratch, Countable, Simplifiable};
+ghost use Rattle.memory.specs.Memory.{graphOf, signatureRoom, Room, Holds, Ready, Scratch, Countable, Simplifiable};
 ghost use Rattle.rounds.specs.Rounds.{ended, Once, Whole, Full};
 use memory::Held;
 use memory::Work;
@@ -73,7 +73,7 @@ pub fn simplify_rounds(
 ) -> Simplified
     requires { ⌜ Ready least (work .held) (now es) (now vs) (now p) (now heads) (now nexts) (now nodes) (now map)
         × (Countable 500 (work .rewrites) (now heads) × (Scratch (now heads) (now starts) (now tried)
-        × (2 + 2 * vertexRoom (now heads) ≤ length (now sig)))) ⌝ }
+        × (signatureRoom (now heads) (now nexts) ≤ length (now sig)))) ⌝ }
     ensures { λ r. ⌜ Whole least work (now (es .entry)) (now (vs .entry)) (now (p .entry)) (now (heads .entry)) (now (nexts .entry)) r
         (now (es .exit)) (now (vs .exit)) (now (p .exit)) ⌝ }
 {
@@ -88,7 +88,7 @@ pub fn simplify_rounds(
             return end_with(w, n, 1);
         }
         if 7 <= n {
-            let s = signature::replace_signature(sig, old, w.held, vs, p);
+            let s = signature::replace_signature(sig, old, w.held, es, vs, p);
             let same = s.same;
             if same {
                 return end_with(w, n, 2);

@@ -84,7 +84,7 @@ fn show_with(
     map: &mut [u32; 2 * LARGE_VERTICES],
     starts: &mut [u32; LARGE_VERTICES],
     tried: &mut [u8; LARGE_VERTICES],
-    sig: &mut [u32; 2 * LARGE_VERTICES + 2],
+    sig: &mut [u32; 2 + 2 * LARGE_VERTICES + 3 * LARGE_EDGES],
 ) -> usize
     ensures { λ r. ⌜ Shown (now (rec .entry)) (now (text .entry)) r (now (text .exit)) ⌝ }
 {
@@ -117,7 +117,7 @@ pub fn show(rec: &[u8], text: &mut [u8; TEXT_MOST]) -> usize
     let mut map = [0u32; 2 * LARGE_VERTICES];
     let mut starts = [0u32; LARGE_VERTICES];
     let mut tried = [0u8; LARGE_VERTICES];
-    let mut sig = [0u32; 2 * LARGE_VERTICES + 2];
+    let mut sig = [0u32; 2 + 2 * LARGE_VERTICES + 3 * LARGE_EDGES];
     show_with(
         rec,
         text,

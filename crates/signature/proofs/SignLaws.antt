@@ -11,17 +11,18 @@ use lib.ListN.{length, getD, set, length-set, take, drop, length-append, length-
 use lib.Seq.{getD-set-same, getD-set-other, ext-getD, take-suc, getD-append-add, length-take-le, take-all}
 use lib.Dec.{eqb, ltb}
 use borrow.Author.Tests.{lt-ltb, le-ltb, eq-eqb, ne-eqb, eqb-true, eqb-false, ltb-true, ltb-false}
-use Rattle.defs.specs.Lists.{sameList, sum, tab, concat}
-use Rattle.defs.specs.SeqGraph.{Graph, nodeCount}
-use Rattle.defs.specs.Simplify.{graphTopologySignature}
+use Rattle.defs.specs.Lists.{bit, sameList, sum, tab, concat}
+use Rattle.defs.specs.SeqGraph.{Edge, Graph, nodeCount}
 use Rattle.laws.proofs.Walks.{byTest}
 use Rattle.laws.proofs.ListLaws.{clash, byOrder, and-split, sameList-eq, sameList-refl}
 use Rattle.tabs.proofs.Tabs.{length-tab, getD-tab, tab-snoc, tab-zero}
 use Rattle.tabs.proofs.SumTabs.{sum-none, sum-more, sum-below, concat-snoc, map-tab}
-use Rattle.store.specs.Store.{part, numsIn, seqIn, seqsIn, Within}
+use Rattle.store.specs.Store.{isSet, part, numsIn, edgeIn, seqIn}
 use Rattle.store.proofs.VertexLaws.{part-long}
+use Rattle.memory.specs.Memory.{graphOf}
 use Rattle.memory.specs.declared.Held.{Held}
-use Rattle.signature.specs.Signature.{sameAt, sameFrom, WrittenOver, NumberPut, SequenceSigned, Entering, VertexSigned, SignatureWritable, Signature}
+use Rattle.signature.specs.Signature.{sameAt, sameFrom, storedVertex, storedEdge, storedVertices, storedEdges, storedSignature, WrittenOver, Writable}
+use Rattle.signature.specs.Signature.{SignatureWritable, Signature}
 use Rattle.signature.specs.declared.Signed.{Signed}
 
 -- ---- one after another
@@ -81,21 +82,32 @@ here-is : (b : Bool) → b ≡ b && true
 here-is true = refl
 here-is false = refl
 
-pub put-over : {l : List ℕ} {old : ℕ} {s : Signed} {x : ℕ} {here : Bool} → s .at < length l → here ≡ sameAt l old (s .at) x → (r : Signed)
-    → r .at ≡ s .at + 1 → r .same ≡ s .same && here → NumberPut l old s x r (set l (s .at) x)
-put-over {l} {old} {s} {x} {here} h e r a b = record {
-  over = record {
-    at = a;
-    same = b ∙ ap (λ (c : Bool). s .same && c) (e ∙ here-is _);
-    is = λ i c. let q : s .at + i ≡ s .at = omega arith in ap (λ (k : ℕ). getD (set l (s .at) x) k 0) q ∙ getD-set-same l (s .at) x 0 h ∙ first i c;
-    before = λ k c. getD-set-other l (s .at) k x 0 (λ z. omega arith);
-    behind = λ k c. getD-set-other l (s .at) k x 0 (λ z. omega arith);
-  };
+pub put-over : {l : List ℕ} {old : ℕ} {s : Signed} {x : ℕ} {here : Bool} → Writable l old s 1 → here ≡ sameAt l old (s .at) x → (r : Signed)
+    → r .at ≡ s .at + 1 → r .same ≡ s .same && here → WrittenOver l old s (x ∷ []) r (set l (s .at) x)
+put-over {l} {old} {s} {x} {here} W e r a b = record {
+  at = a;
+  same = b ∙ ap (λ (c : Bool). s .same && c) (e ∙ here-is _);
+  is = λ i c. let q : s .at + i ≡ s .at = omega arith in ap (λ (k : ℕ). getD (set l (s .at) x) k 0) q ∙ getD-set-same l (s .at) x 0 inside ∙ first i c;
+  before = λ k c. getD-set-other l (s .at) k x 0 (λ z. omega arith);
+  behind = λ k c. getD-set-other l (s .at) k x 0 (λ z. omega arith);
 }
   where
+    inside : s .at < length l
+    inside = omega (arith, W .room)
+
     first : (i : ℕ) → i < length (x ∷ []) → x ≡ getD (x ∷ []) i 0
     first zero c = refl
     first (suc i) c = absurd (omega arith)
+
+-- ---- room
+
+-- behind xs there is room for what is left
+pub room-behind : {l l′ : List ℕ} {old a b : ℕ} {s r : Signed} {xs : List ℕ} → Writable l old s a → WrittenOver l old s xs r l′ → length l′ ≡ length l
+    → length xs + b ≤ a → Writable l′ old r b
+room-behind W O q h = record { old-room = omega (arith, W .old-room, q); room = omega (arith, W .room, O .at, q, h) }
+
+pub room-less : {l : List ℕ} {old a b : ℕ} {s : Signed} → Writable l old s a → b ≤ a → Writable l old s b
+room-less W h = record { old-room = W .old-room; room = omega (arith, W .room, h) }
 
 -- ---- bytes
 
@@ -108,79 +120,100 @@ module _ {l₀ : List ℕ} {old : ℕ} {s : Signed} {seq : List ℕ} where
   pub bytes-start : SequenceBytes l₀ old s seq l₀ s 0
   bytes-start = record { high = omega arith; len = refl; over = over-none l₀ old s }
 
-  pub bytes-more : {l l′ : List ℕ} {t r : Signed} {i : ℕ} → SequenceBytes l₀ old s seq l t i → i < length seq → NumberPut l old t (getD seq i 0) r l′
+  pub bytes-more : {l l′ : List ℕ} {t r : Signed} {i : ℕ} → SequenceBytes l₀ old s seq l t i → i < length seq → WrittenOver l old t (getD seq i 0 ∷ []) r l′
       → length l′ ≡ length l → SequenceBytes l₀ old s seq l′ r (i + 1)
   bytes-more {l} {l′} {t} {r} {i} B h P q = record {
     high = omega arith;
     len = q ∙ B .len;
-    over = subst (λ (x : List ℕ). WrittenOver l₀ old s x r l′) (sym (ap (λ (k : ℕ). take k seq) (add-one i) ∙ take-suc seq i 0 h)) (over-then (B .over) (P .over));
+    over = subst (λ (x : List ℕ). WrittenOver l₀ old s x r l′) (sym (ap (λ (k : ℕ). take k seq) (add-one i) ∙ take-suc seq i 0 h)) (over-then (B .over) P);
   }
 
-  -- where the next byte goes
-  pub bytes-at : {l : List ℕ} {t : Signed} {i : ℕ} → SequenceBytes l₀ old s seq l t i → t .at ≡ s .at + i
-  bytes-at {l} {t} {i} B = B .over .at ∙ ap (λ (x : ℕ). s .at + x) (length-take-le i seq (B .high))
+  -- there is room for the next byte
+  pub bytes-room : {l : List ℕ} {t : Signed} {i : ℕ} → SequenceBytes l₀ old s seq l t i → i < length seq → Writable l₀ old s (length seq)
+      → Writable l old t 1
+  bytes-room {l} {t} {i} B h W = room-behind W (B .over) (B .len) (omega (arith, length-take-le i seq (B .high)))
 
-  pub bytes-end : {l : List ℕ} {t : Signed} {i : ℕ} → SequenceBytes l₀ old s seq l t i → length seq ≤ i → SequenceSigned l₀ old s seq t l
-  bytes-end {l} {t} {i} B h = record { over = subst (λ (x : List ℕ). WrittenOver l₀ old s x t l) (take-all i seq h) (B .over) }
+  pub bytes-end : {l : List ℕ} {t : Signed} {i : ℕ} → SequenceBytes l₀ old s seq l t i → length seq ≤ i → WrittenOver l₀ old s seq t l
+  bytes-end {l} {t} {i} B h = subst (λ (x : List ℕ). WrittenOver l₀ old s x t l) (take-all i seq h) (B .over)
 
--- ---- all vertices
+-- ---- vertices, edges: items by number
 
-abbrev pub entry : List ℕ → List ℕ
-entry q = length q ∷ q
-
-abbrev pub signature-entries : ℕ → List ℕ → List ℕ → List ℕ
-signature-entries v vs p = concat (map entry (seqsIn v vs p))
-
-entries-none : (vs p : List ℕ) → signature-entries 0 vs p ≡ []
-unfolding concat
-entries-none vs p = ap (λ (l : List (List ℕ)). concat (map entry l)) (tab-zero (seqIn vs p))
-
-entries-more : (v : ℕ) (vs p : List ℕ) → signature-entries (v + 1) vs p ≡ signature-entries v vs p ++ entry (seqIn vs p v)
-entries-more v vs p = ap (λ (l : List (List ℕ)). concat (map entry l)) (tab-snoc v (seqIn vs p))
-    ∙ ap concat (mathlib-map-append (seqsIn v vs p) (seqIn vs p v)) ∙ concat-snoc (map entry (seqsIn v vs p)) (entry (seqIn vs p v))
+items-long : (n : ℕ) (item : ℕ → List ℕ) → length (concat (tab n item)) ≡ sum (tab n (λ (i : ℕ). length (item i)))
+unfolding concat sum
+items-long n item = longs (tab n item) ∙ ap sum (map-tab length n item)
   where
-    mathlib-map-append : (xs : List (List ℕ)) (y : List ℕ) → map entry (xs ++ (y ∷ [])) ≡ map entry xs ++ (entry y ∷ [])
-    mathlib-map-append [] y = refl
-    mathlib-map-append (x ∷ xs) y = ap (λ (l : List (List ℕ)). entry x ∷ l) (mathlib-map-append xs y)
+    longs : (l : List (List ℕ)) → length (concat l) ≡ sum (map length l)
+    longs [] = refl
+    longs (x ∷ xs) = length-append x (concat xs) ∙ ap (λ (k : ℕ). length x + k) (longs xs)
 
-pub record Entries (l₀ : List ℕ) (old : ℕ) (s₀ : Signed) (n : ℕ) (vs p l : List ℕ) (s : Signed) (v : ℕ) : Type 0 where
-  pub high : v ≤ n
+pub record Items (n : ℕ) (item : ℕ → List ℕ) (l₀ : List ℕ) (old : ℕ) (s₀ : Signed) (l : List ℕ) (s : Signed) (i : ℕ) : Type 0 where
+  pub high : i ≤ n
   pub len : length l ≡ length l₀
-  pub at : s .at ≡ s₀ .at + (v + sum (tab v (λ (u : ℕ). getD vs (2 * u + 1) 0)))
-  pub over : WrittenOver l₀ old s₀ (signature-entries v vs p) s l
+  pub over : WrittenOver l₀ old s₀ (concat (tab i item)) s l
 
-module _ {l₀ : List ℕ} {old : ℕ} {s₀ : Signed} {n : ℕ} {vs p : List ℕ} where
-  pub entries-start : Entries l₀ old s₀ n vs p l₀ s₀ 0
-  entries-start = record {
-    high = omega arith;
-    len = refl;
-    at = omega (arith, sum-none (λ (u : ℕ). getD vs (2 * u + 1) 0));
-    over = subst (λ (x : List ℕ). WrittenOver l₀ old s₀ x s₀ l₀) (sym (entries-none vs p)) (over-none l₀ old s₀);
-  }
+module _ {n : ℕ} {item : ℕ → List ℕ} {l₀ : List ℕ} {old : ℕ} {s₀ : Signed} where
+  pub items-start : Items n item l₀ old s₀ l₀ s₀ 0
+  unfolding concat
+  items-start = record { high = omega arith; len = refl; over = subst (λ (x : List ℕ). WrittenOver l₀ old s₀ x s₀ l₀) (sym none) (over-none l₀ old s₀) }
+    where
+      none : concat (tab 0 item) ≡ []
+      none = ap concat (tab-zero item)
 
-  pub entries-step : {l l′ : List ℕ} {s r : Signed} {v : ℕ} → Entries l₀ old s₀ n vs p l s v → v < n → VertexSigned l old s vs p v r l′
-      → length l′ ≡ length l → Entries l₀ old s₀ n vs p l′ r (v + 1)
-  entries-step {l} {l′} {s} {r} {v} E b D q = record {
+  pub items-step : {l l′ : List ℕ} {s r : Signed} {i : ℕ} → Items n item l₀ old s₀ l s i → i < n → WrittenOver l old s (item i) r l′
+      → length l′ ≡ length l → Items n item l₀ old s₀ l′ r (i + 1)
+  items-step {l} {l′} {s} {r} {i} E b D q = record {
     high = omega arith;
     len = q ∙ E .len;
-    at = omega (arith, D .at, E .at, sum-more v (λ (u : ℕ). getD vs (2 * u + 1) 0));
-    over = subst (λ (x : List ℕ). WrittenOver l₀ old s₀ x r l′) (sym (entries-more v vs p)) (over-then (E .over) (D .over));
+    over = subst (λ (x : List ℕ). WrittenOver l₀ old s₀ x r l′) (sym (ap concat (tab-snoc i item) ∙ concat-snoc (tab i item) (item i))) (over-then (E .over) D);
   }
 
--- one vertex
-pub entered : {l l₁ l₂ : List ℕ} {old : ℕ} {s t r : Signed} {vs p : List ℕ} {v start len : ℕ} → Entering l old s vs p v → start
-    ≡ getD vs (2 * v) 0 → len ≡ getD vs (2 * v + 1) 0
-    → NumberPut l old s len t l₁ → SequenceSigned l₁ old t (part p start len) r l₂ → VertexSigned l old s vs p v r l₂
-entered {l} {l₁} {l₂} {old} {s} {t} {r} {vs} {p} {v} {start} {len} F qs ql P S = record {
-  over = subst (λ (x : List ℕ). WrittenOver l old s x r l₂) whole (over-then (P .over) (S .over));
-  at = omega (arith, S .over .at, P .over .at, long);
-}
-  where
-    long : length (part p start len) ≡ len
-    long = part-long p start len (omega (arith, qs, ql, F .within))
+  -- there is room for the next item
+  pub items-room : {l : List ℕ} {s : Signed} {i : ℕ} → Items n item l₀ old s₀ l s i → i < n → Writable l₀ old s₀ (length (concat (tab n item)))
+      → Writable l old s (length (item i))
+  items-room {l} {s} {i} E b W = room-behind W (E .over) (E .len)
+      (omega (arith, items-long i item, items-long n item, sum-below n i (λ (j : ℕ). length (item j)) b))
 
-    whole : (len ∷ []) ++ part p start len ≡ length (seqIn vs p v) ∷ seqIn vs p v
-    whole = λ i. (sym long ∙ (λ j. length (part p (qs j) (ql j)))) i ∷ part p (qs i) (ql i)
+  pub items-end : {l : List ℕ} {s : Signed} {i : ℕ} → Items n item l₀ old s₀ l s i → n ≤ i → WrittenOver l₀ old s₀ (concat (tab n item)) s l
+  items-end {l} {s} {i} E h = subst (λ (x : ℕ). WrittenOver l₀ old s₀ (concat (tab x item)) s l) all (E .over)
+    where
+      all : i ≡ n
+      all = omega (arith, E .high)
+
+-- one vertex: its length, and behind it its bytes
+module _ (vs p : List ℕ) (v : ℕ) {l l₁ : List ℕ} {old : ℕ} {s t : Signed} {start len : ℕ} (qs : start ≡ getD vs (2 * v) 0) (ql : len ≡ getD vs (2 * v + 1) 0)
+    (P : WrittenOver l old s (len ∷ []) t l₁) where
+  bytes-are : take (start + len - start) (drop start p) ≡ seqIn vs p v
+  bytes-are = (λ i. take (size i) (drop start p)) ∙ (λ i. part p (qs i) (ql i))
+    where
+      size : start + len - start ≡ len
+      size = omega arith
+
+  pub vertex-room : Writable l old s (length (storedVertex (seqIn vs p v))) → length l₁ ≡ length l
+      → Writable l₁ old t (length (take (start + len - start) (drop start p)))
+  vertex-room W q = room-behind W P q (omega (arith, ap length bytes-are))
+
+  pub vertex-over : {r : Signed} {l₂ : List ℕ} → getD vs (2 * v) 0 + getD vs (2 * v + 1) 0 ≤ length p
+      → WrittenOver l₁ old t (take (start + len - start) (drop start p)) r l₂ → WrittenOver l old s (storedVertex (seqIn vs p v)) r l₂
+  vertex-over {r} {l₂} h S = subst (λ (x : List ℕ). WrittenOver l old s x r l₂) (λ i. long i ∷ bytes-are i) (over-then P S)
+    where
+      long : len ≡ length (seqIn vs p v)
+      long = ql ∙ sym (part-long p (getD vs (2 * v) 0) (getD vs (2 * v + 1) 0) h)
+
+-- one edge
+pub flag-unset : {f : ℕ} → f ≡ 0 → bit (isSet f) ≡ 0
+unfolding bit
+flag-unset {f} q = rw (eq-eqb f 0 q)
+
+pub flag-set : {f : ℕ} → (f ≡ 0 → ⊥) → bit (isSet f) ≡ 1
+unfolding bit
+flag-set {f} o = rw (ne-eqb f 0 o)
+
+pub edge-over : (es : List ℕ) (i : ℕ) {l l₁ l₂ l₃ : List ℕ} {old : ℕ} {s t u r : Signed} {a b c : ℕ} → a ≡ getD es (4 * i) 0
+    → b ≡ 2 * getD es (4 * i + 1) 0 + bit (isSet (getD es (4 * i + 3) 0)) → c ≡ getD es (4 * i + 2) 0
+    → WrittenOver l old s (a ∷ []) t l₁ → WrittenOver l₁ old t (b ∷ []) u l₂ → WrittenOver l₂ old u (c ∷ []) r l₃
+    → WrittenOver l old s (storedEdge (edgeIn es i)) r l₃
+edge-over es i {l} {l₁} {l₂} {l₃} {old} {s} {t} {u} {r} qa qb qc A B C =
+    subst (λ (x : List ℕ). WrittenOver l old s x r l₃) (λ j. qa j ∷ qb j ∷ qc j ∷ []) (over-then (over-then A B) C)
 
 -- ---- the whole
 
@@ -223,50 +256,44 @@ other-length l old xs o = sym (byTest (sameList (numsIn old l) xs)
     (λ s. absurd (o (sym (ap length (sameList-eq (numsIn old l) xs s)) ∙ length-tab old (λ (k : ℕ). getD l k 0))))
     (λ s. s))
 
-module _ {sig : List ℕ} {old : ℕ} {h : Held} {vs p : List ℕ} {r₁ r₂ r₃ : Signed} {l₁ l₂ l₃ : List ℕ} {v : ℕ}
-    (A : NumberPut sig old record { at = 0; same = true } (h .n) r₁ l₁) (B : NumberPut l₁ old r₁ (h .m) r₂ l₂) (E :
-    Entries l₂ old r₂ (h .n) vs p l₃ r₃ v) (done : h .n ≤ v) (F : SignatureWritable sig old h vs p) where
-  abbrev written : List ℕ
-  written = ((h .n ∷ []) ++ (h .m ∷ [])) ++ signature-entries (h .n) vs p
+-- the counts, the vertices and the edges of the held graph
+stored-is : (h : Held) (es vs p : List ℕ) → ((h .n ∷ []) ++ (h .m ∷ []) ++ storedVertices (h .n) vs p) ++ storedEdges (h .m) es
+    ≡ storedSignature (graphOf h es vs p)
+unfolding nodeCount
+stored-is h es vs p = λ i. sym (length-tab (h .n) (seqIn vs p)) i ∷ sym (length-tab (h .m) (edgeIn es)) i
+    ∷ (concat (sym (map-tab storedVertex (h .n) (seqIn vs p)) i) ++ concat (sym (map-tab storedEdge (h .m) (edgeIn es)) i))
 
-  v-is : v ≡ h .n
-  v-is = omega (arith, E .high)
+module _ {sig : List ℕ} {old : ℕ} {h : Held} {es vs p : List ℕ} {r₁ r₂ : Signed} {l₁ l₂ : List ℕ} (F : SignatureWritable sig old h es vs p)
+    (A : WrittenOver sig old record { at = 0; same = true } (h .n ∷ []) r₁ l₁) (B : WrittenOver l₁ old r₁ (h .m ∷ []) r₂ l₂) where
+  abbrev stored : List ℕ
+  stored = storedSignature (graphOf h es vs p)
 
-  all : WrittenOver sig old record { at = 0; same = true } written r₃ l₃
-  all = over-then (over-then (A .over) (B .over)) (subst (λ (x : ℕ). WrittenOver l₂ old r₂ (signature-entries x vs p) r₃ l₃) v-is (E .over))
+  parts-long : length stored ≡ 2 + length (storedVertices (h .n) vs p) + length (storedEdges (h .m) es)
+  parts-long =
+      omega (arith, ap length (stored-is h es vs p), length-append (h .n ∷ h .m ∷ storedVertices (h .n) vs p) (storedEdges (h .m) es))
 
-  sig-is : (g : Graph) → g .verts ≡ seqsIn (h .n) vs p → length (g .edges) ≡ h .m → written ≡ graphTopologySignature g
-  unfolding graphTopologySignature nodeCount
-  sig-is g a b = λ i. count i ∷ sym b i ∷ concat (map entry (sym a i))
-    where
-      count : h .n ≡ length (g .verts)
-      count = sym (ap length a ∙ length-tab (h .n) (seqIn vs p))
+  pub vertices-room : length l₂ ≡ length sig → Writable l₂ old r₂ (length (storedVertices (h .n) vs p))
+  vertices-room q = room-behind (F .room) (over-then A B) q (omega (arith, parts-long))
 
-  fits : r₃ .at ≤ length sig
-  fits = omega (arith, E .at, B .over .at, A .over .at, F .room, ap (λ (x : ℕ). x + sum (tab x (λ (u : ℕ). getD vs (2 * u + 1) 0))) v-is)
+  module _ {r₃ : Signed} {l₃ : List ℕ} (C : WrittenOver l₂ old r₂ (storedVertices (h .n) vs p) r₃ l₃) where
+    pub edges-room : length l₃ ≡ length sig → Writable l₃ old r₃ (length (storedEdges (h .m) es))
+    edges-room q = room-behind (F .room) (over-then (over-then A B) C) q (omega (arith, parts-long))
 
-  nums : numsIn (r₃ .at) l₃ ≡ written
-  nums = nums-is l₃ written (r₃ .at) (all .at ∙ zero-add (length written)) (λ i b. all .is i b)
+    module _ {r₄ : Signed} {l₄ : List ℕ} (D : WrittenOver l₃ old r₃ (storedEdges (h .m) es) r₄ l₄) where
+      all : WrittenOver sig old record { at = 0; same = true } stored r₄ l₄
+      all = subst (λ (x : List ℕ). WrittenOver sig old record { at = 0; same = true } x r₄ l₄) (stored-is h es vs p) (over-then (over-then (over-then A B) C) D)
 
-  pub signed-other : (r₃ .at ≡ old → ⊥) → Signature sig old h vs p record { at = r₃ .at; same = false } l₃
-  signed-other o = record {
-    room = fits;
-    is = λ g a b. nums ∙ sig-is g a b;
-    same = λ g a b. other-length sig old written (λ z. o (all .at ∙ zero-add (length written) ∙ z)) ∙ ap (sameList (numsIn old sig)) (sig-is g a b);
-  }
+      long : r₄ .at ≡ length stored
+      long = all .at ∙ zero-add (length stored)
 
-  pub signed-same : r₃ .at ≡ old → Signature sig old h vs p r₃ l₃
-  signed-same q = record {
-    room = fits;
-    is = λ g a b. nums ∙ sig-is g a b;
-    same = λ g a b. all .same ∙ same-whole sig old written (sym (zero-add (length written)) ∙ sym (all .at) ∙ q)
-        ∙ ap (sameList (numsIn old sig)) (sig-is g a b);
-  }
+      fits : r₄ .at ≤ length sig
+      fits = omega (arith, long, F .room .room)
 
--- a part by its start and its end
-pub part-sub : {l : List ℕ} {old : ℕ} {s : Signed} {r : Signed} {l′ : List ℕ} (p : List ℕ) (start len : ℕ)
-    → SequenceSigned l old s (take (start + len - start) (drop start p)) r l′ → SequenceSigned l old s (part p start len) r l′
-part-sub {l} {old} {s} {r} {l′} p start len S = subst (λ (n : ℕ). SequenceSigned l old s (take n (drop start p)) r l′) size S
-  where
-    size : start + len - start ≡ len
-    size = omega arith
+      nums : numsIn (r₄ .at) l₄ ≡ stored
+      nums = nums-is l₄ stored (r₄ .at) long (λ i b. all .is i b)
+
+      pub signed-other : (r₄ .at ≡ old → ⊥) → Signature sig old h es vs p record { at = r₄ .at; same = false } l₄
+      signed-other o = record { room = fits; is = nums; same = other-length sig old stored (λ z. o (long ∙ z)) }
+
+      pub signed-same : r₄ .at ≡ old → Signature sig old h es vs p r₄ l₄
+      signed-same q = record { room = fits; is = nums; same = all .same ∙ same-whole sig old stored (sym long ∙ q) }

@@ -1,16 +1,33 @@
 -- Writing a signature over the previous one. Assumes nothing.
 use mathlib.Core.Path.{_≡_}
 use mathlib.Core.Bool.{Bool, true, false, _&&_}
-use mathlib.Core.List.{List, [], _∷_, _++_}
+use mathlib.Core.List.{List, [], _∷_, _++_, map}
 use Prim.Native.Nat.{ℕ, zero, suc, _+_, _*_, _≤_, _<_}
 use lib.ListN.{length, getD}
 use lib.Dec.{eqb, ltb}
-use Rattle.defs.specs.Lists.{sameList, sum, tab}
-use Rattle.defs.specs.SeqGraph.{Graph}
-use Rattle.defs.specs.Simplify.{graphTopologySignature}
-use Rattle.store.specs.Store.{numsIn, seqIn, seqsIn, Within}
+use Rattle.defs.specs.Lists.{bit, concat, sameList, tab}
+use Rattle.defs.specs.SeqGraph.{Edge, Graph, nodeCount}
+use Rattle.store.specs.Store.{edgeIn, numsIn, seqIn, Within}
+use Rattle.memory.specs.Memory.{graphOf}
 use Rattle.memory.specs.declared.Held.{Held}
 use Rattle.signature.specs.declared.Signed.{Signed}
+
+-- The signature as it is stored to be compared with the next: three numbers for each edge, the flag beside the end that the edge enters.
+abbrev pub storedVertex : List ℕ → List ℕ
+storedVertex v = length v ∷ v
+
+abbrev pub storedEdge : Edge → List ℕ
+storedEdge e = e .from ∷ (2 * e .to + bit (e .isRef)) ∷ e .support ∷ []
+
+abbrev pub storedSignature : Graph → List ℕ
+storedSignature g = nodeCount g ∷ length (g .edges) ∷ concat (map storedVertex (g .verts)) ++ concat (map storedEdge (g .edges))
+
+-- what is stored of the first n vertices, and of the first m edges, of the slices
+abbrev pub storedVertices : ℕ → List ℕ → List ℕ → List ℕ
+storedVertices n vs p = concat (tab n (λ (v : ℕ). storedVertex (seqIn vs p v)))
+
+abbrev pub storedEdges : ℕ → List ℕ → List ℕ
+storedEdges m es = concat (tab m (λ (i : ℕ). storedEdge (edgeIn es i)))
 
 -- whether x is number `at` of the first `old`
 abbrev pub sameAt : List ℕ → ℕ → ℕ → ℕ → Bool
@@ -29,34 +46,31 @@ pub record WrittenOver (l : List ℕ) (old : ℕ) (s : Signed) (xs : List ℕ) (
   pub before : (k : ℕ) → k < s .at → getD l′ k 0 ≡ getD l k 0
   pub behind : (k : ℕ) → s .at + length xs ≤ k → getD l′ k 0 ≡ getD l k 0
 
-pub record NumberPut (l : List ℕ) (old : ℕ) (s : Signed) (x : ℕ) (r : Signed) (l′ : List ℕ) : Type 0 where
-  pub over : WrittenOver l old s (x ∷ []) r l′
-
-pub record SequenceSigned (l : List ℕ) (old : ℕ) (s : Signed) (xs : List ℕ) (r : Signed) (l′ : List ℕ) : Type 0 where
-  pub over : WrittenOver l old s xs r l′
-
--- v's sequence is in the pool, and there is room for its length and bytes
-pub record Entering (l : List ℕ) (old : ℕ) (s : Signed) (vs p : List ℕ) (v : ℕ) : Type 0 where
+-- there is room for so many numbers behind what was written
+pub record Writable (l : List ℕ) (old : ℕ) (s : Signed) (count : ℕ) : Type 0 where
   pub old-room : old ≤ length l
-  pub vs-room : 2 * v + 2 ≤ length vs
-  pub within : getD vs (2 * v) 0 + getD vs (2 * v + 1) 0 ≤ length p
-  pub room : s .at + 1 + getD vs (2 * v + 1) 0 ≤ length l
+  pub room : s .at + count ≤ length l
 
-pub record VertexSigned (l : List ℕ) (old : ℕ) (s : Signed) (vs p : List ℕ) (v : ℕ) (r : Signed) (l′ : List ℕ) : Type 0 where
-  pub over : WrittenOver l old s (length (seqIn vs p v) ∷ seqIn vs p v) r l′
-  pub at : r .at ≡ s .at + 1 + getD vs (2 * v + 1) 0
+-- n vertices with their sequences in the pool
+pub record Pooled (n : ℕ) (vs p : List ℕ) : Type 0 where
+  pub small : n < 4294967296
+  pub vs-room : 2 * n ≤ length vs
+  pub within : Within (length p) n vs
 
--- room for the counts, and for each vertex a length and its bytes
-pub record SignatureWritable (sig : List ℕ) (old : ℕ) (h : Held) (vs p : List ℕ) : Type 0 where
-  pub old-room : old ≤ length sig
-  pub vs-room : 2 * h .n ≤ length vs
-  pub within : Within (length p) (h .n) vs
-  pub small-n : h .n < 4294967296
+-- m edges, and the end that each enters fits one number together with its flag
+pub record EndsFit (m : ℕ) (es : List ℕ) : Type 0 where
+  pub es-room : 4 * m ≤ length es
+  pub small : (i : ℕ) → i < m → 2 * getD es (4 * i + 1) 0 + 1 < 4294967296
+
+-- the graph is in the slices, and there is room for its signature
+pub record SignatureWritable (sig : List ℕ) (old : ℕ) (h : Held) (es vs p : List ℕ) : Type 0 where
+  pub vertices : Pooled (h .n) vs p
+  pub edges : EndsFit (h .m) es
   pub small-m : h .m < 4294967296
-  pub room : 2 + (h .n + sum (tab (h .n) (λ (v : ℕ). getD vs (2 * v + 1) 0))) ≤ length sig
+  pub room : Writable sig old record { at = 0; same = true } (length (storedSignature (graphOf h es vs p)))
 
--- the first numbers are the signature of every graph that has these vertices and so many edges; `same` says whether it is the previous one
-pub record Signature (sig : List ℕ) (old : ℕ) (h : Held) (vs p : List ℕ) (r : Signed) (sig′ : List ℕ) : Type 0 where
+-- the first numbers are the signature of the graph; `same` says whether the previous ones were
+pub record Signature (sig : List ℕ) (old : ℕ) (h : Held) (es vs p : List ℕ) (r : Signed) (sig′ : List ℕ) : Type 0 where
   pub room : r .at ≤ length sig
-  pub is : (g : Graph) → g .verts ≡ seqsIn (h .n) vs p → length (g .edges) ≡ h .m → numsIn (r .at) sig′ ≡ graphTopologySignature g
-  pub same : (g : Graph) → g .verts ≡ seqsIn (h .n) vs p → length (g .edges) ≡ h .m → r .same ≡ sameList (numsIn old sig) (graphTopologySignature g)
+  pub is : numsIn (r .at) sig′ ≡ storedSignature (graphOf h es vs p)
+  pub same : r .same ≡ sameList (numsIn old sig) (storedSignature (graphOf h es vs p))

@@ -52,7 +52,7 @@ simplify-rounds-requires c κs = (
           (at-zlc .zip-linear-chains .kept .1 .1 .1 .1 .0) (at-zlc .zip-linear-chains .kept .1 .1 .1 .1 .1 .1 .1 .1 .0),
       full-sig (start .pre) (at-build-index .build-index .ensures) (at-build-index .build-index .kept .1 .1 .1 .0)
           (at-build-index .build-index .kept .1 .1 .1 .1 .0) (at-zlc .zip-linear-chains .ensures)
-          (at-zlc .zip-linear-chains .kept .1 .1 .1 .1 .0),
+          (at-zlc .zip-linear-chains .kept .1 .1 .1 .1 .0) (at-zlc .zip-linear-chains .kept .1 .1 .1 .1 .1 .0),
     ),
   ),
 )

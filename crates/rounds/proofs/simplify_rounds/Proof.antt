@@ -141,7 +141,14 @@ replace-signature-requires c κs =
     (at-sgo .simplify-graph-once .ensures)
     (at-sgo .simplify-graph-once .kept .1 .1 .1 .1 .1 .0)
     (at-if1 .if1 .left)
-    (start .pre .1 .1 .1)
+    (omega (
+      arith,
+      start .pre .1 .1 .1,
+      at-sgo .simplify-graph-once .kept .1 .1 .1 .1 .1 .0,
+      at-loop .loop .inv .1 .1 .1 .1 .0,
+      at-sgo .simplify-graph-once .kept .1 .1 .1 .1 .1 .1 .0,
+      at-loop .loop .inv .1 .1 .1 .1 .1 .0,
+    ))
   where
     at-if1 : tie.Else1 Inv-loop μ-loop
     at-if1 = search

@@ -11,13 +11,13 @@ returns : tie.Need-returns
 returns c =
     let at-same-at : tie.After-same-at = search in
     let start : tie.Start = search in
-    put-over (start .pre .1) (at-same-at .same-at .ensures) _ refl (and-then _ (c .if1 .taken))
+    put-over (start .pre) (at-same-at .same-at .ensures) _ refl (and-then _ (c .if1 .taken))
 
 returns-2 : tie.Need-returns-2
 returns-2 c =
     let at-same-at : tie.After-same-at = search in
     let start : tie.Start = search in
-    put-over (start .pre .1) (at-same-at .same-at .ensures) _ refl (and-else _ (c .if1 .left))
+    put-over (start .pre) (at-same-at .same-at .ensures) _ refl (and-else _ (c .if1 .left))
 
 pub put-spec : {M : Type 1} → statement M
 put-spec =

@@ -2,7 +2,7 @@
 use native.Mathlib.Omega.{arith}
 use Prim.Native.Nat.{_-_}
 use lib.ListN.{length}
-use Rattle.signature.proofs.SignLaws.{SequenceBytes, bytes-start, bytes-more, bytes-at, bytes-end}
+use Rattle.signature.proofs.SignLaws.{SequenceBytes, bytes-start, bytes-more, bytes-room, bytes-end}
 use Rattle.signature.proofs.put_bytes.Statement.{statement}
 use Rattle.signature.proofs.put_bytes.Tie as tie
 
@@ -13,16 +13,11 @@ abbrev μ-loop : tie.MeasureT-loop
 μ-loop sig₀ old seq t₀ i₀ sig t i = length seq - i
 
 put-requires : tie.Need-put-requires Inv-loop μ-loop
-put-requires c κs = (
-  omega (arith, at-loop .loop .inv .len, start .pre .0),
-  omega (arith, bytes-at (at-loop .loop .inv), at-loop .loop .inv .len, start .pre .1),
-)
-  where
-    at-loop : tie.At-loop Inv-loop μ-loop
-    at-loop = search
-
-    start : tie.Start Inv-loop μ-loop
-    start = let c = at-loop in search
+put-requires c κs =
+    let at-loop-test : tie.In-loop Inv-loop μ-loop = search in
+    let at-loop : tie.At-loop Inv-loop μ-loop = search in
+    let start : tie.Start Inv-loop μ-loop = search in
+    bytes-room (at-loop .loop .inv) (at-loop-test .loop-test .taken) (start .pre)
 
 loop-again : tie.Need-loop-again Inv-loop μ-loop
 loop-again c =

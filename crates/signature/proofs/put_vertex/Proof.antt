@@ -1,11 +1,11 @@
--- `signature::put_entry` meets its contract. Assumes nothing.
+-- `signature::put_vertex` meets its contract. Assumes nothing.
 use native.Mathlib.Omega.{arith}
 use Prim.Native.Nat.{_+_, _*_, _-_}
 use mathlib.Core.Path.{ap}
-use Rattle.signature.proofs.SignLaws.{entered, part-sub}
+use Rattle.signature.proofs.SignLaws.{vertex-room, vertex-over}
 use borrow.Author.Needs.{needs}
-use Rattle.signature.proofs.put_entry.Statement.{statement}
-use Rattle.signature.proofs.put_entry.Tie as tie
+use Rattle.signature.proofs.put_vertex.Statement.{statement}
+use Rattle.signature.proofs.put_vertex.Tie as tie
 
 returns : tie.Need-returns
 returns c =
@@ -14,13 +14,31 @@ returns c =
     let at-vertex-len : tie.After-vertex-len = search in
     let at-vertex-start : tie.After-vertex-start = search in
     let start : tie.Start = search in
-    entered
-    (start .pre)
+    vertex-over
+    (start .args .vs .now)
+    (start .args .p .now)
+    (start .args .v)
     (at-vertex-start .vertex-start .ensures)
     (at-vertex-len .vertex-len .ensures)
     (at-put .put .ensures)
-    (part-sub (start .args .p .now) (at-vertex-start .vertex-start .result) (at-vertex-len .vertex-len .result)
-    (at-put-bytes .put-bytes .ensures))
+    (start .pre .1 .0)
+    (at-put-bytes .put-bytes .ensures)
+
+put-bytes-requires : tie.Need-put-bytes-requires
+put-bytes-requires c κs =
+    let at-put : tie.After-put = search in
+    let at-vertex-len : tie.After-vertex-len = search in
+    let at-vertex-start : tie.After-vertex-start = search in
+    let start : tie.Start = search in
+    vertex-room
+    (start .args .vs .now)
+    (start .args .p .now)
+    (start .args .v)
+    (at-vertex-start .vertex-start .ensures)
+    (at-vertex-len .vertex-len .ensures)
+    (at-put .put .ensures)
+    (start .pre .1 .1)
+    (at-put .put .kept .0)
 
 cast-put : tie.Need-cast-put
 cast-put c =
@@ -35,8 +53,8 @@ cast-put c =
     start : tie.Start
     start = let c = at-ssk in search
 
-pub put-entry-spec : {M : Type 1} → statement M
-put-entry-spec =
+pub put-vertex-spec : {M : Type 1} → statement M
+put-vertex-spec =
     tie.close
     (tie.spec
     (λ c κs. search needs)
@@ -47,6 +65,6 @@ put-entry-spec =
     (λ c. search needs)
     (λ c. search needs)
     (λ c. search needs)
-    (λ c κs. search needs)
+    put-bytes-requires
     (λ c. search needs)
     returns)
