@@ -94,6 +94,19 @@ def ladder(rungs):
     return graphs.ladder(random.Random("benchmark, ladder"), rungs)
 
 
+def shuffled_ladder(rungs):
+    """A ladder of A and AA under shuffled numbers: the sequences stay as they are long before the edges do."""
+    sequences, edges = ladder(rungs)
+    sequences = [s.replace(b"C", b"A") for s in sequences]
+    return graphs.renumbered(random.Random("benchmark, shuffled ladder"), sequences, edges)
+
+
+def repeating(count):
+    """The smallest graph that ends repeated, so many times side by side."""
+    at = range(0, 3 * count, 3)
+    return [b"G", b"A", b"CA"] * count, [(v + i, v, 1, 0) for v in at for i in (1, 2)]
+
+
 def sequence_records():
     yield SIMPLIFY, 0, "document 01's case 1, 4 vertices", sequence_record(examples.NINE[0])
     yield SIMPLIFY, 0, "chain of 2,048 vertices", sequence_record(limits.long_chain(sgr1.MAX_VERTICES))
@@ -108,6 +121,8 @@ def sequence_records():
     yield SIMPLIFY, 0, "nest of 680 diamonds", sequence_record(nest(680))
     yield SIMPLIFY, 0, "ladder of 102 rungs", sequence_record(ladder(102))
     yield SIMPLIFY, SLOW, "ladder of 1,023 rungs", sequence_record(ladder(1023))
+    yield SIMPLIFY, 0, "682 graphs that repeat, side by side", sequence_record(repeating(682))
+    yield SIMPLIFY, 0, "ladder of 98 rungs, shuffled", sequence_record(shuffled_ladder(98))
 
 
 def main():

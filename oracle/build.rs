@@ -1,10 +1,24 @@
-//! Writes the list of gatk-rs modules to compile where they stand, and links our own library's calls.
+//! Writes the list of gatk-rs modules to compile where they stand, the one of them that is compiled with a change too, and
+//! links our own library's calls.
 use std::env;
 use std::fs;
 use std::path::{Path, PathBuf};
 
-/// The files of gatk-rs that the oracle runs. They are compiled unchanged.
-const MODULES: [&str; 4] = ["assembly", "bio_ids", "seq_graph", "seq_graph_simplify"];
+/// The files of gatk-rs that the oracle runs as they stand.
+const MODULES: [&str; 3] = ["assembly", "bio_ids", "seq_graph"];
+/// The file with the signature. It is compiled twice: as it stands, under `UNCHANGED`, and under its own name with the edges in
+/// the signature, so that the others call this one.
+const SIMPLIFY: &str = "seq_graph_simplify";
+const UNCHANGED: &str = "unchanged_seq_graph_simplify";
+/// Where the signature of the Rust ends, and what comes behind it.
+const SIGNATURE_END: &str = "        out.extend(graph.vertex_sequence(v));\n    }\n";
+const SIGNATURE_EDGES: &str = "    for e in graph.edges() {
+        out.extend_from_slice(&(e.from as u32).to_le_bytes());
+        out.extend_from_slice(&(e.to as u32).to_le_bytes());
+        out.extend_from_slice(&e.support.to_le_bytes());
+        out.push(e.is_ref as u8);
+    }
+";
 const DEFAULT_SRC: &str = "../shared/docs/src/gatk-haplotypecaller/src";
 const CALLS: [&str; 7] = [
     "sg_vertex_sequence",
@@ -27,16 +41,36 @@ fn main() {
 fn write_modules(root: &Path) {
     println!("cargo:rerun-if-env-changed=GATK_RS_SRC");
     let src = root.join(env::var("GATK_RS_SRC").unwrap_or(DEFAULT_SRC.to_string()));
+    let out = PathBuf::from(env::var("OUT_DIR").unwrap());
     let mut text = String::new();
     for name in MODULES {
-        let file = src.join(format!("{name}.rs"));
-        assert!(file.is_file(), "no {}: set GATK_RS_SRC", file.display());
-        println!("cargo:rerun-if-changed={}", file.display());
-        text += &format!("#[allow(warnings)]\n#[path = {file:?}]\npub mod {name};\n");
+        text += &module(name, &source(&src, name));
     }
+    let file = source(&src, SIMPLIFY);
+    text += &module(UNCHANGED, &file);
+    text += &module(SIMPLIFY, &with_edges(&file, &out));
     text += &prefix_bytes(&src.join("hc_allele_mapping.rs"));
-    let out = Path::new(&env::var("OUT_DIR").unwrap()).join("gatk_rs.rs");
-    fs::write(out, text).unwrap();
+    fs::write(out.join("gatk_rs.rs"), text).unwrap();
+}
+
+fn source(src: &Path, name: &str) -> PathBuf {
+    let file = src.join(format!("{name}.rs"));
+    assert!(file.is_file(), "no {}: set GATK_RS_SRC", file.display());
+    println!("cargo:rerun-if-changed={}", file.display());
+    file
+}
+
+fn module(name: &str, file: &Path) -> String {
+    format!("#[allow(warnings)]\n#[path = {file:?}]\npub mod {name};\n")
+}
+
+/// The file with each edge in the signature, by one replacement, whose place must be there exactly once.
+fn with_edges(file: &Path, out: &Path) -> PathBuf {
+    let text = fs::read_to_string(file).unwrap();
+    assert!(text.matches(SIGNATURE_END).count() == 1, "{}: not one end of the signature", file.display());
+    let changed = out.join(format!("{SIMPLIFY}.rs"));
+    fs::write(&changed, text.replace(SIGNATURE_END, &format!("{SIGNATURE_END}{SIGNATURE_EDGES}"))).unwrap();
+    changed
 }
 
 /// The text of `prefix_bytes` alone: the rest of its file needs modules that are not there.

@@ -90,6 +90,26 @@ CLEANED = [
 
 SEQUENCE_GRAPHS = NINE + REWRITES + HIGH + CLEANED
 
+
+def of_support_1(text):
+    return [(*map(int, pair.split(">")), 1, 0) for pair in text.split()]
+
+
+# Ladders whose edges settle later than their sequences, which is all that the Rust's own signature has: the smallest found of which
+# the Rust ends a round earlier, and the smallest found of which it then has another record.
+SETTLING = [
+    (
+        [b"", *[b"AA"] * 9, b"", *[b"A"] * 9],
+        of_support_1("0>1 1>2 11>2 2>3 12>3 3>4 13>4 4>5 14>5 5>6 15>6 6>7 16>7 9>8 18>8 7>9 17>9 8>10 19>10 0>18"),
+    ),
+    (
+        [b"", *[b"AA"] * 10, b"", *[b"A"] * 10],
+        of_support_1(
+            "0>1 1>2 12>2 2>3 13>3 3>4 14>4 4>5 15>5 5>6 16>6 6>7 17>7 7>8 18>8 10>9 20>9 8>10 19>10 9>11 21>11 0>17"
+        ),
+    ),
+]
+
 KMER_GRAPHS = [
     (2, ([], [])),
     (2, ([b"AC"], [])),

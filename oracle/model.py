@@ -1,4 +1,4 @@
-"""The calls of the library as document 01 states them, by a model of its own.
+"""The calls of the library as documents 01 and 02 state them, by a model of its own.
 
 A graph's vertices and edges are kept in dictionaries under keys that only grow, so that a vertex's number
 is its rank among the keys and nothing is ever renumbered. `answer` is the whole of a call.
@@ -102,14 +102,16 @@ class Graph:
     def reference_sink(self):
         return next((v for v in self.seq if self.is_ref_sink(v)), None)
 
+    def edge_list(self):
+        number = {v: i for i, v in enumerate(self.seq)}
+        return [(number[e.source], number[e.target], e.support, e.is_ref) for e in self.edge.values()]
+
     def signature(self):
-        return len(self.edge), list(self.seq.values())
+        return list(self.seq.values()), self.edge_list()
 
 
 def encode_graph(g, status):
-    number = {v: i for i, v in enumerate(g.seq)}
-    edges = [(number[e.source], number[e.target], e.support, e.is_ref) for e in g.edge.values()]
-    return encode(SEQUENCE, status, g.k, list(g.seq.values()), edges)
+    return encode(SEQUENCE, status, g.k, list(g.seq.values()), g.edge_list())
 
 
 # Zip

@@ -9,6 +9,8 @@ from sgr1 import CLEANUP_SEQ_GRAPH, SIMPLIFY_GRAPH, VERTEX_SEQUENCE
 
 HERE = os.path.dirname(os.path.abspath(__file__))
 ANSWERED, NO_REFERENCE_PATH, NO_ROOM = 0, 10, 11
+# The driver's number for simplification by the Rust as it stands.
+UNCHANGED_SIMPLIFY_GRAPH = 255
 
 
 def target_folder():

@@ -102,6 +102,8 @@ def emit_by_hand(rng):
         emit("by hand", cases.cases_of_graph(rng, graph, all_rooms=True))
     for k, graph in examples.KMER_GRAPHS:
         emit("by hand", cases.cases_of_kmers(rng, k, graph, all_rooms=True))
+    for graph in examples.SETTLING:
+        emit("settling late", cases.cases_of_graph(rng, graph, all_rooms=True))
 
 
 def emit_limits(rng):

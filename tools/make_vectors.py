@@ -153,9 +153,15 @@ def at_limits(rng, call):
             yield from first_that_fits(cases.cases_of(rng, call, record, all_rooms=True))
 
 
+def settling(rng, call):
+    if call in (sgr1.SIMPLIFY_GRAPH, sgr1.CLEANUP_SEQ_GRAPH):
+        for graph in examples.SETTLING:
+            yield from cases.cases_of_graph(rng, graph, [call])
+
+
 def stored(call):
     rng = random.Random("stored list, call %d" % call)
-    for part in (by_hand, by_chance, faulty, at_limits):
+    for part in (by_hand, by_chance, faulty, at_limits, settling):
         yield from part(rng, call)
 
 

@@ -15,6 +15,7 @@ ROOT = os.path.dirname(os.path.dirname(os.path.abspath(__file__)))
 sys.path.insert(0, os.path.join(ROOT, "oracle"))
 sys.dont_write_bytecode = True
 
+import examples  # noqa: E402
 import limits  # noqa: E402
 import model  # noqa: E402
 import sgr1  # noqa: E402
@@ -56,6 +57,10 @@ INPUTS = [
 ]
 
 
+# Of each of examples.SETTLING: rounds of the Rust as it stands, rounds here, and whether the record is the same.
+SETTLING = [(8, 9, True), (8, 10, False)]
+
+
 def record_of(x):
     return sgr1.encode(sgr1.KMER if x.call == CONVERT else sgr1.SEQUENCE, 0, x.k, *x.graph)
 
@@ -73,18 +78,35 @@ def show_graph(data):
     return "; ".join([" ".join(sequences), *edges]) if edges else " ".join(sequences) + ";"
 
 
+def ask(driver, call, record, start=0, numbers=()):
+    body = struct.pack("<4I", call, start, len(record), len(numbers)) + record
+    body += struct.pack("<%dI" % len(numbers), *numbers)
+    return subprocess.run([driver], input=struct.pack("<I", len(body)) + body, capture_output=True, timeout=SECONDS)
+
+
 def ask_rust(driver, x):
-    record = record_of(x)
-    body = struct.pack("<4I", x.call, x.start, len(record), len(x.numbers)) + record
-    body += struct.pack("<%dI" % len(x.numbers), *x.numbers)
     try:
-        done = subprocess.run([driver], input=struct.pack("<I", len(body)) + body, capture_output=True, timeout=SECONDS)
+        done = ask(driver, x.call, record_of(x), x.start, x.numbers)
     except subprocess.TimeoutExpired:
         return "does not end"
     if done.returncode:
         return "panics" if done.returncode == PANIC else "status %d" % done.returncode
     made = done.stdout[20:]
     return show_graph(made) if made[:4] == b"SGR1" else made.decode()
+
+
+def show_settling(driver, graph, expected):
+    """Simplification of a graph of which the Rust ends before the edges settle; whether all is as written."""
+    record = sgr1.encode(sgr1.SEQUENCE, 0, 10, *graph)
+    made = ask(driver, rust.UNCHANGED_SIMPLIFY_GRAPH, record).stdout
+    rounds, end = struct.unpack_from("<2I", made, 12)
+    here = model.answer(SIMPLIFY, record, 0, (), 10**6, model.Tally(0, 0, 0))
+    same = made[20:] == here.output
+    as_written = (rounds, here.fields[1], same) == expected and end == here.fields[2] == model.REPEATED
+    note = "" if as_written else "  NOT AS WRITTEN"
+    told = "%d rounds, the Rust %d, %s" % (here.fields[1], rounds, "the same record" if same else "another record")
+    print("%-28s call %d  repeated: %s%s" % ("settling, %d vertices" % len(graph[0]), SIMPLIFY, told, note))
+    return as_written
 
 
 def main():
@@ -98,6 +120,8 @@ def main():
         wrong += not as_written
         note = "" if as_written else "  NOT AS WRITTEN"
         print("%-28s call %d  refused %2d  the Rust: %s%s" % (x.name, x.call, number, got, note))
+    for graph, expected in zip(examples.SETTLING, SETTLING, strict=True):
+        wrong += not show_settling(driver, graph, expected)
     sys.exit(1 if wrong else 0)
 
 

@@ -1,7 +1,8 @@
 //! What the Rust makes of a record that the model accepts, for each call that has a counterpart.
 use crate::record::{assembly_graph, seq_graph, write};
-use crate::seq_graph::{SeqGraph, SeqGraphCleanupStatus};
+use crate::seq_graph::{SeqEdge, SeqGraph, SeqGraphCleanupStatus};
 use crate::seq_graph_simplify::{simplify_graph_full, traced_simplify_graph_full};
+use crate::unchanged_seq_graph_simplify::traced_simplify_graph_full as unchanged_traced_simplify_graph_full;
 
 pub const VERTEX_SEQUENCE: u32 = 0;
 pub const FROM_ASSEMBLY_GRAPH: u32 = 1;
@@ -10,13 +11,15 @@ pub const CLEANUP_SEQ_GRAPH: u32 = 3;
 pub const CLEAN_NON_REF_PATHS: u32 = 4;
 pub const REFERENCE_PATH_BYTES: u32 = 5;
 pub const PATH_BASES_BYTES: u32 = 6;
+/// No call of the library: simplification by the Rust as it stands, without the edges in the signature.
+pub const UNCHANGED_SIMPLIFY_GRAPH: u32 = 255;
 
 pub const QUIET: u32 = 1;
 pub const REPEATED: u32 = 2;
 pub const FULL: u32 = 3;
 
 /// `bytes` is none where the Rust gives None. Fields that a call does not have are 0.
-#[derive(Default, Clone)]
+#[derive(Default, Clone, PartialEq)]
 pub struct Made {
     pub bytes: Option<Vec<u8>>,
     pub status: u32,
@@ -46,6 +49,7 @@ pub fn converted(kmer_record: &[u8]) -> Made {
 pub fn run_on(call: u32, graph: &SeqGraph, start: u32, list: &[u32]) -> Made {
     match call {
         SIMPLIFY_GRAPH => simplified(graph.clone()),
+        UNCHANGED_SIMPLIFY_GRAPH => unchanged_simplified(graph.clone()),
         CLEANUP_SEQ_GRAPH => cleaned(graph.clone()),
         CLEAN_NON_REF_PATHS => {
             let mut graph = graph.clone();
@@ -69,26 +73,45 @@ fn cleaned(mut graph: SeqGraph) -> Made {
     Made { status, ..Made::of(write(&graph, status as u8)) }
 }
 
-/// Rounds and end come from the Rust's own snapshots of a second run on a copy.
+/// Rounds and end come from the Rust's own snapshots of a second run on a copy. Where the Rust as it stands does not end
+/// repeated, the edges in the signature must make no difference.
 fn simplified(mut graph: SeqGraph) -> Made {
-    let mut copy = graph.clone();
+    let (mut copy, unchanged) = (graph.clone(), graph.clone());
     simplify_graph_full(&mut graph);
-    let mut watch = Watch::default();
+    let mut watch = Watch { edges_count: true, ..Watch::default() };
     traced_simplify_graph_full(&mut copy, |stage, g| watch.see(stage, g));
     let bytes = write(&graph, 0);
     assert!(bytes == write(&copy, 0), "the traced run made another graph");
-    Made { rounds: watch.rounds, end: watch.end(), ..Made::of(bytes) }
+    let made = Made { rounds: watch.rounds, end: watch.end(), ..Made::of(bytes) };
+    let before = unchanged_simplified(unchanged);
+    assert!(before.end == REPEATED || before == made, "edges in the signature changed what did not repeat");
+    made
+}
+
+fn unchanged_simplified(mut graph: SeqGraph) -> Made {
+    let mut watch = Watch::default();
+    unchanged_traced_simplify_graph_full(&mut graph, |stage, g| watch.see(stage, g));
+    Made { rounds: watch.rounds, end: watch.end(), ..Made::of(write(&graph, 0)) }
+}
+
+#[derive(Default, PartialEq)]
+struct Signature {
+    sequences: Vec<Vec<u8>>,
+    edge_count: usize,
+    edges: Vec<SeqEdge>,
 }
 
 /// Follows the stages of the rounds. A stage that worked has changed the number of vertices or of
 /// bytes: diamonds and tails take bytes away, splits add vertices, merges and zips take them away.
 #[derive(Default)]
 struct Watch {
+    /// Whether a signature has the edges, or only their number.
+    edges_count: bool,
     size: (usize, usize),
     working: bool,
     worked: bool,
     rounds: u32,
-    signature: Vec<Vec<u8>>,
+    signature: Signature,
     same: bool,
 }
 
@@ -106,8 +129,9 @@ impl Watch {
     }
 
     fn close_round(&mut self, graph: &SeqGraph) {
-        let mut signature: Vec<Vec<u8>> = graph.vertices().iter().map(|v| v.sequence.clone()).collect();
-        signature.push((graph.edge_count() as u32).to_le_bytes().to_vec());
+        let sequences = graph.vertices().iter().map(|v| v.sequence.clone()).collect();
+        let edges = if self.edges_count { graph.edges().to_vec() } else { vec![] };
+        let signature = Signature { sequences, edge_count: graph.edge_count(), edges };
         self.same = signature == self.signature;
         self.signature = signature;
         self.worked = std::mem::take(&mut self.working);

@@ -104,9 +104,12 @@ fn put_edge(sig: &mut [u32], old: usize, s: Signed, es: &[u32], i: usize) -> Sig
     requires { ⌜ (4 * i + 4 ≤ length (now es)) × ((2 * getD (now es) (4 * i + 1) 0 + 1 < 4294967296) × Writable (now sig) old s 3) ⌝ }
     ensures { λ r. ⌜ WrittenOver (now (sig .entry)) old s (storedEdge (edgeIn (now (es .entry)) i)) r (now (sig .exit)) ⌝ }
 {
-    let from = put(sig, old, s, store::edge_from(es, i));
-    let end = put(sig, old, from, end_and_flag(es, i));
-    put(sig, old, end, store::edge_support(es, i))
+    let from = store::edge_from(es, i);
+    let end = end_and_flag(es, i);
+    let support = store::edge_support(es, i);
+    let a = put(sig, old, s, from);
+    let b = put(sig, old, a, end);
+    put(sig, old, b, support)
 }
 
 // Writes the first m edges.

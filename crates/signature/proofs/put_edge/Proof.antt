@@ -28,10 +28,10 @@ same-length c =
 returns : tie.Need-returns
 returns c =
     let at-put3 : tie.After-put3 = search in
-    let at-edge-support : tie.After-edge-support = search in
     let at-put2 : tie.After-put2 = search in
-    let at-end-and-flag : tie.After-end-and-flag = search in
     let at-put : tie.After-put = search in
+    let at-edge-support : tie.After-edge-support = search in
+    let at-end-and-flag : tie.After-end-and-flag = search in
     let at-edge-from : tie.After-edge-from = search in
     let start : tie.Start = search in
     edge-over
@@ -49,10 +49,10 @@ put-edge-spec =
     tie.close
     (tie.spec
     (λ c κs. let start : tie.Start = search in start .pre .0)
-    (λ c κs. let start : tie.Start = search in room-less (start .pre .1 .1) (omega arith))
     (λ c κs. let start : tie.Start = search in (start .pre .0, start .pre .1 .0))
-    put-requires-2
     (λ c κs. let start : tie.Start = search in start .pre .0)
+    (λ c κs. let start : tie.Start = search in room-less (start .pre .1 .1) (omega arith))
+    put-requires-2
     put-requires-3
     same-length
     returns)
