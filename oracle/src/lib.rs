@@ -1,4 +1,4 @@
-//! gatk-rs as the oracle: its own modules, compiled where they stand, behind the calls of the library.
+//! gatk-rs as the oracle: its own modules, compiled where they stand, and one with a change (build.rs), behind the calls of the library.
 
 // The files of gatk-rs name these two crates; what they use of them is in `supplied`.
 extern crate self as gatk_common;

@@ -59,6 +59,11 @@ pub not-not : (b : Bool) → b ≡ not (not b)
 not-not true = refl
 not-not false = refl
 
+pub bit-small : (b : Bool) → bit b ≤ 1
+unfolding bit
+bit-small true = omega arith
+bit-small false = omega arith
+
 pub bit-yes : (b : Bool) → b ≡ true → bit b ≡ 1
 unfolding bit
 bit-yes b t = rw t

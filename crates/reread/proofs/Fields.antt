@@ -2,14 +2,15 @@
 use Prim.Native.Nat.{ℕ, _+_, _*_, _≤_, _<_}
 use native.Mathlib.Omega.{arith}
 use mathlib.Core.Path.{_≡_, refl, sym, ap, _∙_}
-use mathlib.Core.Bool.{Bool, true, false}
+use mathlib.Core.Bool.{false}
 use mathlib.Core.List.{List, [], _∷_, _++_, map, append-assoc}
 use lib.ListN.{length, getD, take, length-append}
-use Rattle.defs.specs.Lists.{bit, concat, tab, sum}
+use Rattle.defs.specs.Lists.{concat, tab, sum}
 use Rattle.defs.specs.SeqGraph.{Edge, Graph, nodeCount}
 use Rattle.defs.specs.Simplify.{sequenceBytes}
 use Rattle.defs.specs.Record.{RecordKind, recordKindNumber, mark, kindOf, statusOf, verticesOf, bytesOf, le16, le32, u32At, lengthsAt}
 use Rattle.defs.specs.Record.{edgesAt, bytesAt, wholeLength, encodeEdge, encodeHeader, encode, lengthAt, edgeStart, flagAt}
+use Rattle.laws.proofs.ListLaws.{bit-small}
 use Rattle.tabs.proofs.Tabs.{tab-ext, tab-getD}
 use Rattle.tabs.proofs.SumTabs.{map-tab, bytes-sum}
 use Rattle.le.proofs.LeLaws.{length-le16, value-of-digits}
@@ -57,11 +58,7 @@ module _ (kind status k v e b : ℕ) (rest : List ℕ) where
 
 edge-flag : (e : Edge) → getD (encodeEdge e) 8 0 ≤ 1
 unfolding encodeEdge le16 le32
-edge-flag e = either (e .isRef)
-  where
-    either : (b : Bool) → bit b ≤ 1
-    either true = unfold bit in (omega arith)
-    either false = unfold bit in (omega arith)
+edge-flag e = bit-small (e .isRef)
 
 -- lengths
 length-concat : (vs : List (List ℕ)) → length (concat vs) ≡ sequenceBytes vs

@@ -1,7 +1,7 @@
 -- The rounds. Assumes nothing.
 use mathlib.Core.Path.{_≡_, refl, sym, ap, _∙_}
-use mathlib.Core.Bool.{Bool, true, false}
-use mathlib.Core.List.{List, [], _∷_}
+use mathlib.Core.Bool.{true, false}
+use mathlib.Core.List.{List, []}
 use Prim.Native.Nat.{ℕ, zero, suc, _+_, _*_, _-_, _≤_, _<_}
 use native.Mathlib.Nat.{mul-le-mul-right, suc-mul}
 use native.Mathlib.Numerals.{add-one}
@@ -16,14 +16,13 @@ use Rattle.defs.specs.Simplify as S
 use Rattle.defs.specs.Simplify.{simplifyGraphOnce, graphTopologySignature, roundsFrom, simplified, endNumber, quiet, repeated, full}
 use Rattle.tabs.proofs.Tabs.{tab-zero}
 use Rattle.store.specs.Store.{numsIn}
-use Rattle.memory.specs.Memory.{graphOf, workOf, vertexRoom, signatureRoom, Holds, Ready, Countable}
-use Rattle.memory.specs.declared.Held.{Held}
+use Rattle.memory.specs.Memory.{graphOf, workOf, vertexRoom, signatureRoom, Ready, Countable}
 use Rattle.memory.specs.declared.Work.{Work}
 use Rattle.memory.proofs.RoomLaws.{fit-vertices, fit-edges, fit-bytes, held-vertices, held-edges, held-ends, held-pool, holds-kept}
 use Rattle.signature.specs.Signature.{storedSignature, SignatureWritable, Signature}
 use Rattle.signature.proofs.StoredLaws.{stored-same, none-stored, stored-long}
 use Rattle.signature.specs.declared.Signed.{Signed}
-use Rattle.rounds.specs.Rounds.{Once, SimplifiedTo, Whole}
+use Rattle.rounds.specs.Rounds.{Once, Whole}
 use Rattle.rounds.specs.declared.Simplified.{Simplified}
 
 -- ---- the definition, case by case

@@ -1,22 +1,21 @@
 -- Writing over, and the signature. Assumes nothing.
 use mathlib.Core.Path.{_≡_, refl, sym, ap, _∙_, subst}
 use mathlib.Core.Bool.{Bool, true, false, _&&_}
-use mathlib.Core.List.{List, [], _∷_, _++_, map, append-assoc, append-nil}
+use mathlib.Core.List.{List, [], _∷_, _++_}
 use Prim.Native.Nat.{ℕ, zero, suc, _+_, _*_, _-_, _≤_, _<_}
-use native.Mathlib.Nat.{add-zero, zero-add, add-suc}
+use native.Mathlib.Nat.{add-zero, zero-add}
 use native.Mathlib.Numerals.{add-one}
 use native.Mathlib.Omega.{arith}
-use native.Mathlib.Decide.{ℕ-discrete}
-use lib.ListN.{length, getD, set, length-set, take, drop, length-append, length-drop, List·getD-append}
+use lib.ListN.{length, getD, set, take, drop, length-append, List·getD-append}
 use lib.Seq.{getD-set-same, getD-set-other, ext-getD, take-suc, getD-append-add, length-take-le, take-all}
 use lib.Dec.{eqb, ltb}
-use borrow.Author.Tests.{lt-ltb, le-ltb, eq-eqb, ne-eqb, eqb-true, eqb-false, ltb-true, ltb-false}
+use borrow.Author.Tests.{lt-ltb, eq-eqb, ne-eqb, eqb-true}
 use Rattle.defs.specs.Lists.{bit, sameList, sum, tab, concat}
-use Rattle.defs.specs.SeqGraph.{Edge, Graph, nodeCount}
+use Rattle.defs.specs.SeqGraph.{nodeCount}
 use Rattle.laws.proofs.Walks.{byTest}
 use Rattle.laws.proofs.ListLaws.{clash, byOrder, and-split, sameList-eq, sameList-refl}
-use Rattle.tabs.proofs.Tabs.{length-tab, getD-tab, tab-snoc, tab-zero}
-use Rattle.tabs.proofs.SumTabs.{sum-none, sum-more, sum-below, concat-snoc, map-tab}
+use Rattle.tabs.proofs.Tabs.{length-tab, getD-tab}
+use Rattle.tabs.proofs.SumTabs.{sum-below, map-tab, fields-none, fields-more, fields-length}
 use Rattle.store.specs.Store.{isSet, part, numsIn, edgeIn, seqIn}
 use Rattle.store.proofs.VertexLaws.{part-long}
 use Rattle.memory.specs.Memory.{graphOf}
@@ -48,12 +47,12 @@ and-more : (a b c d : Bool) → d ≡ (a && b) && c → d ≡ a && (b && c)
 and-more true b c d e = e
 and-more false b c d e = e
 
+and-all : (b : Bool) → b ≡ b && true
+and-all true = refl
+and-all false = refl
+
 pub over-none : (l : List ℕ) (old : ℕ) (s : Signed) → WrittenOver l old s [] s l
-over-none l old s = record { at = omega arith; same = and-true (s .same); is = λ i h. absurd (omega arith); before = λ k h. refl; behind = λ k h. refl }
-  where
-    and-true : (b : Bool) → b ≡ b && true
-    and-true true = refl
-    and-true false = refl
+over-none l old s = record { at = omega arith; same = and-all (s .same); is = λ i h. absurd (omega arith); before = λ k h. refl; behind = λ k h. refl }
 
 pub over-then : {l l₁ l₂ : List ℕ} {old : ℕ} {s r₁ r₂ : Signed} {xs ys : List ℕ} → WrittenOver l old s xs r₁ l₁ → WrittenOver l₁ old r₁ ys r₂ l₂
     → WrittenOver l old s (xs ++ ys) r₂ l₂
@@ -78,15 +77,11 @@ over-then {l} {l₁} {l₂} {old} {s} {r₁} {r₂} {xs} {ys} A B = record {
 
 -- ---- one number
 
-here-is : (b : Bool) → b ≡ b && true
-here-is true = refl
-here-is false = refl
-
 pub put-over : {l : List ℕ} {old : ℕ} {s : Signed} {x : ℕ} {here : Bool} → Writable l old s 1 → here ≡ sameAt l old (s .at) x → (r : Signed)
     → r .at ≡ s .at + 1 → r .same ≡ s .same && here → WrittenOver l old s (x ∷ []) r (set l (s .at) x)
 put-over {l} {old} {s} {x} {here} W e r a b = record {
   at = a;
-  same = b ∙ ap (λ (c : Bool). s .same && c) (e ∙ here-is _);
+  same = b ∙ ap (λ (c : Bool). s .same && c) (e ∙ and-all _);
   is = λ i c. let q : s .at + i ≡ s .at = omega arith in ap (λ (k : ℕ). getD (set l (s .at) x) k 0) q ∙ getD-set-same l (s .at) x 0 inside ∙ first i c;
   before = λ k c. getD-set-other l (s .at) k x 0 (λ z. omega arith);
   behind = λ k c. getD-set-other l (s .at) k x 0 (λ z. omega arith);
@@ -138,14 +133,6 @@ module _ {l₀ : List ℕ} {old : ℕ} {s : Signed} {seq : List ℕ} where
 
 -- ---- vertices, edges: items by number
 
-items-long : (n : ℕ) (item : ℕ → List ℕ) → length (concat (tab n item)) ≡ sum (tab n (λ (i : ℕ). length (item i)))
-unfolding concat sum
-items-long n item = longs (tab n item) ∙ ap sum (map-tab length n item)
-  where
-    longs : (l : List (List ℕ)) → length (concat l) ≡ sum (map length l)
-    longs [] = refl
-    longs (x ∷ xs) = length-append x (concat xs) ∙ ap (λ (k : ℕ). length x + k) (longs xs)
-
 pub record Items (n : ℕ) (item : ℕ → List ℕ) (l₀ : List ℕ) (old : ℕ) (s₀ : Signed) (l : List ℕ) (s : Signed) (i : ℕ) : Type 0 where
   pub high : i ≤ n
   pub len : length l ≡ length l₀
@@ -153,25 +140,24 @@ pub record Items (n : ℕ) (item : ℕ → List ℕ) (l₀ : List ℕ) (old : �
 
 module _ {n : ℕ} {item : ℕ → List ℕ} {l₀ : List ℕ} {old : ℕ} {s₀ : Signed} where
   pub items-start : Items n item l₀ old s₀ l₀ s₀ 0
-  unfolding concat
-  items-start = record { high = omega arith; len = refl; over = subst (λ (x : List ℕ). WrittenOver l₀ old s₀ x s₀ l₀) (sym none) (over-none l₀ old s₀) }
-    where
-      none : concat (tab 0 item) ≡ []
-      none = ap concat (tab-zero item)
+  items-start = record { high = omega arith; len = refl; over = subst (λ (x : List ℕ). WrittenOver l₀ old s₀ x s₀ l₀) (sym (fields-none item)) (over-none l₀ old s₀) }
 
   pub items-step : {l l′ : List ℕ} {s r : Signed} {i : ℕ} → Items n item l₀ old s₀ l s i → i < n → WrittenOver l old s (item i) r l′
       → length l′ ≡ length l → Items n item l₀ old s₀ l′ r (i + 1)
   items-step {l} {l′} {s} {r} {i} E b D q = record {
     high = omega arith;
     len = q ∙ E .len;
-    over = subst (λ (x : List ℕ). WrittenOver l₀ old s₀ x r l′) (sym (ap concat (tab-snoc i item) ∙ concat-snoc (tab i item) (item i))) (over-then (E .over) D);
+    over = subst (λ (x : List ℕ). WrittenOver l₀ old s₀ x r l′) (sym (fields-more item i)) (over-then (E .over) D);
   }
 
   -- there is room for the next item
   pub items-room : {l : List ℕ} {s : Signed} {i : ℕ} → Items n item l₀ old s₀ l s i → i < n → Writable l₀ old s₀ (length (concat (tab n item)))
       → Writable l old s (length (item i))
   items-room {l} {s} {i} E b W = room-behind W (E .over) (E .len)
-      (omega (arith, items-long i item, items-long n item, sum-below n i (λ (j : ℕ). length (item j)) b))
+      (omega (arith, long i, long n, sum-below n i (λ (j : ℕ). length (item j)) b))
+    where
+      long : (j : ℕ) → length (concat (tab j item)) ≡ sum (tab j (λ (k : ℕ). length (item k)))
+      long j = fields-length item (λ (k : ℕ). length (item k)) j (λ k h. refl)
 
   pub items-end : {l : List ℕ} {s : Signed} {i : ℕ} → Items n item l₀ old s₀ l s i → n ≤ i → WrittenOver l₀ old s₀ (concat (tab n item)) s l
   items-end {l} {s} {i} E h = subst (λ (x : ℕ). WrittenOver l₀ old s₀ (concat (tab x item)) s l) all (E .over)

@@ -2,14 +2,14 @@
 use mathlib.Core.Path.{_≡_, refl, sym, ap, _∙_}
 use mathlib.Core.Bool.{Bool, true, false}
 use mathlib.Core.List.{List, [], _∷_, _++_, map, head-eq-of-cons-eq, tail-eq-of-cons-eq}
-use Prim.Native.Nat.{ℕ, zero, suc, _+_, _*_, _≤_, _<_}
+use Prim.Native.Nat.{ℕ, _+_, _*_}
 use native.Mathlib.Omega.{arith}
 use lib.ListN.{length, length-append}
 use Rattle.defs.specs.Lists.{bit, concat, sameList}
 use Rattle.defs.specs.SeqGraph.{Edge, Graph, nodeCount}
 use Rattle.defs.specs.Simplify.{graphTopologySignature, sequenceBytes}
 use Rattle.laws.proofs.Walks.{byTest}
-use Rattle.laws.proofs.ListLaws.{clash, sameList-eq, sameList-refl}
+use Rattle.laws.proofs.ListLaws.{clash, bit-small, sameList-eq, sameList-refl}
 use Rattle.signature.specs.Signature.{storedVertex, storedEdge, storedSignature}
 
 -- the four numbers of an edge in the definition
@@ -34,11 +34,6 @@ bit-is true true q = refl
 bit-is false false q = refl
 bit-is true false q = absurd (omega arith)
 bit-is false true q = absurd (omega arith)
-
-bit-small : (b : Bool) → bit b ≤ 1
-unfolding bit
-bit-small true = omega arith
-bit-small false = omega arith
 
 numbers-determine : Determines edgeNumbers
 numbers-determine = record {

@@ -5,7 +5,7 @@ use Prim.Native.Nat.{ℕ, zero, suc, _+_, _≤_, _<_}
 use native.Mathlib.Numerals.{add-one}
 use native.Mathlib.Omega.{arith}
 use native.Mathlib.Decide.{ℕ-discrete}
-use lib.ListN.{length}
+use lib.ListN.{length, length-append}
 use Rattle.defs.specs.Lists.{tab, tabFrom, sum, concat}
 use Rattle.defs.specs.Simplify.{sequenceBytes}
 use Rattle.laws.proofs.Counts.{total}
@@ -64,3 +64,23 @@ module _ {A B : Type 0} (f : A → B) where
 
   pub map-tab : (n : ℕ) (g : ℕ → A) → map f (tab n g) ≡ tab n (λ (i : ℕ). f (g i))
   map-tab n g = map-tab-from 0 n g
+
+-- lists by index, one after the other
+module _ (f : ℕ → List ℕ) where
+  abbrev pub fields : ℕ → List ℕ
+  fields i = concat (tab i f)
+
+  pub fields-none : concat (tab 0 f) ≡ []
+  unfolding concat tabFrom
+  fields-none = refl
+
+  pub fields-more : (i : ℕ) → concat (tab (i + 1) f) ≡ concat (tab i f) ++ f i
+  fields-more i = ap concat (tab-snoc i f) ∙ concat-snoc (tab i f) (f i)
+
+  pub fields-length : (g : ℕ → ℕ) (n : ℕ) → ((i : ℕ) → i < n → length (f i) ≡ g i) → length (concat (tab n f)) ≡ sum (tab n g)
+  fields-length g zero h = ap length fields-none ∙ sym (sum-none g)
+  fields-length g (suc n) h =
+      ap (λ (x : ℕ). length (concat (tab x f))) (sym (add-one n))
+      ∙ ap length (fields-more n)
+      ∙ length-append (concat (tab n f)) (f n)
+      ∙ omega (arith, fields-length g n (λ i b. h i (omega arith)), h n (omega arith), sum-more n g, ap (λ (x : ℕ). sum (tab x g)) (sym (add-one n)))

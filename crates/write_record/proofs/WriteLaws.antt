@@ -12,8 +12,8 @@ use Rattle.defs.specs.Lists.{bit, concat, tab, tabFrom, sum}
 use Rattle.defs.specs.SeqGraph.{Edge, nodeCount}
 use Rattle.defs.specs.Simplify.{sequenceBytes}
 use Rattle.defs.specs.Record.{mark, le16, le32, edgesAt, bytesAt, wholeLength, encodeEdge, encodeHeader, sequenceGraph, recordKindNumber, encode}
-use Rattle.tabs.proofs.Tabs.{tab-snoc, tab-ext, length-tab}
-use Rattle.tabs.proofs.SumTabs.{sum-none, sum-more, concat-snoc, map-tab}
+use Rattle.tabs.proofs.Tabs.{tab-ext, length-tab}
+use Rattle.tabs.proofs.SumTabs.{sum-none, sum-more, map-tab, fields-length}
 use Rattle.store.specs.Store.{isSet, edge, edgeIn, part, seqIn, graphIn, Within}
 use Rattle.store.proofs.VertexLaws.{part-long}
 use Rattle.pool.specs.Pool.{bytesIn}
@@ -106,25 +106,6 @@ module _ {n : ℕ} {w : ℕ → List ℕ} {l : List ℕ} {at : ℕ} where
   growing-end {i = i} G h = let q : i ≡ n = omega (arith, G .high) in G .is ∙ ap (λ (x : ℕ). sets l at (w x)) q
 
 -- ---- fields, one after the other
-
-module _ (f : ℕ → List ℕ) where
-  abbrev pub fields : ℕ → List ℕ
-  fields i = concat (tab i f)
-
-  pub fields-none : concat (tab 0 f) ≡ []
-  unfolding concat tabFrom
-  fields-none = refl
-
-  pub fields-more : (i : ℕ) → concat (tab (i + 1) f) ≡ concat (tab i f) ++ f i
-  fields-more i = ap concat (tab-snoc i f) ∙ concat-snoc (tab i f) (f i)
-
-  pub fields-length : (g : ℕ → ℕ) (n : ℕ) → ((i : ℕ) → i < n → length (f i) ≡ g i) → length (concat (tab n f)) ≡ sum (tab n g)
-  fields-length g zero h = ap length fields-none ∙ sym (sum-none g)
-  fields-length g (suc n) h =
-      ap (λ (x : ℕ). length (concat (tab x f))) (sym (add-one n))
-      ∙ ap length (fields-more n)
-      ∙ length-append (concat (tab n f)) (f n)
-      ∙ omega (arith, fields-length g n (λ i b. h i (omega arith)), h n (omega arith), sum-more n g, ap (λ (x : ℕ). sum (tab x g)) (sym (add-one n)))
 
 sum-equal : (w n : ℕ) → sum (tab n (λ (i : ℕ). w)) ≡ w * n
 sum-equal w zero = sum-none (λ (i : ℕ). w) ∙ omega arith

@@ -1,6 +1,5 @@
 -- `signature::put` meets its contract. Assumes nothing.
-use native.Mathlib.Omega.{arith}
-use mathlib.Core.Path.{refl, _∙_}
+use mathlib.Core.Path.{refl}
 use Rattle.signature.proofs.SignLaws.{put-over}
 use borrow.Author.Needs.{needs}
 use Rattle.tabs.proofs.Tabs.{and-then, and-else}

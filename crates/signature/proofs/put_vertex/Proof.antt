@@ -1,7 +1,6 @@
 -- `signature::put_vertex` meets its contract. Assumes nothing.
 use native.Mathlib.Omega.{arith}
 use Prim.Native.Nat.{_+_, _*_, _-_}
-use mathlib.Core.Path.{ap}
 use Rattle.signature.proofs.SignLaws.{vertex-room, vertex-over}
 use borrow.Author.Needs.{needs}
 use Rattle.signature.proofs.put_vertex.Statement.{statement}

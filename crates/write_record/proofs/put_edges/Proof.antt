@@ -3,15 +3,13 @@ use native.Mathlib.Omega.{arith}
 use Prim.Native.Nat.{ℕ, _-_}
 use Rattle.defs.specs.Record.{encodeEdge}
 use Rattle.store.specs.Store.{edgeIn}
+use Rattle.tabs.proofs.SumTabs.{fields, fields-none, fields-more}
 use Rattle.write_record.proofs.WriteLaws.{
   Growing,
   growing-start,
   growing-len,
   growing-more,
   growing-end,
-  fields,
-  fields-none,
-  fields-more,
   edges-length,
 }
 use Rattle.write_record.proofs.put_edges.Statement.{statement}

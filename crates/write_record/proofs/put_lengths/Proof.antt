@@ -5,15 +5,13 @@ use mathlib.Core.Path.{sym, ap, _∙_}
 use mathlib.Core.List.{_++_}
 use Rattle.defs.specs.Record.{le16}
 use Rattle.write_record.specs.Written.{lengthBytes}
+use Rattle.tabs.proofs.SumTabs.{fields, fields-none, fields-more}
 use Rattle.write_record.proofs.WriteLaws.{
   Growing,
   growing-start,
   growing-len,
   growing-more,
   growing-end,
-  fields,
-  fields-none,
-  fields-more,
   lengths-length,
 }
 use Rattle.write_record.proofs.put_lengths.Statement.{statement}

@@ -6,15 +6,13 @@ use mathlib.Core.List.{_++_}
 use Rattle.store.specs.Store.{part, seqIn}
 use Rattle.pool.specs.Pool.{bytesIn}
 use Rattle.pool.proofs.PoolLaws.{bytesIn-none, bytesIn-more, bytes-below}
+use Rattle.tabs.proofs.SumTabs.{fields, fields-none, fields-more}
 use Rattle.write_record.proofs.WriteLaws.{
   Growing,
   growing-start,
   growing-len,
   growing-more,
   growing-end,
-  fields,
-  fields-none,
-  fields-more,
   seqs-before,
 }
 use Rattle.write_record.proofs.put_sequences.Statement.{statement}
