@@ -28,55 +28,40 @@ put-edges-requires c κs =
     let same-long = at-put-vertices .put-vertices .kept .0 ∙ at-put2 .put2 .kept .0 ∙ at-put .put .kept .0 in
     (start .pre .edges, edges-room (start .pre) (at-put .put .ensures) (at-put2 .put2 .ensures) (at-put-vertices .put-vertices .ensures) same-long)
 
+module _ (c : tie.After-put-edges) where
+  abbrev at-put-vertices : tie.After-put-vertices
+  at-put-vertices = search
+
+  abbrev at-put2 : tie.After-put2
+  at-put2 = let c = at-put-vertices in search
+
+  abbrev at-put : tie.After-put
+  at-put = let c = at-put2 in search
+
+  abbrev start : tie.Start
+  start = let c = at-put in search
+
 returns : tie.Need-returns
 returns c =
+    let e : tie.After-put-edges = search in
     signed-other
-    (start .pre)
-    (at-put .put .ensures)
-    (at-put2 .put2 .ensures)
-    (at-put-vertices .put-vertices .ensures)
-    (at-put-edges .put-edges .ensures)
+    (start e .pre)
+    (at-put e .put .ensures)
+    (at-put2 e .put2 .ensures)
+    (at-put-vertices e .put-vertices .ensures)
+    (e .put-edges .ensures)
     (c .if1 .taken)
-  where
-    at-put-edges : tie.After-put-edges
-    at-put-edges = search
-
-    at-put-vertices : tie.After-put-vertices
-    at-put-vertices = let c = at-put-edges in search
-
-    at-put2 : tie.After-put2
-    at-put2 = let c = at-put-vertices in search
-
-    at-put : tie.After-put
-    at-put = let c = at-put2 in search
-
-    start : tie.Start
-    start = let c = at-put in search
 
 returns-2 : tie.Need-returns-2
 returns-2 c =
+    let e : tie.After-put-edges = search in
     signed-same
-    (start .pre)
-    (at-put .put .ensures)
-    (at-put2 .put2 .ensures)
-    (at-put-vertices .put-vertices .ensures)
-    (at-put-edges .put-edges .ensures)
+    (start e .pre)
+    (at-put e .put .ensures)
+    (at-put2 e .put2 .ensures)
+    (at-put-vertices e .put-vertices .ensures)
+    (e .put-edges .ensures)
     (c .if1 .left)
-  where
-    at-put-edges : tie.After-put-edges
-    at-put-edges = search
-
-    at-put-vertices : tie.After-put-vertices
-    at-put-vertices = let c = at-put-edges in search
-
-    at-put2 : tie.After-put2
-    at-put2 = let c = at-put-vertices in search
-
-    at-put : tie.After-put
-    at-put = let c = at-put2 in search
-
-    start : tie.Start
-    start = let c = at-put in search
 
 pub replace-signature-spec : {M : Type 1} → statement M
 replace-signature-spec =
