@@ -95,8 +95,8 @@ def of_support_1(text):
     return [(*map(int, pair.split(">")), 1, 0) for pair in text.split()]
 
 
-# Ladders whose edges settle later than their sequences, which is all that the Rust's own signature has: the smallest found of which
-# the Rust ends a round earlier, and the smallest found of which it then has another record.
+# Ladders whose edges settle later than their sequences, and only these are in the Rust's own signature: the smallest found on which
+# the Rust ends earlier, and the smallest found on which it then has another record.
 SETTLING = [
     (
         [b"", *[b"AA"] * 9, b"", *[b"A"] * 9],

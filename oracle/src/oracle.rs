@@ -78,7 +78,7 @@ fn cleaned(mut graph: SeqGraph) -> Made {
 fn simplified(mut graph: SeqGraph) -> Made {
     let (mut copy, unchanged) = (graph.clone(), graph.clone());
     simplify_graph_full(&mut graph);
-    let mut watch = Watch { edges_count: true, ..Watch::default() };
+    let mut watch = Watch { with_edges: true, ..Watch::default() };
     traced_simplify_graph_full(&mut copy, |stage, g| watch.see(stage, g));
     let bytes = write(&graph, 0);
     assert!(bytes == write(&copy, 0), "the traced run made another graph");
@@ -106,7 +106,7 @@ struct Signature {
 #[derive(Default)]
 struct Watch {
     /// Whether a signature has the edges, or only their number.
-    edges_count: bool,
+    with_edges: bool,
     size: (usize, usize),
     working: bool,
     worked: bool,
@@ -130,7 +130,7 @@ impl Watch {
 
     fn close_round(&mut self, graph: &SeqGraph) {
         let sequences = graph.vertices().iter().map(|v| v.sequence.clone()).collect();
-        let edges = if self.edges_count { graph.edges().to_vec() } else { vec![] };
+        let edges = if self.with_edges { graph.edges().to_vec() } else { vec![] };
         let signature = Signature { sequences, edge_count: graph.edge_count(), edges };
         self.same = signature == self.signature;
         self.signature = signature;
