@@ -51,7 +51,7 @@ typedef struct {
     sg_tally tally;
 } sg_answer;
 
-/* `end`: 1 quiet, 2 repeated, 3 full. */
+/* `end`: 1 quiet, a round without work; 2 repeated, a round that gave the graph of the one before, edges too; 3 full, 100 rounds. */
 typedef struct {
     uint32_t number;
     uint32_t length;

@@ -13,7 +13,7 @@ pub use refusal::Refusal;
 pub enum End {
     /// A round without work.
     Quiet,
-    /// From the seventh round on, a round that gave the vertices of the one before.
+    /// From the eighth round on, a round that gave the graph of the one before, edges too.
     Repeated,
     /// A hundred rounds.
     Full,

@@ -4,6 +4,7 @@
 //! count of list numbers in four bytes each, the record, and the list in four bytes a number.
 //! Standard output, for each: a frame of present (0 where the Rust gives None), status, rounds and end in
 //! four bytes each, and the bytes made. All numbers are little-endian. The record must be an accepted one.
+//! Call 255 is simplification by the Rust as it stands, without the edges in its signature.
 use oracle::case::{read_frame, words};
 use oracle::oracle::{run, Made};
 use std::io::{self, BufReader, BufWriter, Write};
