@@ -3,7 +3,7 @@
 use Prim.Native.Nat.{ℕ, suc, _≤_}
 use native.Mathlib.Omega.{arith}
 use mathlib.Core.Path.{_≡_, sym, ap, _∙_}
-use mathlib.Core.Bool.{true}
+use mathlib.Core.Bool.{true, false}
 use mathlib.Core.Option.{Option, none, some}
 use mathlib.Core.List.{List, [], _∷_}
 use Rattle.defs.specs.SeqGraph.{Graph, nodeCount}
@@ -38,7 +38,7 @@ module _ {k : ℕ} where
       (λ r. rw (sink-one g v (q ∙ ap (λ (l : List (List ℕ)). v ∷ l) r)) record { k-is = F .k-is; supports = dummy-small })
       (λ u us r. rw (sink-more g v u us (q ∙ ap (λ (l : List (List ℕ)). v ∷ l) r)) F))
     where
-      dummy-small : SmallSupports (record { from = 0; to = 1; support = 0; isRef = true } ∷ [])
+      dummy-small : SmallSupports (record { from = 0; to = 1; support = 0; isRef = true; capped = false } ∷ [])
       dummy-small = cons-small (omega arith) none-small
 
   after-fields : (w : Work) (s t : Option ℕ) → Fields k (w .graph) → Fields k ((afterChoice w s t) .graph)

@@ -9,11 +9,11 @@ use mathlib.Core.List.{List, [], _∷_, _++_, map, List·Memᴰ, List·Memᴰ·h
 use mathlib.Core.Logic.{⊎-elim}
 use lib.ListN.{length}
 use Rattle.defs.specs.Lists.{keepIf, concat, anyOf}
-use Rattle.defs.specs.SeqGraph.{Edge, Graph, nodeCount, edgesFrom, edgesInto, incomingNodes, saturatingAdd, hasEnds, addOrUpdateEdge}
+use Rattle.defs.specs.SeqGraph.{Edge, Graph, nodeCount, edgesFrom, edgesInto, incomingNodes, saturatingAdd, hasEnds, addOrUpdateEdge, EdgeData, edgeData, newEdge, joinedData}
 use Rattle.defs.specs.SeqGraph.{addOrUpdateEdges, remapEdge, compactVertices, keeps, removeVerticesById, Change, withAdditions, applyChange}
 use Rattle.defs.specs.Zip.{lastOf, moveFrom, mergeLinearChain}
 use Rattle.defs.specs.Rewrites as W
-use Rattle.defs.specs.Rewrites.{EdgeData, edgeData, newEdge, processEdge, MidPlan, midPlan, hasRemaining, joinedData, prefixToSuffixFrom}
+use Rattle.defs.specs.Rewrites.{supportOne, processEdge, MidPlan, midPlan, hasRemaining, prefixToSuffixFrom}
 use Rattle.defs.specs.Rewrites.{prefixToSuffix, newEdgeIf, edgesToMiddles, edgesFromMiddles, onlyIf, splitAndUpdateWith, splitAndUpdate}
 use Rattle.defs.specs.Rewrites.{diamondChange, tailsChange, redirectedTo, redirectedFrom, suffixAndPrefixEdges, suffixAndPrefix}
 use Rattle.defs.specs.Rewrites.{withoutSuffix, splitEdges, splitChange, mergeChange}
@@ -50,34 +50,34 @@ map-small f same [] h = none-small
 map-small f same (e ∷ es) h = cons-small (rw (same e) (head-small h)) (map-small f same es (tail-small h))
 
 -- supports are added up to 2^32 - 1
-saturating-small : (a b : ℕ) → Counts (saturatingAdd a b)
-unfolding saturatingAdd
-saturating-small a b = omega arith
+joined-small : (a b : EdgeData) → Counts ((joinedData a b) .support)
+unfolding joinedData saturatingAdd
+joined-small a b = omega arith
 
-add-yes : (u v s : ℕ) (r : Bool) (e : Edge) (es : List Edge) → hasEnds u v e ≡ true → SmallSupports es → SmallSupports (addOrUpdateEdge u v s r (e ∷ es))
+add-yes : (u v : ℕ) (d : EdgeData) (e : Edge) (es : List Edge) → hasEnds u v e ≡ true → SmallSupports es → SmallSupports (addOrUpdateEdge u v d (e ∷ es))
+unfolding addOrUpdateEdge newEdge
+add-yes u v d e es t h = rw (t, addOrUpdateEdge) (cons-small (joined-small (edgeData e) d) h)
+
+add-no : (u v : ℕ) (d : EdgeData) (e : Edge) (es : List Edge) → hasEnds u v e ≡ false → Counts (e .support)
+    → SmallSupports (addOrUpdateEdge u v d es) → SmallSupports (addOrUpdateEdge u v d (e ∷ es))
 unfolding addOrUpdateEdge
-add-yes u v s r e es t h = rw (t, addOrUpdateEdge) (cons-small (saturating-small (e .support) s) h)
+add-no u v d e es t c h = rw (t, addOrUpdateEdge) (cons-small c h)
 
-add-no : (u v s : ℕ) (r : Bool) (e : Edge) (es : List Edge) → hasEnds u v e ≡ false → Counts (e .support)
-    → SmallSupports (addOrUpdateEdge u v s r es) → SmallSupports (addOrUpdateEdge u v s r (e ∷ es))
-unfolding addOrUpdateEdge
-add-no u v s r e es t c h = rw (t, addOrUpdateEdge) (cons-small c h)
+add-none : (u v : ℕ) (d : EdgeData) → Counts (d .support) → SmallSupports (addOrUpdateEdge u v d [])
+unfolding addOrUpdateEdge newEdge
+add-none u v d c = cons-small c none-small
 
-add-none : (u v s : ℕ) (r : Bool) → Counts s → SmallSupports (addOrUpdateEdge u v s r [])
-unfolding addOrUpdateEdge
-add-none u v s r c = cons-small c none-small
-
-add-small : (u v s : ℕ) (r : Bool) (es : List Edge) → Counts s → SmallSupports es → SmallSupports (addOrUpdateEdge u v s r es)
-add-small u v s r [] c h = add-none u v s r c
-add-small u v s r (e ∷ es) c h = byTest (hasEnds u v e)
-    (λ t. add-yes u v s r e es t (tail-small h))
-    (λ t. add-no u v s r e es t (head-small h) (add-small u v s r es c (tail-small h)))
+add-small : (u v : ℕ) (d : EdgeData) (es : List Edge) → Counts (d .support) → SmallSupports es → SmallSupports (addOrUpdateEdge u v d es)
+add-small u v d [] c h = add-none u v d c
+add-small u v d (e ∷ es) c h = byTest (hasEnds u v e)
+    (λ t. add-yes u v d e es t (tail-small h))
+    (λ t. add-no u v d e es t (head-small h) (add-small u v d es c (tail-small h)))
 
 adds-small : (ns es : List Edge) → SmallSupports ns → SmallSupports es → SmallSupports (addOrUpdateEdges ns es)
-unfolding addOrUpdateEdges
+unfolding addOrUpdateEdges edgeData
 adds-small [] es n h = h
-adds-small (x ∷ ns) es n h = adds-small ns (addOrUpdateEdge (x .from) (x .to) (x .support) (x .isRef) es) (tail-small n)
-    (add-small (x .from) (x .to) (x .support) (x .isRef) es (head-small n) h)
+adds-small (x ∷ ns) es n h = adds-small ns (addOrUpdateEdge (x .from) (x .to) (edgeData x) es) (tail-small n)
+    (add-small (x .from) (x .to) (edgeData x) es (head-small n) h)
 
 -- what is kept: k, and small supports
 pub record Fields (k : ℕ) (g : Graph) : Type 0 where
@@ -127,10 +127,6 @@ unfolding edgesFromMiddles newEdge
 from-middles-small n v [] h = none-small
 from-middles-small n v (m ∷ ms) h = cons-small ((head-plan h) .out-small) (from-middles-small (suc n) v ms (tail-plan h))
 
-joined-small : (a b : EdgeData) → Counts ((joinedData a b) .support)
-unfolding joinedData
-joined-small a b = saturating-small (a .support) (b .support)
-
 direct-from : (a : EdgeData) (ms : List MidPlan) → Counts (a .support) → Counts ((prefixToSuffixFrom a ms) .support)
 unfolding prefixToSuffixFrom
 direct-from a [] c = c
@@ -146,8 +142,8 @@ unfolding onlyIf
 onlyIf-small true es h = h
 onlyIf-small false es h = none-small
 
-one-small : (b : Bool) (u v : ℕ) (r : Bool) → SmallSupports (onlyIf b (newEdge u v record { support = 1; isRef = r } ∷ []))
-unfolding newEdge
+one-small : (b : Bool) (u v : ℕ) (r : Bool) → SmallSupports (onlyIf b (newEdge u v (supportOne r) ∷ []))
+unfolding newEdge supportOne
 one-small b u v r = onlyIf-small b _ (cons-small (omega arith) none-small)
 
 update-small : (hasPrefix hasSuffix : Bool) (n top : ℕ) (bottom : Option ℕ) (plans consumed : List MidPlan) (prefix suffix middles : List ℕ) → SmallPlans plans
@@ -170,7 +166,7 @@ module _ (g : Graph) (h : SmallSupports (g .edges)) where
   from-small v = keepIf-small _ (g .edges) h
 
   process-small : (v : ℕ) (es : List Edge) → SmallSupports es → Counts ((processEdge g v es) .support)
-  unfolding processEdge
+  unfolding processEdge edgeData
   process-small v [] s = omega arith
   process-small v (e ∷ es) s = head-small s
 
@@ -210,7 +206,7 @@ module _ (g : Graph) (h : SmallSupports (g .edges)) where
 
   suffix-and-prefix-small : (bottom sv : ℕ) (prefix : List ℕ) (incoming : List Edge) (out : EdgeData) → SmallSupports incoming
       → Counts (out .support) → SmallSupports (suffixAndPrefixEdges bottom sv prefix incoming out)
-  unfolding suffixAndPrefixEdges newEdge
+  unfolding suffixAndPrefixEdges newEdge supportOne
   suffix-and-prefix-small bottom sv [] incoming out s c = cons-small c (redirected-to sv incoming s)
   suffix-and-prefix-small bottom sv (x ∷ xs) incoming out s c = cons-small (omega arith) (cons-small c (redirected-to (suc sv) incoming s))
 

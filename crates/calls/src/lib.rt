@@ -56,14 +56,14 @@ fn count_call(number: u32, rewrites: u32, t: Tally) -> Tally
     if number != 0 {
         return Tally {
             answered: t.answered,
-            refused: store::saturating_add(t.refused, 1),
+            refused: edge_data::saturating_add(t.refused, 1),
             rewrites: t.rewrites,
         };
     }
     Tally {
-        answered: store::saturating_add(t.answered, 1),
+        answered: edge_data::saturating_add(t.answered, 1),
         refused: t.refused,
-        rewrites: store::saturating_add(t.rewrites, rewrites),
+        rewrites: edge_data::saturating_add(t.rewrites, rewrites),
     }
 }
 

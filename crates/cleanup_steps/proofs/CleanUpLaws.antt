@@ -1,6 +1,6 @@
 -- Cleanup in slices. Assumes nothing.
 use mathlib.Core.Path.{_≡_, refl, sym, ap, _∙_, subst}
-use mathlib.Core.Bool.{true}
+use mathlib.Core.Bool.{true, false}
 use mathlib.Core.Option.{Option, none, some}
 use mathlib.Core.List.{List, [], _∷_, List·Memᴰ·not-nil}
 use Prim.Native.Nat.{ℕ, suc, _+_, _≤_, _<_}
@@ -42,7 +42,7 @@ abbrev alone : ℕ → List ℕ → Graph
 alone k v = record { k = k; verts = v ∷ []; edges = [] }
 
 abbrev pair : ℕ → List ℕ → Graph
-pair k v = record { k = k; verts = v ∷ [] ∷ []; edges = record { from = 0; to = 1; support = 0; isRef = true } ∷ [] }
+pair k v = record { k = k; verts = v ∷ [] ∷ []; edges = record { from = 0; to = 1; support = 0; isRef = true; capped = false } ∷ [] }
 
 pair-good : (k : ℕ) (v : List ℕ) → Good (pair k v)
 unfolding nodeCount

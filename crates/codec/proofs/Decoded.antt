@@ -11,7 +11,8 @@ use lib.Seq.{getD-drop, getD-take, take-add, take-all}
 use Rattle.defs.specs.Lists.{bit, concat, tabFrom, tab, sum}
 use Rattle.defs.specs.Simplify.{sequenceBytes}
 use Rattle.defs.specs.Record.{mark, kindOf, statusOf, le16, le32, u16At, u32At, kOf, verticesOf, edgesOf, bytesOf, bytesAt, wholeLength}
-use Rattle.defs.specs.Record.{encodeEdge, encodeHeader, lengthAt, sequenceAt, edgeStart, flagAt, edgeAt}
+use Rattle.defs.specs.Record.{flagOf, encodeEdge, encodeHeader, lengthAt, sequenceAt, edgeStart, flagAt, edgeAt}
+use Rattle.laws.proofs.Flags.{flag-back}
 use Rattle.tabs.proofs.Tabs.{tab-ext, take-tab}
 use Rattle.tabs.proofs.SumTabs.{map-tab, bytes-sum}
 use Rattle.le.proofs.LeLaws.{le16-u16At, le32-u32At}
@@ -19,12 +20,6 @@ use Rattle.record.specs.Layout.{WellFormed}
 use Rattle.record.proofs.Fields.{lengthAt-is, edgeStart-is, flagAt-is, sequenceStart-is, sequenceAt-is, bytesAt-is, wholeLength-is}
 use Rattle.record.proofs.Sequences.{length-sequence}
 use Rattle.codec.proofs.Concat.{concat-parts, concat-widths}
-
-bit-flag : (n : ℕ) → n ≤ 1 → bit (eqb n 1) ≡ n
-unfolding bit
-bit-flag zero h = refl
-bit-flag (suc zero) h = refl
-bit-flag (suc (suc n)) h = absurd (omega arith)
 
 -- the n bytes at o
 window : (bs : List ℕ) (o n : ℕ) → o + n ≤ length bs → take n (drop o bs) ≡ tab n (λ j. getD bs (o + j) 0)
@@ -47,7 +42,7 @@ module _ (bs : List ℕ) (small : (i : ℕ) → getD bs i 0 < 256) where
 
   module _ (ok : WellFormed bs) where
     edge-back : (i : ℕ) → i < edgesOf bs → encodeEdge (edgeAt bs i) ≡ take 9 (drop (32 + 2 * verticesOf bs + 9 * i) bs)
-    unfolding encodeEdge edgeAt
+    unfolding encodeEdge edgeAt flagOf
     edge-back i below =
         let o : ℕ = edgeStart bs i in
         let start : edgeStart bs i ≡ 32 + 2 * verticesOf bs + 9 * i = edgeStart-is bs i in
@@ -58,7 +53,7 @@ module _ (bs : List ℕ) (small : (i : ℕ) → getD bs i 0 < 256) where
           bytesAt-is (verticesOf bs) (edgesOf bs),
         ) in
         ap (λ (n : ℕ). le16 (u16At bs o) ++ le16 (u16At bs (o + 2)) ++ le32 (u32At bs (o + 4)) ++ (n ∷ []))
-        (bit-flag (flagAt bs i) (ok .good i below .flag) ∙ flagAt-is bs i)
+        (flag-back (flagAt bs i) (ok .good i below .flag) ∙ flagAt-is bs i)
         ∙ nine-bytes o inside
         ∙ ap (λ (n : ℕ). take 9 (drop n bs)) start
 

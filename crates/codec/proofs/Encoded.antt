@@ -13,11 +13,12 @@ use Rattle.defs.specs.Lists.{bit, concat, tab, sum}
 use Rattle.defs.specs.SeqGraph.{Edge, Graph, nodeCount}
 use Rattle.defs.specs.Simplify.{sequenceBytes}
 use Rattle.defs.specs.Record.{RecordKind, recordKindNumber, le16, le32, u16At, u32At, kOf, verticesOf, edgesOf, encodeEdge, encodeHeader}
-use Rattle.defs.specs.Record.{encode, lengthAt, sequenceStart, sequenceAt, edgeStart, edgeAt}
+use Rattle.defs.specs.Record.{flagOf, flagIsRef, flagIsCapped, encode, lengthAt, sequenceStart, sequenceAt, edgeStart, flagAt, edgeAt}
 use Rattle.laws.proofs.ListLaws.{at-mem}
+use Rattle.laws.proofs.Flags.{flag-says-ref, flag-says-capped}
 use Rattle.tabs.proofs.Tabs.{tab-ext}
 use Rattle.le.proofs.LeLaws.{length-le16, value-of-digits}
-use Rattle.record.proofs.Fields.{lengthAt-is, edgeStart-is, from-is, to-is, support-is, flagAt-is, isRef-is, sequenceStart-is, sequenceAt-is, bytesAt-is}
+use Rattle.record.proofs.Fields.{lengthAt-is, edgeStart-is, from-is, to-is, support-is, flagAt-is, isRef-is, capped-is, sequenceStart-is, sequenceAt-is, bytesAt-is}
 use Rattle.codec.specs.Encodable.{EncodableEdge, Encodable}
 use Rattle.codec.proofs.Concat.{Shows, shows-field, length-fields, part-of-concat}
 
@@ -83,17 +84,12 @@ module _ (e : Edge) (ok : EncodableEdge e) where
   unfolding encodeEdge le16 le32 u32At
   edge-support = value-of-digits (e .support) (ok .support)
 
-  edge-flag : getD (encodeEdge e) 8 0 ≡ bit (e .isRef)
+  edge-flag : getD (encodeEdge e) 8 0 ≡ flagOf e
   unfolding encodeEdge le16 le32
   edge-flag = refl
 
-flag-is : (b : Bool) → eqb (bit b) 1 ≡ b
-unfolding bit
-flag-is true = refl
-flag-is false = refl
-
-same-edge : (e f : Edge) → e .from ≡ f .from → e .to ≡ f .to → e .support ≡ f .support → e .isRef ≡ f .isRef → e ≡ f
-same-edge e f a b c d = λ i. record { from = a i; to = b i; support = c i; isRef = d i }
+same-edge : (e f : Edge) → e .from ≡ f .from → e .to ≡ f .to → e .support ≡ f .support → e .isRef ≡ f .isRef → e .capped ≡ f .capped → e ≡ f
+same-edge e f a b s r c = λ i. record { from = a i; to = b i; support = s i; isRef = r i; capped = c i }
 
 -- the record of a graph
 module _ (kind : RecordKind) (status : ℕ) (g : Graph) (ok : Encodable g) where
@@ -169,15 +165,18 @@ module _ (kind : RecordKind) (status : ℕ) (g : Graph) (ok : Encodable g) where
       rw (o, around-edges) (shows-field encodeEdge 9 edge-width (header ++ lengths) bytes (32 + 2 * nodeCount g) (g .edges) d i s h)
 
   pub edge-read : (d : Edge) (i : ℕ) → i < length (g .edges) → edgeAt bs i ≡ getD (g .edges) i d
+  unfolding flagOf
   edge-read d i h =
       let e : Edge = getD (g .edges) i d in
       let m : Shows bs (edgeStart bs i) (encodeEdge (getD (g .edges) i d)) = edge-shown d i h in
       let fits : EncodableEdge (getD (g .edges) i d) = ok .each _ (at-mem d (g .edges) i h) in
+      let flag : flagAt bs i ≡ flagOf e = flagAt-is bs i ∙ m .at 8 (omega (arith, edge-width e)) ∙ edge-flag e fits in
       same-edge _ _
       (from-is bs i ∙ u16-first bs _ _ m (omega (arith, edge-width e)) ∙ edge-from e fits)
       (to-is bs i ∙ u16-shown bs _ _ m 2 (omega (arith, edge-width e)) ∙ edge-to e fits)
       (support-is bs i ∙ u32-shown bs _ _ m 4 (omega (arith, edge-width e)) ∙ edge-support e fits)
-      (isRef-is bs i ∙ ap (λ (n : ℕ). eqb n 1) (flagAt-is bs i ∙ m .at 8 (omega (arith, edge-width e)) ∙ edge-flag e fits) ∙ flag-is (e .isRef))
+      (isRef-is bs i ∙ ap flagIsRef flag ∙ flag-says-ref (e .isRef) (e .capped))
+      (capped-is bs i ∙ ap flagIsCapped flag ∙ flag-says-capped (e .isRef) (e .capped))
 
   start-read : (i : ℕ) → i < nodeCount g → sequenceStart bs i ≡ length (header ++ lengths ++ edges) + sum (tab i (λ j. length (getD (g .verts) j [])))
   start-read i h =

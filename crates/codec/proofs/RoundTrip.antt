@@ -32,7 +32,7 @@ pub decode-encode : (kind : RecordKind) (status : ℕ) (g : Graph) → Encodable
 unfolding decode nodeCount
 decode-encode kind status g ok =
     let bs : List ℕ = encode kind status g in
-    let none : Edge = record { from = 0; to = 0; support = 0; isRef = false } in
+    let none : Edge = record { from = 0; to = 0; support = 0; isRef = false; capped = false } in
     same-graph (decode bs) g
     (k-read kind status g ok)
     (ap (λ (n : ℕ). tab n (sequenceAt bs)) (vertices-read kind status g ok)

@@ -3,7 +3,7 @@
 use Prim.Native.Nat.{ℕ, _+_, _*_, _/_, _%_}
 use mathlib.Core.Bool.{Bool}
 use mathlib.Core.List.{List, [], _∷_, _++_, map}
-use lib.Dec.{eqb}
+use lib.Dec.{eqb, ltb}
 use lib.ListN.{length, getD, take, drop}
 use Rattle.defs.specs.Lists.{bit, concat, tab, sum}
 use Rattle.defs.specs.SeqGraph.{Edge, Graph, nodeCount}
@@ -66,9 +66,19 @@ bytesAt v e = edgesAt v + 9 * e
 unfoldable pub wholeLength : ℕ → ℕ → ℕ → ℕ
 wholeLength v e b = bytesAt v e + b
 
+-- The flag of an edge: 1 for a reference edge, and 2 more for a capped one.
+unfoldable pub flagOf : Edge → ℕ
+flagOf e = bit (e .isRef) + 2 * bit (e .capped)
+
+abbrev pub flagIsRef : ℕ → Bool
+flagIsRef f = eqb (f % 2) 1
+
+abbrev pub flagIsCapped : ℕ → Bool
+flagIsCapped f = ltb 1 f
+
 -- Writing.
 unfoldable pub encodeEdge : Edge → List ℕ
-encodeEdge e = le16 (e .from) ++ le16 (e .to) ++ le32 (e .support) ++ (bit (e .isRef) ∷ [])
+encodeEdge e = le16 (e .from) ++ le16 (e .to) ++ le32 (e .support) ++ (flagOf e ∷ [])
 
 unfoldable pub encodeHeader : ℕ → ℕ → ℕ → ℕ → ℕ → ℕ → List ℕ
 encodeHeader kind status k v e b =
@@ -102,7 +112,13 @@ flagAt bs i = getD bs (edgeStart bs i + 8) 0
 unfoldable pub edgeAt : List ℕ → ℕ → Edge
 edgeAt bs i =
     let o = edgeStart bs i in
-    record { from = u16At bs o; to = u16At bs (o + 2); support = u32At bs (o + 4); isRef = eqb (flagAt bs i) 1 }
+    record {
+      from = u16At bs o;
+      to = u16At bs (o + 2);
+      support = u32At bs (o + 4);
+      isRef = flagIsRef (flagAt bs i);
+      capped = flagIsCapped (flagAt bs i);
+    }
 
 unfoldable pub decode : List ℕ → Graph
 decode bs = record { k = kOf bs; verts = tab (verticesOf bs) (sequenceAt bs); edges = tab (edgesOf bs) (edgeAt bs) }

@@ -54,9 +54,9 @@ layoutDisagrees bs =
     || (not (eqb (length bs) (wholeLength v e (bytesOf bs))) || (not (eqb (sum (tab v (lengthAt bs))) (bytesOf bs))
     || (eqb (kindOf bs) 0 && anyOf (λ i. not (eqb (lengthAt bs i) (kOf bs))) (upFrom 0 v))))))
 
--- 5: an edge end not below V, or a flag other than 0 and 1
+-- 5: an edge end not below V, or a flag above 3
 unfoldable pub badEdge : List ℕ → ℕ → Bool
-badEdge bs i = leb (verticesOf bs) ((edgeAt bs i) .from) || (leb (verticesOf bs) ((edgeAt bs i) .to) || ltb 1 (flagAt bs i))
+badEdge bs i = leb (verticesOf bs) ((edgeAt bs i) .from) || (leb (verticesOf bs) ((edgeAt bs i) .to) || ltb 3 (flagAt bs i))
 
 unfoldable pub anyBadEdge : List ℕ → Bool
 anyBadEdge bs = anyOf (badEdge bs) (upFrom 0 (edgesOf bs))

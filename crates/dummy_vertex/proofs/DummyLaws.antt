@@ -1,6 +1,6 @@
 -- The empty second vertex in slices. Assumes nothing.
 use mathlib.Core.Path.{_≡_, refl, sym, ap, _∙_}
-use mathlib.Core.Bool.{true}
+use mathlib.Core.Bool.{true, false}
 use mathlib.Core.List.{List, [], _∷_}
 use Prim.Native.Nat.{ℕ, zero, suc, _+_, _*_, _≤_, _<_}
 use native.Mathlib.Omega.{arith}
@@ -70,7 +70,7 @@ module _ (h : Held) (es vs : List ℕ) (e-room : 4 ≤ length es) (v-room : 4 �
   single p = ap (λ (n : ℕ). seqsIn n vs p) one
 
   both-is : (p : List ℕ) → graphIn (h .k .0) 2 1 (putEdge es 0 0 1 0 1) (putVertex vs 1 0 0) p
-      ≡ record { k = h .k .0; verts = seqIn vs p 0 ∷ [] ∷ []; edges = record { from = 0; to = 1; support = 0; isRef = true } ∷ [] }
+      ≡ record { k = h .k .0; verts = seqIn vs p 0 ∷ [] ∷ []; edges = record { from = 0; to = 1; support = 0; isRef = true; capped = false } ∷ [] }
   unfolding tabFrom
   both-is p = λ i. record {
     k = h .k .0;

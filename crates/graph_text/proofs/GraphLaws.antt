@@ -1,6 +1,6 @@
 -- The lines of a held graph make its text. Assumes nothing.
 use mathlib.Core.Path.{_≡_, refl, sym, ap, _∙_, subst}
-use mathlib.Core.Bool.{cond}
+use mathlib.Core.Bool.{Bool, true, false, cond}
 use mathlib.Core.List.{List, [], map}
 use Prim.Native.Nat.{ℕ, _+_, _*_, _-_, _≤_, _<_}
 use native.Mathlib.Omega.{arith}
@@ -12,7 +12,7 @@ use Rattle.defs.specs.SeqGraph.{Edge, nodeCount, vertexSequence}
 use Rattle.defs.specs.Simplify.{sequenceBytes, End, quiet, repeated, full, endNumber}
 use Rattle.tabs.proofs.Tabs.{length-tab, getD-tab, tab-ext}
 use Rattle.tabs.proofs.SumTabs.{map-tab}
-use Rattle.store.specs.Store.{isSet, edgeIn, seqIn, part, graphIn}
+use Rattle.store.specs.Store.{edgeIn, seqIn, part, graphIn}
 use Rattle.store.proofs.VertexLaws.{part-long}
 use Rattle.pool.specs.Pool.{bytesIn}
 use Rattle.pool.proofs.PoolLaws.{bytes-below}
@@ -32,12 +32,14 @@ module _ {text t₁ t₂ : List ℕ} {r₁ r₂ : ℕ} where
   refusal-line number p q = put-then p q
 
   module _ {t₃ t₄ : List ℕ} {at r₃ r₄ : ℕ} where
-    pub edge-line : (e : Edge) {a b s : ℕ} → a ≡ e .from → b ≡ e .to → s ≡ e .support → TextPut 12 (field "e " a) text at r₁ t₁
-        → TextPut 11 (field " " b) t₁ r₁ r₂ t₂ → TextPut 11 (field " " s) t₂ r₂ r₃ t₃
-        → TextPut 3 (cond (e .isRef) (ascii " r\n") (ascii " -\n")) t₃ r₃ r₄ t₄ → TextPut 37 (edgeLine e) text at r₄ t₄
+    pub edge-line : {t₅ : List ℕ} {r₅ : ℕ} (e : Edge) {a b s : ℕ} {f c : Bool} → a ≡ e .from → b ≡ e .to → s ≡ e .support → f ≡ e .isRef → c ≡ e .capped
+        → TextPut 12 (field "e " a) text at r₁ t₁ → TextPut 11 (field " " b) t₁ r₁ r₂ t₂ → TextPut 11 (field " " s) t₂ r₂ r₃ t₃
+        → TextPut 2 (cond f (ascii " r") (ascii " -")) t₃ r₃ r₄ t₄ → TextPut 2 (cond c (ascii "c\n") (ascii "\n")) t₄ r₄ r₅ t₅
+        → TextPut 38 (edgeLine e) text at r₅ t₅
     unfolding edgeLine
-    edge-line e qa qb qs p q r s = put-then (put-then (put-then (put-as (ap (field "e ") qa) p) (put-as (ap (field " ") qb) q))
-        (put-as (ap (field " ") qs) r)) s
+    edge-line e qa qb qs qf qc p q r s t = put-then (put-then (put-then (put-then (put-as (ap (field "e ") qa) p) (put-as (ap (field " ") qb) q))
+        (put-as (ap (field " ") qs) r)) (put-as (ap (λ x. cond x (ascii " r") (ascii " -")) qf) s))
+        (put-as (ap (λ x. cond x (ascii "c\n") (ascii "\n")) qc) t)
 
     -- the part that is printed is the vertex's sequence
     pub vertex-line : (vs pool : List ℕ) (v : ℕ) {start len : ℕ} → getD vs (2 * v) 0 + sizeIn vs v ≤ length pool → start ≡ getD vs (2 * v) 0 → len ≡ sizeIn vs v
@@ -79,18 +81,14 @@ vertices-fit {n} {vs} {v = v} F L h = record {
   room = omega (arith, F .room, lines-at L, lines-long L, bytes-below n v vs h);
 }
 
--- ---- flags and ends
+-- ---- one of two, and ends
 
 module _ {text text′ : List ℕ} {at r : ℕ} where
-  pub flag-off : (f : ℕ) → f ≡ 0 → TextPut 3 (ascii " -\n") text at r text′ → TextPut 3 (cond (isSet f) (ascii " r\n") (ascii " -\n")) text at r text′
-  flag-off f q P = rw (eq-eqb f 0 q) P
+  pub put-one : (most : ℕ) (b : Bool) (x y : List ℕ) → b ≡ true → TextPut most x text at r text′ → TextPut most (cond b x y) text at r text′
+  put-one most b x y t P = rw t P
 
-  pub flag-on : (f : ℕ) → (f ≡ 0 → ⊥) → TextPut 3 (ascii " r\n") text at r text′ → TextPut 3 (cond (isSet f) (ascii " r\n") (ascii " -\n")) text at r text′
-  flag-on f o P = rw (ne-eqb f 0 o) P
-
-  pub flag-as : {f g : ℕ} → f ≡ g → TextPut 3 (cond (isSet f) (ascii " r\n") (ascii " -\n")) text at r text′
-      → TextPut 3 (cond (isSet g) (ascii " r\n") (ascii " -\n")) text at r text′
-  flag-as q P = put-as (ap (λ (x : ℕ). cond (isSet x) (ascii " r\n") (ascii " -\n")) q) P
+  pub put-other : (most : ℕ) (b : Bool) (x y : List ℕ) → b ≡ false → TextPut most y text at r text′ → TextPut most (cond b x y) text at r text′
+  put-other most b x y t P = rw t P
 
   pub end-quiet : (n : ℕ) → n ≡ 1 → TextPut 5 (ascii "quiet") text at r text′ → TextPut 8 (ascii (endName (endWithNumber n))) text at r text′
   unfolding endWithNumber endName
@@ -134,7 +132,7 @@ module _ {h : Held} {es vs pool text : List ℕ} (P : Printable h es vs pool tex
   pub graph-put : (rewrites rounds end : ℕ) {b r₁ r₂ r₃ r₄ : ℕ} {t₁ t₂ t₃ t₄ : List ℕ} → b ≡ bytesIn (h .n) vs
       → TextPut 87 (firstLine (h .k .0) (h .n) (h .m) b) text 0 r₁ t₁ → TextPut 51 (secondLine rewrites rounds (endWithNumber end)) t₁ r₁ r₂ t₂
       → TextPut (verticesMost (h .n) vs) (concat (tab (h .n) (λ (v : ℕ). vertexLine v (seqIn vs pool v)))) t₂ r₂ r₃ t₃
-      → TextPut (37 * h .m) (concat (tab (h .m) (λ (i : ℕ). edgeLine (edgeIn es i)))) t₃ r₃ r₄ t₄
+      → TextPut (38 * h .m) (concat (tab (h .m) (λ (i : ℕ). edgeLine (edgeIn es i)))) t₃ r₃ r₄ t₄
       → TextPut (graphMost h vs) (printedGraph (simplifiedIn h rewrites rounds end es vs pool)) text 0 r₄ t₄
   unfolding printedGraph nodeCount
   graph-put rewrites rounds end q p₁ p₂ p₃ p₄ = put-most (omega arith)

@@ -33,7 +33,7 @@ abbrev pub verticesMost : ℕ → List ℕ → ℕ
 verticesMost n vs = 15 * n + 4 * bytesIn n vs
 
 abbrev pub graphMost : Held → List ℕ → ℕ
-graphMost h vs = 138 + verticesMost (h .n) vs + 37 * h .m
+graphMost h vs = 138 + verticesMost (h .n) vs + 38 * h .m
 
 pub record VerticesFit (n : ℕ) (vs p text : List ℕ) (at : ℕ) : Type 0 where
   pub vs-room : 2 * n ≤ length vs
@@ -43,7 +43,7 @@ pub record VerticesFit (n : ℕ) (vs p text : List ℕ) (at : ℕ) : Type 0 wher
 
 pub record EdgeLinesFit (m : ℕ) (es text : List ℕ) (at : ℕ) : Type 0 where
   pub es-room : 4 * m ≤ length es
-  pub room : at + 37 * m ≤ length text
+  pub room : at + 38 * m ≤ length text
 
 -- a held graph whose counts fit 16 bits, and room for its text
 pub record Printable (h : Held) (es vs p text : List ℕ) : Type 0 where

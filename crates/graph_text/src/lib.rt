@@ -3,7 +3,7 @@ ghost use mathlib.Core.Bool.{cond};
 ghost use Prim.Native.Nat.{_+_, _*_, _<_, _≤_};
 ghost use lib.ListN.{length};
 ghost use Rattle.defs.specs.Lists.{concat, tab};
-ghost use Rattle.store.specs.Store.{isSet, edgeIn, seqIn};
+ghost use Rattle.store.specs.Store.{edgeIn, seqIn};
 ghost use Rattle.text.specs.Printed.{ascii, firstLine, endName, secondLine, vertexLine, edgeLine, printedGraph, printedRefusal};
 ghost use Rattle.text.specs.Put.{TextPut};
 ghost use Rattle.graph_text.specs.GraphText.{endWithNumber, simplifiedIn, sizeIn, VertexFits, verticesMost, graphMost, VerticesFit, EdgeLinesFit, Printable};
@@ -76,30 +76,42 @@ fn put_vertices(text: &mut [u8], at: usize, vs: &[u32], p: &[u8], n: usize) -> u
     to
 }
 
-// r for a reference edge, else -, and the line's end.
-fn put_flag(text: &mut [u8], at: usize, flag: u32) -> usize
-    requires { ⌜ at + 3 ≤ length (now text) ⌝ }
-    ensures { λ r. ⌜ TextPut 3 (cond (isSet flag) (ascii " r\n") (ascii " -\n")) (now (text .entry)) at r (now (text .exit)) ⌝ }
+// r for a reference edge, else -.
+fn put_ref(text: &mut [u8], at: usize, reference: bool) -> usize
+    requires { ⌜ at + 2 ≤ length (now text) ⌝ }
+    ensures { λ r. ⌜ TextPut 2 (cond reference (ascii " r") (ascii " -")) (now (text .entry)) at r (now (text .exit)) ⌝ }
 {
-    if flag == 0 {
-        return text::put_bytes(text, at, b" -\n");
+    if reference {
+        return text::put_bytes(text, at, b" r");
     }
-    text::put_bytes(text, at, b" r\n")
+    text::put_bytes(text, at, b" -")
+}
+
+// c for a capped edge, and the line's end.
+fn put_capped(text: &mut [u8], at: usize, capped: bool) -> usize
+    requires { ⌜ at + 2 ≤ length (now text) ⌝ }
+    ensures { λ r. ⌜ TextPut 2 (cond capped (ascii "c\n") (ascii "\n")) (now (text .entry)) at r (now (text .exit)) ⌝ }
+{
+    if capped {
+        return text::put_bytes(text, at, b"c\n");
+    }
+    text::put_bytes(text, at, b"\n")
 }
 
 fn put_edge(text: &mut [u8], at: usize, es: &[u32], i: usize) -> usize
-    requires { ⌜ (at + 37 ≤ length (now text)) × (4 * i + 4 ≤ length (now es)) ⌝ }
-    ensures { λ r. ⌜ TextPut 37 (edgeLine (edgeIn (now (es .entry)) i)) (now (text .entry)) at r (now (text .exit)) ⌝ }
+    requires { ⌜ (at + 38 ≤ length (now text)) × (4 * i + 4 ≤ length (now es)) ⌝ }
+    ensures { λ r. ⌜ TextPut 38 (edgeLine (edgeIn (now (es .entry)) i)) (now (text .entry)) at r (now (text .exit)) ⌝ }
 {
     let mut to = text::put_field(text, at, b"e ", store::edge_from(es, i));
     to = text::put_field(text, to, b" ", store::edge_to(es, i));
     to = text::put_field(text, to, b" ", store::edge_support(es, i));
-    put_flag(text, to, store::edge_flag(es, i))
+    to = put_ref(text, to, store::edge_is_ref(es, i));
+    put_capped(text, to, store::edge_is_capped(es, i))
 }
 
 fn put_edges(text: &mut [u8], at: usize, es: &[u32], m: usize) -> usize
     requires { ⌜ EdgeLinesFit m (now es) (now text) at ⌝ }
-    ensures { λ r. ⌜ TextPut (37 * m) (concat (tab m (λ i. edgeLine (edgeIn (now (es .entry)) i)))) (now (text .entry)) at r (now (text .exit)) ⌝ }
+    ensures { λ r. ⌜ TextPut (38 * m) (concat (tab m (λ i. edgeLine (edgeIn (now (es .entry)) i)))) (now (text .entry)) at r (now (text .exit)) ⌝ }
 {
     let mut to = at;
     let mut i = 0;

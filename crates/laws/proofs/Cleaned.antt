@@ -100,7 +100,7 @@ spells-as e w = rw e at w
 -- an empty second vertex keeps the string of the first
 module _ (g : Graph) (sound : Sound g) (v : List ℕ) (is : g .verts ≡ v ∷ []) where
   abbrev pub dummy : Edge
-  dummy = record { from = 0; to = 1; support = 0; isRef = true }
+  dummy = record { from = 0; to = 1; support = 0; isRef = true; capped = false }
 
   abbrev pub H : Graph
   H = record { k = g .k; verts = v ∷ [] ∷ []; edges = dummy ∷ [] }
@@ -180,7 +180,7 @@ pub sink-nil : (g : Graph) → g .verts ≡ [] → withDummyVertex g ≡ g
 sink-nil g t = sink-big (g .k) (g .verts) (g .edges) (λ e. omega (arith, ap length t))
 
 pub sink-one : (g : Graph) (v : List ℕ) → g .verts ≡ v ∷ [] → withDummyVertex g
-    ≡ record { k = g .k; verts = v ∷ [] ∷ []; edges = record { from = 0; to = 1; support = 0; isRef = true } ∷ [] }
+    ≡ record { k = g .k; verts = v ∷ [] ∷ []; edges = record { from = 0; to = 1; support = 0; isRef = true; capped = false } ∷ [] }
 unfolding withDummyVertex
 sink-one g v t = rw (t, withDummyVertex)
 

@@ -11,7 +11,7 @@ use lib.Dec.{eqb}
 use lib.ListN.{length, getD, length-append}
 use borrow.Author.Tests.{eqb-true, eq-eqb, ne-eqb}
 use Rattle.defs.specs.Lists.{keepIf, keepAt, bit, concat, rank}
-use Rattle.defs.specs.SeqGraph.{Edge, hasEnds, addOrUpdateEdge, addOrUpdateEdges, keeps, remapEdge}
+use Rattle.defs.specs.SeqGraph.{Edge, EdgeData, edgeData, newEdge, hasEnds, addOrUpdateEdge, addOrUpdateEdges, keeps, remapEdge}
 use Rattle.defs.specs.Rewrites.{nonEmpty}
 use Rattle.laws.proofs.Walks.{byTest}
 use Rattle.laws.proofs.ListLaws.{clash, and-split, and-true, keepIf-yes, keepIf-no, of-keepIf, keepAt-yes, keepAt-no, rank-inj}
@@ -124,19 +124,19 @@ pub ends-join : (u v : ℕ) (e : Edge) → u ≡ e .from → v ≡ e .to → has
 unfolding hasEnds
 ends-join u v e p q = and-true _ _ (eq-eqb _ _ (sym p)) (eq-eqb _ _ (sym q))
 
-pub single-raise : (u v s : ℕ) (r : Bool) (es : List Edge) → Single es → Single (addOrUpdateEdge u v s r es)
-unfolding addOrUpdateEdge
-single-raise u v s r [] h = (λ l. List·Memᴰ·not-nil (l .1), tt)
-single-raise u v s r (e ∷ es) h =
+pub single-raise : (u v : ℕ) (d : EdgeData) (es : List Edge) → Single es → Single (addOrUpdateEdge u v d es)
+unfolding addOrUpdateEdge newEdge
+single-raise u v d [] h = (λ l. List·Memᴰ·not-nil (l .1), tt)
+single-raise u v d (e ∷ es) h =
     byTest (hasEnds u v e)
-    (λ t. rw (raise-yes u v s r e es t) h)
-    (λ t. rw (raise-no u v s r e es t)
-    (λ l. of-raise u v s r es (e .from) (e .to) l (h .0) (λ p q. clash (ends-join u v e p q) t), single-raise u v s r es (h .1)))
+    (λ t. rw (raise-yes u v d e es t) h)
+    (λ t. rw (raise-no u v d e es t)
+    (λ l. of-raise u v d es (e .from) (e .to) l (h .0) (λ p q. clash (ends-join u v e p q) t), single-raise u v d es (h .1)))
 
 pub single-raiseAll : (ns es : List Edge) → Single es → Single (addOrUpdateEdges ns es)
 unfolding addOrUpdateEdges
 single-raiseAll [] es h = h
-single-raiseAll (n ∷ ns) es h = single-raiseAll ns _ (single-raise (n .from) (n .to) (n .support) (n .isRef) es h)
+single-raiseAll (n ∷ ns) es h = single-raiseAll ns _ (single-raise (n .from) (n .to) (edgeData n) es h)
 
 -- those of a restriction
 module _ (p : ℕ → Bool) where
@@ -162,24 +162,24 @@ module _ (p : ℕ → Bool) where
       (λ t. rw (keepIf-no both e es t) (single-renumber es (h .1)))
 
   -- each new edge adds at most one
-  sum-raise : (u v s : ℕ) (r : Bool) (es : List Edge) → total (λ e. bit (both e)) (addOrUpdateEdge u v s r es) ≤ suc (total (λ e. bit (both e)) es)
-  unfolding addOrUpdateEdge total
-  sum-raise u v s r [] = omega (arith, bit-le (p u && p v))
-  sum-raise u v s r (e ∷ es) =
+  sum-raise : (u v : ℕ) (d : EdgeData) (es : List Edge) → total (λ e. bit (both e)) (addOrUpdateEdge u v d es) ≤ suc (total (λ e. bit (both e)) es)
+  unfolding addOrUpdateEdge newEdge total
+  sum-raise u v d [] = omega (arith, bit-le (p u && p v))
+  sum-raise u v d (e ∷ es) =
       byTest (hasEnds u v e)
-      (λ t. rw (raise-yes u v s r e es t) (omega arith))
-      (λ t. rw (raise-no u v s r e es t) (omega (arith, sum-raise u v s r es)))
+      (λ t. rw (raise-yes u v d e es t) (omega arith))
+      (λ t. rw (raise-no u v d e es t) (omega (arith, sum-raise u v d es)))
 
-  count-raise : (u v s : ℕ) (r : Bool) (es : List Edge) → length (keepIf both (addOrUpdateEdge u v s r es)) ≤ suc (length (keepIf both es))
-  count-raise u v s r es = rw (length-keepIf both (addOrUpdateEdge u v s r es), length-keepIf both es) (sum-raise u v s r es)
+  count-raise : (u v : ℕ) (d : EdgeData) (es : List Edge) → length (keepIf both (addOrUpdateEdge u v d es)) ≤ suc (length (keepIf both es))
+  count-raise u v d es = rw (length-keepIf both (addOrUpdateEdge u v d es), length-keepIf both es) (sum-raise u v d es)
 
   pub count-raiseAll : (ns es : List Edge) → length (keepIf both (addOrUpdateEdges ns es)) ≤ length ns + length (keepIf both es)
   unfolding addOrUpdateEdges
   count-raiseAll [] es = omega arith
   count-raiseAll (n ∷ ns) es = omega (
     arith,
-    count-raiseAll ns (addOrUpdateEdge (n .from) (n .to) (n .support) (n .isRef) es),
-    count-raise (n .from) (n .to) (n .support) (n .isRef) es,
+    count-raiseAll ns (addOrUpdateEdge (n .from) (n .to) (edgeData n) es),
+    count-raise (n .from) (n .to) (edgeData n) es,
   )
 
 -- the members that pass one of several tests
@@ -245,13 +245,13 @@ module _ (p : ℕ → Bool) where
   unfolding bit
   gone-cons e es = byTest (goes e) (λ t. rw (keepIf-yes goes e es t, t) (omega arith)) (λ t. rw (keepIf-no goes e es t, t) (omega arith))
 
-  gone-raise : (u v s : ℕ) (r : Bool) (es : List Edge) → p u ≡ true → p v ≡ true → length (keepIf goes (addOrUpdateEdge u v s r es)) ≡ length (keepIf goes es)
-  unfolding addOrUpdateEdge keepIf
-  gone-raise u v s r [] a b = rw (a, b)
-  gone-raise u v s r (e ∷ es) a b = byTest (hasEnds u v e)
-      (λ t. rw (raise-yes u v s r e es t) (gone-cons _ es ∙ sym (gone-cons e es)))
-      (λ t. rw (raise-no u v s r e es t) (gone-cons e (addOrUpdateEdge u v s r es)
-      ∙ (ap (λ z. bit (goes e) + z) (gone-raise u v s r es a b) ∙ sym (gone-cons e es))))
+  gone-raise : (u v : ℕ) (d : EdgeData) (es : List Edge) → p u ≡ true → p v ≡ true → length (keepIf goes (addOrUpdateEdge u v d es)) ≡ length (keepIf goes es)
+  unfolding addOrUpdateEdge newEdge keepIf
+  gone-raise u v d [] a b = rw (a, b)
+  gone-raise u v d (e ∷ es) a b = byTest (hasEnds u v e)
+      (λ t. rw (raise-yes u v d e es t) (gone-cons _ es ∙ sym (gone-cons e es)))
+      (λ t. rw (raise-no u v d e es t) (gone-cons e (addOrUpdateEdge u v d es)
+      ∙ (ap (λ z. bit (goes e) + z) (gone-raise u v d es a b) ∙ sym (gone-cons e es))))
 
   pub gone-raiseAll : (ns es : List Edge) → ((n : Edge) → List·Memᴰ n ns → (p (n .from) ≡ true) × (p (n .to) ≡ true))
       → length (keepIf goes (addOrUpdateEdges ns es)) ≡ length (keepIf goes es)
@@ -259,5 +259,5 @@ module _ (p : ℕ → Bool) where
   gone-raiseAll [] es k = refl
   gone-raiseAll (n ∷ ns) es k =
       let a = k n (List·Memᴰ·head refl) in
-      gone-raiseAll ns (addOrUpdateEdge (n .from) (n .to) (n .support) (n .isRef) es) (λ x m. k x (List·Memᴰ·tail m))
-      ∙ gone-raise (n .from) (n .to) (n .support) (n .isRef) es (a .0) (a .1)
+      gone-raiseAll ns (addOrUpdateEdge (n .from) (n .to) (edgeData n) es) (λ x m. k x (List·Memᴰ·tail m))
+      ∙ gone-raise (n .from) (n .to) (edgeData n) es (a .0) (a .1)

@@ -11,9 +11,9 @@ use lib.Dec.{eqb, ltb, leb}
 use lib.ListN.{length, getD, length-map, length-append, drop}
 use borrow.Author.Tests.{eqb-true, eq-eqb, ltb-true, leb-true, not-true}
 use Rattle.defs.specs.Lists.{keepIf, headOr, allOf, bit, commonPrefix, commonSuffix}
-use Rattle.defs.specs.SeqGraph.{Edge, Graph, nodeCount, vertexSequence, edgesInto, edgesFrom, outgoingNodes, outDegree, inDegree, Change}
+use Rattle.defs.specs.SeqGraph.{Edge, Graph, nodeCount, vertexSequence, edgesInto, edgesFrom, outgoingNodes, outDegree, inDegree, Change, EdgeData}
 use Rattle.defs.specs.SeqGraph.{withAdditions, applyChange}
-use Rattle.defs.specs.Rewrites.{MidPlan, EdgeData, midPlan, hasRemaining, nonEmpty, prefixToSuffix, isNone, onlyIf, splitAndUpdateWith}
+use Rattle.defs.specs.Rewrites.{MidPlan, midPlan, hasRemaining, nonEmpty, prefixToSuffix, isNone, onlyIf, splitAndUpdateWith}
 use Rattle.defs.specs.Rewrites.{splitAndUpdate, isDiamond, tryMergeDiamond, isTails, tryMergeTails}
 use Rattle.defs.specs.Strings.{HasEdge}
 use Rattle.laws.proofs.SplitForms.{splitOf, diamond-parts, tails-parts}

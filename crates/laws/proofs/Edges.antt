@@ -14,7 +14,7 @@ use lib.Seq.{getD-append-add}
 use borrow.Author.Tests.{eqb-true, eqb-false, eq-eqb, ne-eqb, not-true, not-false}
 use Rattle.defs.specs.Lists.{keepIf, elemOf, allOf}
 use Rattle.defs.specs.SeqGraph.{Edge, Graph, nodeCount, vertexSequence, hasEnds, addOrUpdateEdge, addOrUpdateEdges, edgesInto, edgesFrom}
-use Rattle.defs.specs.SeqGraph.{incomingNodes, outgoingNodes, outDegree, inDegree, keeps, Change, withAdditions}
+use Rattle.defs.specs.SeqGraph.{EdgeData, edgeData, newEdge, joinedData, incomingNodes, outgoingNodes, outDegree, inDegree, keeps, Change, withAdditions}
 use Rattle.defs.specs.Strings.{HasEdge}
 use Rattle.laws.proofs.Walks.{byTest}
 use Rattle.laws.proofs.ListLaws.{clash, and-split, and-true, mem-keepIf, of-keepIf}
@@ -35,57 +35,51 @@ pub joins-ends : (u v : ℕ) (e : Edge) → hasEnds u v e ≡ true → (e .from 
 unfolding hasEnds
 joins-ends u v e t = let h = and-split _ _ t in (eqb-true _ _ (h .0), eqb-true _ _ (h .1))
 
-module _ (u v s : ℕ) (r : Bool) where
-  pub raise-yes : (e : Edge) (es : List Edge) → hasEnds u v e ≡ true
-      → addOrUpdateEdge u v s r (e ∷ es) ≡ record {
-        from = e .from;
-        to = e .to;
-        support =
-            Rattle.defs.specs.SeqGraph.saturatingAdd (e .support) s;
-        isRef = e .isRef || r;
-      } ∷ es
+module _ (u v : ℕ) (d : EdgeData) where
+  pub raise-yes : (e : Edge) (es : List Edge) → hasEnds u v e ≡ true → addOrUpdateEdge u v d (e ∷ es) ≡ newEdge (e .from) (e .to) (joinedData (edgeData e) d) ∷ es
   unfolding addOrUpdateEdge
   raise-yes e es t = rw (t, addOrUpdateEdge)
 
-  pub raise-no : (e : Edge) (es : List Edge) → hasEnds u v e ≡ false → addOrUpdateEdge u v s r (e ∷ es) ≡ e ∷ addOrUpdateEdge u v s r es
+  pub raise-no : (e : Edge) (es : List Edge) → hasEnds u v e ≡ false → addOrUpdateEdge u v d (e ∷ es) ≡ e ∷ addOrUpdateEdge u v d es
   unfolding addOrUpdateEdge
   raise-no e es t = rw (t, addOrUpdateEdge)
 
-  pub raise-keeps : (es : List Edge) (a b : ℕ) → Linked es a b → Linked (addOrUpdateEdge u v s r es) a b
+  pub raise-keeps : (es : List Edge) (a b : ℕ) → Linked es a b → Linked (addOrUpdateEdge u v d es) a b
+  unfolding newEdge
   raise-keeps [] a b l = absurd (List·Memᴰ·not-nil (l .1))
   raise-keeps (e ∷ es) a b l =
       byTest (hasEnds u v e)
       (λ t. rw (raise-yes e es t) (linked-cases e es a b l (λ p q. (_, List·Memᴰ·head refl, p, q)) (linked-tail a b)))
       (λ t. rw (raise-no e es t) (linked-cases e es a b l (λ p q. (e, List·Memᴰ·head refl, p, q)) (λ k. linked-tail a b (raise-keeps es a b k))))
 
-  pub raise-adds : (es : List Edge) → Linked (addOrUpdateEdge u v s r es) u v
-  unfolding addOrUpdateEdge
+  pub raise-adds : (es : List Edge) → Linked (addOrUpdateEdge u v d es) u v
+  unfolding addOrUpdateEdge newEdge
   raise-adds [] = (_, List·Memᴰ·head refl, refl, refl)
   raise-adds (e ∷ es) =
       byTest (hasEnds u v e)
       (λ t. rw (raise-yes e es t) (_, List·Memᴰ·head refl, (joins-ends u v e t) .0, (joins-ends u v e t) .1))
       (λ t. rw (raise-no e es t) (linked-tail u v (raise-adds es)))
 
-  pub of-raise : {X : Type 0} (es : List Edge) (a b : ℕ) → Linked (addOrUpdateEdge u v s r es) a b → (Linked es a b → X) → (u ≡ a → v ≡ b → X) → X
-  unfolding addOrUpdateEdge
+  pub of-raise : {X : Type 0} (es : List Edge) (a b : ℕ) → Linked (addOrUpdateEdge u v d es) a b → (Linked es a b → X) → (u ≡ a → v ≡ b → X) → X
+  unfolding addOrUpdateEdge newEdge
   of-raise [] a b l k h = linked-cases _ [] a b l h k
   of-raise (e ∷ es) a b l k h =
       byTest (hasEnds u v e)
       (λ t. linked-cases _ es a b (rw (raise-yes e es t) at l) (λ p q. k (e, List·Memᴰ·head refl, p, q)) (λ m. k (linked-tail a b m)))
-      (λ t. linked-cases e (addOrUpdateEdge u v s r es) a b (rw (raise-no e es t) at l) (λ p q. k (e, List·Memᴰ·head refl, p, q)) (λ m.
+      (λ t. linked-cases e (addOrUpdateEdge u v d es) a b (rw (raise-no e es t) at l) (λ p q. k (e, List·Memᴰ·head refl, p, q)) (λ m.
       of-raise es a b m (λ n. k (linked-tail a b n)) h))
 
 pub raiseAll-keeps : (ns es : List Edge) (a b : ℕ) → Linked es a b → Linked (addOrUpdateEdges ns es) a b
 unfolding addOrUpdateEdges
 raiseAll-keeps [] es a b l = l
-raiseAll-keeps (n ∷ ns) es a b l = raiseAll-keeps ns _ a b (raise-keeps (n .from) (n .to) (n .support) (n .isRef) es a b l)
+raiseAll-keeps (n ∷ ns) es a b l = raiseAll-keeps ns _ a b (raise-keeps (n .from) (n .to) (edgeData n) es a b l)
 
 pub raiseAll-adds : (ns es : List Edge) (a b : ℕ) → Linked ns a b → Linked (addOrUpdateEdges ns es) a b
 unfolding addOrUpdateEdges
 raiseAll-adds [] es a b l = absurd (List·Memᴰ·not-nil (l .1))
 raiseAll-adds (n ∷ ns) es a b l =
     linked-cases n ns a b l
-    (λ p q. raiseAll-keeps ns _ a b (rw (← p, ← q) (raise-adds (n .from) (n .to) (n .support) (n .isRef) es)))
+    (λ p q. raiseAll-keeps ns _ a b (rw (← p, ← q) (raise-adds (n .from) (n .to) (edgeData n) es)))
     (λ m. raiseAll-adds ns _ a b m)
 
 pub of-raiseAll : {X : Type 0} (ns es : List Edge) (a b : ℕ) → Linked (addOrUpdateEdges ns es) a b → (Linked es a b → X) → (Linked ns a b → X) → X
@@ -93,7 +87,7 @@ unfolding addOrUpdateEdges
 of-raiseAll [] es a b l k h = k l
 of-raiseAll (n ∷ ns) es a b l k h =
     of-raiseAll ns _ a b l
-    (λ m. of-raise (n .from) (n .to) (n .support) (n .isRef) es a b m k (λ p q. h (n, List·Memᴰ·head refl, p, q)))
+    (λ m. of-raise (n .from) (n .to) (edgeData n) es a b m k (λ p q. h (n, List·Memᴰ·head refl, p, q)))
     (λ m. h (linked-tail a b m))
 
 -- membership by test

@@ -11,10 +11,10 @@ use lib.Dec.{ltb}
 use lib.ListN.{length, length-map}
 use borrow.Author.Tests.{ltb-true}
 use Rattle.defs.specs.Lists.{concat}
-use Rattle.defs.specs.SeqGraph.{Edge, Graph, nodeCount, incomingNodes, edgesInto, edgesFrom, keeps, Change, withAdditions, applyChange}
+use Rattle.defs.specs.SeqGraph.{Edge, Graph, nodeCount, incomingNodes, edgesInto, edgesFrom, keeps, Change, withAdditions, applyChange, newEdge, edgeData}
 use Rattle.defs.specs.Zip.{lastOf, moveFrom}
 use Rattle.defs.specs.Rewrites.{mergesSuffices, isMerge, tryMergeDiamond, tryMergeTails, trySplitCommonSuffix, tryMergeCommonSuffices}
-use Rattle.defs.specs.Rewrites.{mergeChange, redirectedTo, redirectedFrom, newEdge, edgeData}
+use Rattle.defs.specs.Rewrites.{mergeChange, redirectedTo, redirectedFrom}
 use Rattle.defs.specs.Strings.{HasEdge}
 use Rattle.laws.proofs.ListLaws.{given-some, and-split}
 use Rattle.laws.proofs.Nets.{Bounded, Ranks}

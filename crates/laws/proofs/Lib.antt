@@ -31,3 +31,5 @@ pub mod Cleaned
 pub mod Stops
 pub mod Room
 pub mod SplitForms
+pub mod Flags
+pub mod Capped

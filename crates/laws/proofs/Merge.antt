@@ -13,9 +13,9 @@ use lib.Dec.{eqb, ltb}
 use lib.ListN.{length, getD}
 use borrow.Author.Tests.{eqb-true, ltb-true, eq-eqb, ne-eqb}
 use Rattle.defs.specs.Lists.{headOr, concat, sameList, allOf}
-use Rattle.defs.specs.SeqGraph.{Edge, Graph, nodeCount, vertexSequence, edgesInto, edgesFrom, incomingNodes, outDegree, inDegree, keeps}
+use Rattle.defs.specs.SeqGraph.{Edge, Graph, nodeCount, vertexSequence, edgesInto, edgesFrom, incomingNodes, outDegree, inDegree, keeps, newEdge, edgeData}
 use Rattle.defs.specs.SeqGraph.{Change, withAdditions, applyChange, removeVerticesById, compactVertices}
-use Rattle.defs.specs.Rewrites.{mergesSuffices, isMerge, tryMergeCommonSuffices, mergeChange, redirectedTo, redirectedFrom, newEdge, edgeData}
+use Rattle.defs.specs.Rewrites.{mergesSuffices, isMerge, tryMergeCommonSuffices, mergeChange, redirectedTo, redirectedFrom}
 use Rattle.defs.specs.Strings.{HasEdge, Spells}
 use Rattle.laws.proofs.Sound.{Sound, Keeps}
 use Rattle.laws.proofs.Walks.{Net, Pt, start, at, stop, Go, text, IsSource, IsSink, Steps, stay, step, single, then, cast, Reads}

@@ -3,7 +3,7 @@
 use Prim.Native.Nat.{ℕ, suc, _≤_, _<_}
 use native.Mathlib.Omega.{arith}
 use mathlib.Core.Path.{_≡_, ap, _∙_}
-use mathlib.Core.Bool.{Bool, true}
+use mathlib.Core.Bool.{Bool, true, false}
 use mathlib.Core.Option.{Option, none, some}
 use mathlib.Core.List.{List, [], _∷_, List·Memᴰ·not-nil, List·Memᴰ·eq-of-singleton}
 use lib.ListN.{length}
@@ -90,7 +90,7 @@ unfolding removePathsNotConnectedToRef
 between-narrow h s t k = narrow-restrict _ h k
 
 -- the empty second vertex
-two-fit : (k : ℕ) (v : List ℕ) → Fits record { k = k; verts = v ∷ [] ∷ []; edges = record { from = 0; to = 1; support = 0; isRef = true } ∷ [] }
+two-fit : (k : ℕ) (v : List ℕ) → Fits record { k = k; verts = v ∷ [] ∷ []; edges = record { from = 0; to = 1; support = 0; isRef = true; capped = false } ∷ [] }
 unfolding nodeCount
 two-fit k v = record {
   vertices = omega arith;
@@ -106,10 +106,10 @@ two-fit k v = record {
   );
 }
   where
-    bound : (e : Edge) → e ≡ record { from = 0; to = 1; support = 0; isRef = true } → (e .from < 2) × (e .to < 2)
+    bound : (e : Edge) → e ≡ record { from = 0; to = 1; support = 0; isRef = true; capped = false } → (e .from < 2) × (e .to < 2)
     bound e i = (omega (arith, ap (λ (x : Edge). x .from) i), omega (arith, ap (λ (x : Edge). x .to) i))
 
-    rise : (a b : ℕ) {e : Edge} → e ≡ record { from = 0; to = 1; support = 0; isRef = true } → e .from ≡ a → e .to ≡ b → a < b
+    rise : (a b : ℕ) {e : Edge} → e ≡ record { from = 0; to = 1; support = 0; isRef = true; capped = false } → e .from ≡ a → e .to ≡ b → a < b
     rise a b {e} i p q = omega (arith, ap (λ (x : Edge). x .from) i, ap (λ (x : Edge). x .to) i)
 
 pub withSink-fits : (g : Graph) → Fits g → Fits (withDummyVertex g)

@@ -14,9 +14,9 @@ use borrow.Author.Tests.{eqb-true, eqb-false, eq-eqb, ne-eqb}
 use Rattle.defs.specs.Lists.{keepIf, bit, concat}
 use Rattle.defs.specs.SeqGraph.{Edge, Graph, nodeCount, vertexSequence, hasEnds, addOrUpdateEdge, addOrUpdateEdges, keeps, Change}
 use Rattle.defs.specs.SeqGraph.{withAdditions, applyChange, removeVerticesById, compactVertices, remapEdge, inDegree, outDegree, edgesInto}
-use Rattle.defs.specs.SeqGraph.{edgesFrom, outgoingNodes}
-use Rattle.defs.specs.Rewrites.{MidPlan, EdgeData, hasRemaining, nonEmpty, prefixToSuffix, onlyIf, isNone, edgesToMiddles, edgesFromMiddles}
-use Rattle.defs.specs.Rewrites.{newEdgeIf, newEdge, splitAndUpdateWith}
+use Rattle.defs.specs.SeqGraph.{EdgeData, edgeData, newEdge, edgesFrom, outgoingNodes}
+use Rattle.defs.specs.Rewrites.{MidPlan, hasRemaining, nonEmpty, prefixToSuffix, onlyIf, isNone, edgesToMiddles, edgesFromMiddles}
+use Rattle.defs.specs.Rewrites.{newEdgeIf, splitAndUpdateWith}
 use Rattle.defs.specs.Strings.{HasEdge}
 use Rattle.laws.proofs.Walks.{byTest}
 use Rattle.laws.proofs.ListLaws.{clash, and-split, of-keepIf, keepIf-yes, keepIf-no}
@@ -55,27 +55,27 @@ total-const x (y ∷ l) c h n = omega (arith, total-le (λ _. c) (λ _. x) l (λ
 pub raiseAll-append : (xs ys es : List Edge) → addOrUpdateEdges (xs ++ ys) es ≡ addOrUpdateEdges ys (addOrUpdateEdges xs es)
 unfolding addOrUpdateEdges
 raiseAll-append [] ys es = refl
-raiseAll-append (x ∷ xs) ys es = raiseAll-append xs ys (addOrUpdateEdge (x .from) (x .to) (x .support) (x .isRef) es)
+raiseAll-append (x ∷ xs) ys es = raiseAll-append xs ys (addOrUpdateEdge (x .from) (x .to) (edgeData x) es)
 
 module _ (p : ℕ → Bool) where
   abbrev both : Edge → Bool
   both e = p (e .from) && p (e .to)
 
-  sum-known : (u v s : ℕ) (r : Bool) (es : List Edge) → Linked es u v → total (λ e. bit (both e)) (addOrUpdateEdge u v s r es) ≡ total (λ e. bit (both e)) es
-  unfolding total
-  sum-known u v s r [] l = absurd (List·Memᴰ·not-nil (l .1))
-  sum-known u v s r (e ∷ es) l = byTest (hasEnds u v e)
-      (λ t. rw (raise-yes u v s r e es t))
-      (λ t. rw (raise-no u v s r e es t)
-      (linked-cases e es u v l (λ a b. clash (Counts.ends-join u v e (sym a) (sym b)) t) (λ k. ap (λ z. bit (both e) + z) (sum-known u v s r es k))))
+  sum-known : (u v : ℕ) (d : EdgeData) (es : List Edge) → Linked es u v → total (λ e. bit (both e)) (addOrUpdateEdge u v d es) ≡ total (λ e. bit (both e)) es
+  unfolding total newEdge
+  sum-known u v d [] l = absurd (List·Memᴰ·not-nil (l .1))
+  sum-known u v d (e ∷ es) l = byTest (hasEnds u v e)
+      (λ t. rw (raise-yes u v d e es t))
+      (λ t. rw (raise-no u v d e es t)
+      (linked-cases e es u v l (λ a b. clash (Counts.ends-join u v e (sym a) (sym b)) t) (λ k. ap (λ z. bit (both e) + z) (sum-known u v d es k))))
 
   pub count-known : (u v : ℕ) (b : Bool) (o : Option EdgeData) (es : List Edge) → ((l : EdgeData) → o ≡ some l → Linked es u v)
       → length (keepIf both (addOrUpdateEdges (onlyIf b (newEdgeIf u v o)) es)) ≡ length (keepIf both es)
-  unfolding onlyIf newEdgeIf addOrUpdateEdges newEdge
+  unfolding onlyIf newEdgeIf addOrUpdateEdges newEdge edgeData
   count-known u v b none es h = byTest b (λ t. rw t) (λ t. rw t)
   count-known u v b (some l) es h = byTest b
-      (λ t. rw t (length-keepIf both (addOrUpdateEdge u v (l .support) (l .isRef) es)
-      ∙ (sum-known u v (l .support) (l .isRef) es (h l refl) ∙ sym (length-keepIf both es))))
+      (λ t. rw t (length-keepIf both (addOrUpdateEdge u v l es)
+      ∙ (sum-known u v l es (h l refl) ∙ sym (length-keepIf both es))))
       (λ t. rw t)
 
 unfoldable pub loads : Option EdgeData → ℕ

@@ -13,8 +13,8 @@ use lib.Dec.{eqb, ltb}
 use borrow.Author.Tests.{lt-ltb, le-ltb, eq-eqb, ne-eqb}
 use lib.ListN.{length, getD, length-map}
 use Rattle.defs.specs.Lists.{bit, anyOf}
-use Rattle.defs.specs.SeqGraph.{Edge, Graph, nodeCount, vertexSequence, keeps, Change, withAdditions, applyChange, removeVerticesById}
-use Rattle.defs.specs.Rewrites.{MidPlan, EdgeData, newEdge, newEdgeIf, edgesToMiddles, edgesFromMiddles, onlyIf, orElse, isNone, isRefIf, splitAndUpdateWith}
+use Rattle.defs.specs.SeqGraph.{Edge, Graph, nodeCount, vertexSequence, keeps, Change, withAdditions, applyChange, removeVerticesById, EdgeData, newEdge}
+use Rattle.defs.specs.Rewrites.{MidPlan, supportOne, newEdgeIf, edgesToMiddles, edgesFromMiddles, onlyIf, orElse, isNone, isRefIf, splitAndUpdateWith}
 use Rattle.defs.specs.Strings.{HasEdge, Spells}
 use Rattle.laws.proofs.Counts.{total, Distinct}
 use Rattle.laws.proofs.Sound.{Keeps}
@@ -117,10 +117,10 @@ module _ (P S : Bool) (n top : ℕ) (bottom : Option ℕ) (lefts : List MidPlan)
   not-none (some b) e = (b, refl)
 
   abbrev pub first : Edge
-  first = newEdge top n record { support = 1; isRef = anyOf (λ p. p .toMid .isRef) lefts || isRefIf gone }
+  first = newEdge top n (supportOne (anyOf (λ p. p .toMid .isRef) lefts || isRefIf gone))
 
   abbrev pub last : Edge
-  last = newEdge sv (orElse 0 bottom) record { support = 1; isRef = anyOf (λ p. p .fromMid .isRef) lefts || isRefIf gone }
+  last = newEdge sv (orElse 0 bottom) (supportOne (anyOf (λ p. p .fromMid .isRef) lefts || isRefIf gone))
 
   abbrev pub e₁ : List Edge
   e₁ = onlyIf P (first ∷ [])

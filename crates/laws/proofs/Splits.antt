@@ -14,9 +14,9 @@ use lib.ListN.{length, getD, take, length-append, List·getD-append}
 use lib.Seq.{take-at, getD-append-add}
 use borrow.Author.Tests.{eqb-true, eq-eqb, ne-eqb, ltb-true, lt-ltb, le-ltb, leb-true, not-true, not-false}
 use Rattle.defs.specs.Lists.{allOf, elemOf, commonSuffix}
-use Rattle.defs.specs.SeqGraph.{Edge, Graph, nodeCount, vertexSequence, edgesInto, edgesFrom, incomingNodes, outgoingNodes, outDegree}
+use Rattle.defs.specs.SeqGraph.{Edge, Graph, nodeCount, vertexSequence, edgesInto, edgesFrom, incomingNodes, outgoingNodes, outDegree, EdgeData, newEdge, edgeData}
 use Rattle.defs.specs.SeqGraph.{keeps, Change, withAdditions, applyChange}
-use Rattle.defs.specs.Rewrites.{splitsSuffix, splitSuffix, splitChange, EdgeData, newEdge, edgeData, processEdge, redirectedTo}
+use Rattle.defs.specs.Rewrites.{splitsSuffix, splitSuffix, splitChange, processEdge, redirectedTo}
 use Rattle.defs.specs.Rewrites.{suffixAndPrefix, suffixAndPrefixEdges, withoutSuffix, splitVertices, splitEdges, nonEmpty, isSplit}
 use Rattle.defs.specs.Rewrites.{trySplitCommonSuffix, wouldEliminateRefSource}
 use Rattle.defs.specs.Strings.{HasEdge, Spells}

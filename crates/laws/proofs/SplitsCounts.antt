@@ -10,9 +10,9 @@ use lib.Dec.{eqb, ltb}
 use lib.ListN.{length, length-append, length-map}
 use borrow.Author.Tests.{eqb-true, eqb-false, not-true}
 use Rattle.defs.specs.Lists.{allOf, elemOf, commonSuffix}
-use Rattle.defs.specs.SeqGraph.{Edge, Graph, nodeCount, vertexSequence, incomingNodes, outgoingNodes, edgesInto, edgesFrom, inDegree}
+use Rattle.defs.specs.SeqGraph.{Edge, Graph, nodeCount, vertexSequence, incomingNodes, outgoingNodes, edgesInto, edgesFrom, inDegree, EdgeData}
 use Rattle.defs.specs.SeqGraph.{outDegree, Change, applyChange}
-use Rattle.defs.specs.Rewrites.{splitsSuffix, splitSuffix, splitChange, EdgeData, processEdge, redirectedTo, nonEmpty, withoutSuffix}
+use Rattle.defs.specs.Rewrites.{splitsSuffix, splitSuffix, splitChange, processEdge, redirectedTo, nonEmpty, withoutSuffix}
 use Rattle.defs.specs.Rewrites.{suffixAndPrefix, suffixAndPrefixEdges, splitVertices, splitEdges, wouldEliminateRefSource, isSplit}
 use Rattle.defs.specs.Rewrites.{trySplitCommonSuffix}
 use Rattle.defs.specs.Strings.{HasEdge}

@@ -9,13 +9,13 @@ use lib.ListN.{length, getD, set, length-set}
 use lib.Seq.{getD-set-same, getD-set-other}
 use Rattle.defs.specs.Lists.{tab, sum}
 use Rattle.defs.specs.SeqGraph.{Edge}
-use Rattle.defs.specs.Record.{kOf, verticesOf, edgesOf, bytesOf, bytesAt, lengthAt, edgeStart, edgeAt, flagAt, sequenceStart, sequenceAt, decode}
+use Rattle.defs.specs.Record.{flagIsRef, flagIsCapped, kOf, verticesOf, edgesOf, bytesOf, bytesAt, lengthAt, edgeStart, edgeAt, flagAt, sequenceStart, sequenceAt, decode}
 use Rattle.tabs.proofs.Tabs.{tab-ext, set-more}
 use Rattle.tabs.proofs.SumTabs.{sum-none, sum-more, sum-below}
 use Rattle.record.specs.Layout.{WellFormed}
-use Rattle.record.proofs.Fields.{edgeStart-is, isRef-is, sequenceStart-is, sequenceAt-is, bytesAt-is, wholeLength-is}
+use Rattle.record.proofs.Fields.{edgeStart-is, isRef-is, capped-is, sequenceStart-is, sequenceAt-is, bytesAt-is, wholeLength-is}
 use Rattle.record.proofs.Sequences.{length-is}
-use Rattle.store.specs.Store.{isSet, edgeIn, edgesIn, putEdge, putVertex, seqIn, EndsBelow, Within}
+use Rattle.store.specs.Store.{edgeIn, edgesIn, putEdge, putVertex, seqIn, EndsBelow, Within}
 use Rattle.store.proofs.EdgeLaws.{length-put, put-same, put-other}
 use Rattle.pool.proofs.PoolLaws.{part-same}
 use Rattle.memory.specs.declared.Held.{Held}
@@ -29,11 +29,6 @@ pub length-inside : {bs : List ℕ} → WellFormed bs → (i : ℕ) → i < vert
 length-inside {bs} W i h = omega (arith, length-is bs W)
 
 -- ---- edges
-
-flag-set : (f : ℕ) → f ≤ 1 → isSet f ≡ eqb f 1
-flag-set zero h = refl
-flag-set (suc zero) h = refl
-flag-set (suc (suc f)) h = absurd (omega arith)
 
 pub record ReadingEdges (bs es₀ es : List ℕ) (i : ℕ) : Type 0 where
   pub high : i ≤ edgesOf bs
@@ -57,13 +52,16 @@ module _ {bs es₀ es : List ℕ} {i : ℕ} (W : WellFormed bs) (R : ReadingEdge
     };
   }
     where
-      flag-is : isSet f ≡ (edgeAt bs i) .isRef
-      flag-is = ap isSet qf ∙ flag-set (flagAt bs i) ((W .good i h) .flag) ∙ sym (isRef-is bs i)
-
       here : edgeIn es′ i ≡ edgeAt bs i
       here =
           ap (λ (l : List ℕ). edgeIn l i) is ∙ put-same es i a b s f (omega (arith, R .len))
-          ∙ (λ j. record { from = qa j; to = qb j; support = qs j; isRef = flag-is j })
+          ∙ (λ j. record {
+            from = qa j;
+            to = qb j;
+            support = qs j;
+            isRef = (ap flagIsRef qf ∙ sym (isRef-is bs i)) j;
+            capped = (ap flagIsCapped qf ∙ sym (capped-is bs i)) j;
+          })
 
 pub edges-end : {bs es₀ es : List ℕ} {i m : ℕ} → ReadingEdges bs es₀ es i → m ≡ edgesOf bs → m ≤ i → EdgesRead bs m es
 edges-end R q h = record { at = λ k c. R .done .at k (omega arith) }

@@ -176,7 +176,7 @@ module _ {h : Held} {es vs p heads nexts nodes mp : List ℕ} {start c : ℕ}
     last = lastOf start (y ∷ ys)
 
     move-same : (e : Edge) → List·Memᴰ e (g .edges) → movedEdge last start e ≡ moveFrom last (start ∷ y ∷ ys) start e
-    move-same e m = λ i. record { from = source i; to = target i; support = held i; isRef = flag i }
+    move-same e m = λ i. record { from = source i; to = target i; support = held i; isRef = flag i; capped = mark i }
       where
         source : cond (eqb (e .from) last) start (e .from) ≡ (moveFrom last (start ∷ y ∷ ys) start e) .from
         source = byTest (eqb (e .from) last)
@@ -191,6 +191,9 @@ module _ {h : Held} {es vs p heads nexts nodes mp : List ℕ} {start c : ℕ}
 
         flag : e .isRef ≡ (moveFrom last (start ∷ y ∷ ys) start e) .isRef
         flag = unfold moveFrom in refl
+
+        mark : e .capped ≡ (moveFrom last (start ∷ y ∷ ys) start e) .capped
+        mark = unfold moveFrom in refl
 
     map-same : (l : List Edge) → ((e : Edge) → List·Memᴰ e l → List·Memᴰ e (g .edges)) → map (movedEdge last start) l
         ≡ map (moveFrom last (start ∷ y ∷ ys) start) l

@@ -13,7 +13,7 @@ use Rattle.defs.specs.SeqGraph.{Edge}
 use Rattle.laws.proofs.Walks.{byTest}
 use Rattle.tabs.proofs.Tabs.{tab-ext}
 use Rattle.tabs.proofs.SumTabs.{map-tab}
-use Rattle.store.specs.Store.{isSet, edge, edgeIn, edgesIn}
+use Rattle.store.specs.Store.{edge, edgeIn, edgesIn}
 use Rattle.index.specs.Index.{edgeEnd, Next, Index, pairAt, Indexed}
 use Rattle.index.proofs.IndexLaws.{end-first, pair-first}
 use Rattle.merge_linear_chain.specs.Zip.{movedEdge, EdgesMoved}
@@ -89,4 +89,4 @@ module _ {m n : ℕ} {es₀ heads nexts : List ℕ} (I : Indexed m n es₀ heads
           (λ t. rw t (M .kept j (λ w. absurd (eqb-false _ _ t w))))
 
       each : (j : ℕ) → j < m → edgeIn es j ≡ movedEdge last start (edgeIn es₀ j)
-      each j b = λ i. record { from = source j b i; to = M .to-kept j i; support = M .support-kept j i; isRef = isSet (M .flag-kept j i) }
+      each j b = λ i. edge (source j b i) (M .to-kept j i) (M .support-kept j i) (M .flag-kept j i)

@@ -13,6 +13,7 @@ use Rattle.defs.specs.Lists.{tab, keepIf}
 use Rattle.tabs.proofs.Tabs.{tab-snoc, tab-ext, tab-zero}
 use Rattle.tabs.proofs.ListTabs.{keepIf-append}
 use Rattle.store.specs.Store.{isSet, keptBy}
+use Rattle.store.proofs.EdgeLaws.{set-is, set-not}
 use Rattle.merge_linear_chain.specs.Zip.{between, Remappable, Remapped}
 
 -- one more at the end
@@ -79,7 +80,7 @@ module _ {starts₀ : List ℕ} {i count : ℕ} {mp : List ℕ} {n : ℕ} (F : R
     }
       where
         stays : keptBy mp (getD starts₀ t 0) ≡ true
-        stays = rw (← is-old) (Rattle.refs.proofs.RefLaws.set-yes (getD mp v 0) e o)
+        stays = rw (← is-old) (set-is (λ z. o (e ∙ z)))
 
         more-yes : keepIf (keptBy mp) (between starts₀ i t ++ (getD starts₀ t 0 ∷ [])) ≡ keepIf (keptBy mp) (between starts₀ i t) ++ (getD starts₀ t 0 ∷ [])
         more-yes = keepIf-append (keptBy mp) (between starts₀ i t) (getD starts₀ t 0 ∷ []) ∙ rw stays
@@ -98,7 +99,7 @@ module _ {starts₀ : List ℕ} {i count : ℕ} {mp : List ℕ} {n : ℕ} (F : R
     }
       where
         goes : keptBy mp (getD starts₀ t 0) ≡ false
-        goes = rw (← is-old) (Rattle.refs.proofs.RefLaws.set-no (getD mp v 0) e o)
+        goes = rw (← is-old) (set-not (sym e ∙ o))
 
         more-no : keepIf (keptBy mp) (between starts₀ i t ++ (getD starts₀ t 0 ∷ [])) ≡ keepIf (keptBy mp) (between starts₀ i t)
         more-no = keepIf-append (keptBy mp) (between starts₀ i t) (getD starts₀ t 0 ∷ []) ∙ rw (goes, append-nil)

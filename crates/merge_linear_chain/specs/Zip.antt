@@ -42,7 +42,7 @@ pub record ChainWritten (vs p : List ℕ) (used start : ℕ) (nodes : List ℕ) 
 
 -- an edge out of `last` leaves `start`
 abbrev pub movedEdge : ℕ → ℕ → Edge → Edge
-movedEdge last start e = record { from = cond (eqb (e .from) last) start (e .from); to = e .to; support = e .support; isRef = e .isRef }
+movedEdge last start e = record { from = cond (eqb (e .from) last) start (e .from); to = e .to; support = e .support; isRef = e .isRef; capped = e .capped }
 
 pub record EdgesMoved (m : ℕ) (es : List ℕ) (last start : ℕ) (es′ : List ℕ) : Type 0 where
   pub is : edgesIn m es′ ≡ map (movedEdge last start) (edgesIn m es)

@@ -13,9 +13,9 @@ use lib.Seq.{getD-set-same, getD-set-other}
 use lib.Dec.{eqb}
 use borrow.Author.Tests.{eqb-true, eqb-false}
 use Rattle.defs.specs.Lists.{concat, headOr, given}
-use Rattle.defs.specs.SeqGraph.{Edge, Graph, Change, nodeCount, vertexSequence, edgesInto, edgesFrom, incomingNodes, keeps}
+use Rattle.defs.specs.SeqGraph.{Edge, Graph, Change, nodeCount, vertexSequence, edgesInto, edgesFrom, incomingNodes, keeps, newEdge, edgeData}
 use Rattle.defs.specs.SeqGraph.{removeVerticesById, withAdditions, applyChange, addOrUpdateEdges}
-use Rattle.defs.specs.Rewrites.{mergesSuffices, mergeChange, redirectedTo, redirectedFrom, newEdge, edgeData, tryMergeCommonSuffices}
+use Rattle.defs.specs.Rewrites.{mergesSuffices, mergeChange, redirectedTo, redirectedFrom, tryMergeCommonSuffices}
 use Rattle.laws.proofs.Walks.{byTest}
 use Rattle.laws.proofs.ListLaws.{byOrder}
 use Rattle.laws.proofs.Edges.{Linked, of-edgesInto, of-edgesFrom, order-grown}

@@ -24,15 +24,15 @@ use Rattle.non_ref_paths.specs.CleanNonRef.{staysBy, EdgesKept}
 plain-stays : {r : Bool} (x : ℕ) → r ≡ false → eqb x 0 ≡ not (not r && isSet x)
 plain-stays x q = rw q (not-not _)
 
-pub stays-ref : (off : ℕ) (marks es : List ℕ) (e : ℕ) {f : ℕ} → f ≡ getD es (4 * e + 3) 0 → (f ≡ 0 → ⊥) → true ≡ staysBy off marks (edgeIn es e)
+pub stays-ref : (off : ℕ) (marks es : List ℕ) (e : ℕ) → (edgeIn es e) .isRef ≡ true → true ≡ staysBy off marks (edgeIn es e)
 unfolding staysBy
-stays-ref off marks es e q ne = rw (ne-eqb (getD es (4 * e + 3) 0) 0 (λ z. ne (q ∙ z)))
+stays-ref off marks es e t = rw t
 
-pub stays-unmarked : (off : ℕ) (marks es : List ℕ) (e : ℕ) {f x : ℕ} → off ≤ 1 → f ≡ getD es (4 * e + 3) 0 → f ≡ 0
+pub stays-unmarked : (off : ℕ) (marks es : List ℕ) (e : ℕ) {x : ℕ} → off ≤ 1 → (edgeIn es e) .isRef ≡ false
     → x ≡ getD es (4 * e + off) 0 → eqb (getD marks x 0) 0 ≡ staysBy off marks (edgeIn es e)
 unfolding staysBy
-stays-unmarked off marks es e l q z p = ap (λ (x : ℕ). eqb (getD marks x 0) 0) (p ∙ sym (end-is es off e l))
-    ∙ plain-stays (getD marks (endAt off (edgeIn es e)) 0) (ap not (eq-eqb (getD es (4 * e + 3) 0) 0 (sym q ∙ z)))
+stays-unmarked off marks es e l t p = ap (λ (x : ℕ). eqb (getD marks x 0) 0) (p ∙ sym (end-is es off e l))
+    ∙ plain-stays (getD marks (endAt off (edgeIn es e)) 0) t
 
 -- ---- the loop
 

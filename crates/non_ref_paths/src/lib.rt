@@ -19,7 +19,7 @@ fn edge_stays(es: &[u32], e: usize, off: usize, n: usize, marks: &[u8]) -> bool
     requires { ⌜ (4 * e + 4 ≤ length (now es)) × ((off ≤ 1) × ((getD (now es) (4 * e + off) 0 < n) × (n ≤ length (now marks)))) ⌝ }
     ensures { λ r. ⌜ r ≡ staysBy off (now (marks .entry)) (edgeIn (now (es .entry)) e) ⌝ }
 {
-    if store::edge_flag(es, e) != 0 {
+    if store::edge_is_ref(es, e) {
         return true;
     }
     marks[store::edge_end(es, e, off) as usize] == 0

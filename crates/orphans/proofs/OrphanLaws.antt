@@ -225,7 +225,7 @@ rank-all (suc n) = rank-yes (keeps []) n (keeps-other [] n List·Memᴰ·not-nil
 
 renumber-all : (e : Edge) → remapEdge (keeps []) e ≡ e
 unfolding remapEdge
-renumber-all e = λ i. record { from = rank-all (e .from) i; to = rank-all (e .to) i; support = e .support; isRef = e .isRef }
+renumber-all e = λ i. record { from = rank-all (e .from) i; to = rank-all (e .to) i; support = e .support; isRef = e .isRef; capped = e .capped }
 
 edges-all : (l : List Edge) → map (remapEdge (keeps [])) (keepIf (λ (e : Edge). keeps [] (e .from) && keeps [] (e .to)) l) ≡ l
 unfolding keepIf

@@ -1,7 +1,7 @@
 -- The steps of a walk over the edges in slices. Assumes nothing.
 use mathlib.Core.Path.{_≡_, refl, sym, ap, _∙_}
 use mathlib.Core.Logic.{_⊎_, ⊎-elim}
-use mathlib.Core.Bool.{Bool, true, false}
+use mathlib.Core.Bool.{Bool, true, false, not}
 use mathlib.Core.List.{List}
 use Prim.Native.Nat.{ℕ, zero, suc, _+_, _*_, _-_, _≤_, _<_}
 use native.Mathlib.Omega.{arith}
@@ -16,6 +16,7 @@ use Rattle.tabs.proofs.ListTabs.{mem-tab, of-mem-tab}
 use Rattle.store.specs.Store.{edgeIn}
 use Rattle.index.specs.Index.{edgeEnd, endAt}
 use Rattle.index.proofs.IndexLaws.{end-is}
+use Rattle.refs.specs.Refs.{refAt}
 use Rattle.reach.specs.Reach.{stepOf, walkStep, takesEnd, passable, bare}
 
 -- a step by its parts: the end at which it takes the edge
@@ -128,9 +129,9 @@ takes-either zero off a b = absurd (a refl)
 takes-either (suc zero) off a b = absurd (b refl)
 takes-either (suc (suc kind)) off a b = refl
 
-pub pass-plain : (plain : Bool) (es : List ℕ) (e : ℕ) {x : ℕ} → plain ≡ true → x ≡ getD es (4 * e + 3) 0 → eqb x 0 ≡ passable plain es e
+pub pass-plain : (plain : Bool) (es : List ℕ) (e : ℕ) {x : Bool} → plain ≡ true → x ≡ refAt es e → not x ≡ passable plain es e
 unfolding passable
-pass-plain plain es e p q = rw (p, passable) (ap (λ (y : ℕ). eqb y 0) q ∙ not-not _)
+pass-plain plain es e p q = rw (p, passable) (ap not q)
 
 pub pass-any : (plain : Bool) (es : List ℕ) (e : ℕ) → plain ≡ false → true ≡ passable plain es e
 unfolding passable

@@ -25,7 +25,7 @@ fn may_pass(es: &[u32], e: usize, plain: bool) -> bool
     ensures { λ r. ⌜ r ≡ passable plain (now (es .entry)) e ⌝ }
 {
     if plain {
-        return store::edge_flag(es, e) == 0;
+        return !store::edge_is_ref(es, e);
     }
     true
 }

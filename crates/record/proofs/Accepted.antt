@@ -67,7 +67,7 @@ unfolding badEdge
 good-edge bs i h =
     let a = or-false (leb (verticesOf bs) ((edgeAt bs i) .from)) _ h in
     let b = or-false (leb (verticesOf bs) ((edgeAt bs i) .to)) _ (a .1) in
-    record { from = leb-false _ _ (a .0); to = leb-false _ _ (b .0); flag = ltb-false 1 (flagAt bs i) (b .1) }
+    record { from = leb-false _ _ (a .0); to = leb-false _ _ (b .0); flag = ltb-false 3 (flagAt bs i) (b .1) }
 
 stated-is : (bs : List ℕ) → otherLength bs ≡ false → u32At bs 28 ≡ length bs
 unfolding otherLength

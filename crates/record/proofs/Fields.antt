@@ -6,7 +6,8 @@ use mathlib.Core.List.{List}
 use lib.Dec.{eqb}
 use lib.ListN.{getD, take, drop}
 use Rattle.defs.specs.Lists.{tab, sum}
-use Rattle.defs.specs.Record.{u16At, u32At, verticesOf, edgesOf, edgesAt, bytesAt, wholeLength, lengthAt, sequenceStart, sequenceAt, edgeStart, edgeAt, flagAt}
+use Rattle.defs.specs.Record.{u16At, u32At, verticesOf, edgesOf, edgesAt, bytesAt, wholeLength, lengthAt, sequenceStart, sequenceAt, edgeStart, edgeAt}
+use Rattle.defs.specs.Record.{flagIsRef, flagIsCapped, flagAt}
 
 module _ (bs : List ℕ) (i : ℕ) where
   pub lengthAt-is : lengthAt bs i ≡ u16At bs (32 + 2 * i)
@@ -33,9 +34,13 @@ module _ (bs : List ℕ) (i : ℕ) where
   unfolding flagAt
   flagAt-is = refl
 
-  pub isRef-is : (edgeAt bs i) .isRef ≡ eqb (flagAt bs i) 1
+  pub isRef-is : (edgeAt bs i) .isRef ≡ flagIsRef (flagAt bs i)
   unfolding edgeAt
   isRef-is = refl
+
+  pub capped-is : (edgeAt bs i) .capped ≡ flagIsCapped (flagAt bs i)
+  unfolding edgeAt
+  capped-is = refl
 
   pub sequenceStart-is : sequenceStart bs i ≡ bytesAt (verticesOf bs) (edgesOf bs) + sum (tab i (lengthAt bs))
   unfolding sequenceStart

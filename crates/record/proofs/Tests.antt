@@ -269,7 +269,7 @@ module _ (bs : List ℕ) (i : ℕ) where
     unfolding badEdge
     to-past h = simp (lt-leb (verticesOf bs) ((edgeAt bs i) .from) f, le-leb (verticesOf bs) ((edgeAt bs i) .to) h)
 
-    pub ends-below : (edgeAt bs i) .to < verticesOf bs → ltb 1 (flagAt bs i) ≡ badEdge bs i
+    pub ends-below : (edgeAt bs i) .to < verticesOf bs → ltb 3 (flagAt bs i) ≡ badEdge bs i
     unfolding badEdge
     ends-below h = simp (lt-leb (verticesOf bs) ((edgeAt bs i) .from) f, lt-leb (verticesOf bs) ((edgeAt bs i) .to) h)
 

@@ -32,11 +32,11 @@ offsetsDisagree bs =
     || (not (eqb (u32At bs 24) (bytesAt (verticesOf bs) (edgesOf bs)))
     || not (eqb (length bs) (wholeLength (verticesOf bs) (edgesOf bs) (bytesOf bs)))))
 
--- an edge of the record: its ends below V, its flag 0 or 1
+-- an edge of the record: its ends below V, its flag at most 3
 pub record GoodEdge (bs : List ℕ) (i : ℕ) : Type 0 where
   pub from : (edgeAt bs i) .from < verticesOf bs
   pub to : (edgeAt bs i) .to < verticesOf bs
-  pub flag : flagAt bs i ≤ 1
+  pub flag : flagAt bs i ≤ 3
 
 -- none of the causes 1 to 5 is there
 pub record WellFormed (bs : List ℕ) : Type 0 where

@@ -97,7 +97,7 @@ pub fn edge_support_at(rec: &[u8], i: usize) -> u32
     le::u32_at(rec, edge_start(rec, i) + 4)
 }
 
-// The flag as it stands in the record: 1 reference, else 0.
+// The flag as it stands in the record.
 pub fn edge_flag_at(rec: &[u8], i: usize) -> u32
     requires { ⌜ edgeStart (now rec) i + 9 ≤ length (now rec) ⌝ }
     ensures { λ r. ⌜ r ≡ flagAt (now (rec .entry)) i ⌝ }
@@ -265,10 +265,10 @@ fn bad_edge(rec: &[u8], i: usize) -> bool
     if v <= edge_to_at(rec, i) {
         return true;
     }
-    1 < edge_flag_at(rec, i)
+    3 < edge_flag_at(rec, i)
 }
 
-// 5: an edge end not below V, or a flag other than 0 and 1.
+// 5: an edge end not below V, or a flag above 3.
 fn any_bad_edge(rec: &[u8]) -> bool
     requires { ⌜ bytesAt (verticesOf (now rec)) (edgesOf (now rec)) ≤ length (now rec) ⌝ }
     ensures { λ r. ⌜ r ≡ anyBadEdge (now (rec .entry)) ⌝ }

@@ -1,11 +1,11 @@
 -- Adding or joining an edge: where edges stand then, and what stays. Assumes nothing.
 use mathlib.Core.Path.{_≡_, refl, sym, ap, _∙_}
-use mathlib.Core.Bool.{Bool, true, false, _||_}
+use mathlib.Core.Bool.{Bool, true, false}
 use mathlib.Core.List.{List, [], _∷_, List·Memᴰ}
 use Prim.Native.Nat.{ℕ, zero, suc, _≤_, _<_}
 use native.Mathlib.Omega.{arith}
 use lib.ListN.{length, getD}
-use Rattle.defs.specs.SeqGraph.{Edge, hasEnds, saturatingAdd, addOrUpdateEdge, addOrUpdateEdges}
+use Rattle.defs.specs.SeqGraph.{Edge, EdgeData, edgeData, newEdge, joinedData, hasEnds, addOrUpdateEdge, addOrUpdateEdges}
 use Rattle.laws.proofs.Walks.{byTest}
 use Rattle.laws.proofs.Edges.{raise-yes, raise-no, joins-ends, of-raiseAll}
 use Rattle.laws.proofs.Counts.{ends-join}
@@ -29,81 +29,82 @@ ends-same : (a b : ℕ) (e : Edge) (f : Edge) → f .from ≡ e .from → f .to 
 unfolding hasEnds
 ends-same a b e f p q = rw (p, q)
 
-module _ (a b s : ℕ) (r : Bool) where
-  -- the edge with the support and the flag added
+module _ (a b : ℕ) (w : EdgeData) where
+  -- the edge joined with w
   abbrev raised : Edge → Edge
-  raised e = record { from = e .from; to = e .to; support = saturatingAdd (e .support) s; isRef = e .isRef || r }
+  raised e = newEdge (e .from) (e .to) (joinedData (edgeData e) w)
 
   -- the edge from a to b stands where it stood, or at the end
-  pub find-raised : (es : List Edge) → findEdge a b (addOrUpdateEdge a b s r es) ≡ findEdge a b es
-  unfolding addOrUpdateEdge
+  pub find-raised : (es : List Edge) → findEdge a b (addOrUpdateEdge a b w es) ≡ findEdge a b es
+  unfolding addOrUpdateEdge newEdge
   find-raised [] = firstIx-yes (hasEnds a b) _ [] (ends-join a b _ refl refl) ∙ unfold firstIx in refl
   find-raised (e ∷ es) = byTest (hasEnds a b e)
-      (λ t. rw (raise-yes a b s r e es t) (firstIx-yes (hasEnds a b) _ es (ends-same a b e _ refl refl ∙ t) ∙ sym (firstIx-yes (hasEnds a b) e es t)))
-      (λ t. rw (raise-no a b s r e es t) (firstIx-no (hasEnds a b) e _ t ∙ ap suc (find-raised es) ∙ sym (firstIx-no (hasEnds a b) e es t)))
+      (λ t. rw (raise-yes a b w e es t) (firstIx-yes (hasEnds a b) _ es (ends-same a b e _ refl refl ∙ t) ∙ sym (firstIx-yes (hasEnds a b) e es t)))
+      (λ t. rw (raise-no a b w e es t) (firstIx-no (hasEnds a b) e _ t ∙ ap suc (find-raised es) ∙ sym (firstIx-no (hasEnds a b) e es t)))
 
-  pub find-added : (es : List Edge) → findEdge a b (addOrUpdateEdge a b s r es) < length (addOrUpdateEdge a b s r es)
-  unfolding addOrUpdateEdge
-  find-added [] = omega (arith, firstIx-yes (hasEnds a b) record { from = a; to = b; support = s; isRef = r } [] (ends-join a b _ refl refl))
+  pub find-added : (es : List Edge) → findEdge a b (addOrUpdateEdge a b w es) < length (addOrUpdateEdge a b w es)
+  unfolding addOrUpdateEdge newEdge
+  find-added [] = omega (arith, firstIx-yes (hasEnds a b) (newEdge a b w) [] (ends-join a b _ refl refl))
   find-added (e ∷ es) = byTest (hasEnds a b e)
-      (λ t. rw (raise-yes a b s r e es t) (omega (arith, firstIx-yes (hasEnds a b) _ es (ends-same a b e (raised e) refl refl ∙ t))))
-      (λ t. rw (raise-no a b s r e es t) (omega (arith, firstIx-no (hasEnds a b) e (addOrUpdateEdge a b s r es) t, find-added es)))
+      (λ t. rw (raise-yes a b w e es t) (omega (arith, firstIx-yes (hasEnds a b) _ es (ends-same a b e (raised e) refl refl ∙ t))))
+      (λ t. rw (raise-no a b w e es t) (omega (arith, firstIx-no (hasEnds a b) e (addOrUpdateEdge a b w es) t, find-added es)))
 
   -- another edge that is there stands where it stood
-  pub find-other : (c d : ℕ) (es : List Edge) → findEdge c d es < length es → findEdge c d (addOrUpdateEdge a b s r es) ≡ findEdge c d es
+  pub find-other : (c d : ℕ) (es : List Edge) → findEdge c d es < length es → findEdge c d (addOrUpdateEdge a b w es) ≡ findEdge c d es
+  unfolding newEdge
   find-other c d [] h = absurd (omega arith)
   find-other c d (e ∷ es) h = byTest (hasEnds a b e)
-      (λ t. rw (raise-yes a b s r e es t) (head t))
-      (λ t. rw (raise-no a b s r e es t) (tail (find-other c d es)))
+      (λ t. rw (raise-yes a b w e es t) (head t))
+      (λ t. rw (raise-no a b w e es t) (tail (find-other c d es)))
     where
       head : hasEnds a b e ≡ true → firstIx (hasEnds c d) (raised e ∷ es) ≡ findEdge c d (e ∷ es)
       head t = byTest (hasEnds c d e)
           (λ u. firstIx-yes (hasEnds c d) _ es (ends-same c d e _ refl refl ∙ u) ∙ sym (firstIx-yes (hasEnds c d) e es u))
           (λ u. firstIx-no (hasEnds c d) _ es (ends-same c d e _ refl refl ∙ u) ∙ sym (firstIx-no (hasEnds c d) e es u))
 
-      tail : (findEdge c d es < length es → findEdge c d (addOrUpdateEdge a b s r es) ≡ findEdge c d es)
-          → firstIx (hasEnds c d) (e ∷ addOrUpdateEdge a b s r es) ≡ findEdge c d (e ∷ es)
+      tail : (findEdge c d es < length es → findEdge c d (addOrUpdateEdge a b w es) ≡ findEdge c d es)
+          → firstIx (hasEnds c d) (e ∷ addOrUpdateEdge a b w es) ≡ findEdge c d (e ∷ es)
       tail ih = byTest (hasEnds c d e)
           (λ u. firstIx-yes (hasEnds c d) e _ u ∙ sym (firstIx-yes (hasEnds c d) e es u))
           (λ u. firstIx-no (hasEnds c d) e _ u ∙ ap suc (ih (omega (arith, h, firstIx-no (hasEnds c d) e es u))) ∙ sym (firstIx-no (hasEnds c d) e es u))
 
   -- another edge that was not there is not there
   pub find-missing : (c d : ℕ) → ((c ≡ a) → (d ≡ b) → ⊥) → (es : List Edge) → length es ≤ findEdge c d es
-      → findEdge c d (addOrUpdateEdge a b s r es) ≡ length (addOrUpdateEdge a b s r es)
-  unfolding addOrUpdateEdge
-  find-missing c d ne [] h = firstIx-no (hasEnds c d) _ [] (byTest (hasEnds c d record { from = a; to = b; support = s; isRef = r })
+      → findEdge c d (addOrUpdateEdge a b w es) ≡ length (addOrUpdateEdge a b w es)
+  unfolding addOrUpdateEdge newEdge
+  find-missing c d ne [] h = firstIx-no (hasEnds c d) _ [] (byTest (hasEnds c d (newEdge a b w))
       (λ t. absurd (let z = joins-ends c d _ t in ne (sym (z .0)) (sym (z .1)))) (λ t. t)) ∙ unfold firstIx in refl
   find-missing c d ne (e ∷ es) h = byTest (hasEnds c d e)
       (λ u. absurd (omega (arith, h, firstIx-yes (hasEnds c d) e es u)))
       (λ u. byTest (hasEnds a b e)
-      (λ t. rw (raise-yes a b s r e es t) (firstIx-no (hasEnds c d) _ es (ends-same c d e _ refl refl ∙ u) ∙ ap suc (all u)))
-      (λ t. rw (raise-no a b s r e es t) (firstIx-no (hasEnds c d) e _ u ∙ ap suc (find-missing c d ne es (omega (arith, h, firstIx-no (hasEnds c d) e es u))))))
+      (λ t. rw (raise-yes a b w e es t) (firstIx-no (hasEnds c d) _ es (ends-same c d e _ refl refl ∙ u) ∙ ap suc (all u)))
+      (λ t. rw (raise-no a b w e es t) (firstIx-no (hasEnds c d) e _ u ∙ ap suc (find-missing c d ne es (omega (arith, h, firstIx-no (hasEnds c d) e es u))))))
     where
       all : hasEnds c d e ≡ false → findEdge c d es ≡ length es
       all u = omega (arith, h, firstIx-no (hasEnds c d) e es u, first-most (hasEnds c d) es)
 
   -- an edge with other ends stays
-  pub raise-old : (x : Edge) (es : List Edge) (j : ℕ) → j < length es → hasEnds a b (getD es j x) ≡ false → getD (addOrUpdateEdge a b s r es) j x ≡ getD es j x
+  pub raise-old : (x : Edge) (es : List Edge) (j : ℕ) → j < length es → hasEnds a b (getD es j x) ≡ false → getD (addOrUpdateEdge a b w es) j x ≡ getD es j x
   raise-old x [] j h o = absurd (omega arith)
-  raise-old x (e ∷ es) zero h o = rw (raise-no a b s r e es o) refl
+  raise-old x (e ∷ es) zero h o = rw (raise-no a b w e es o) refl
   raise-old x (e ∷ es) (suc j) h o = byTest (hasEnds a b e)
-      (λ t. rw (raise-yes a b s r e es t) refl)
-      (λ t. rw (raise-no a b s r e es t) (raise-old x es j (omega arith) o))
+      (λ t. rw (raise-yes a b w e es t) refl)
+      (λ t. rw (raise-no a b w e es t) (raise-old x es j (omega arith) o))
 
-  pub raise-longer : (es : List Edge) → length es ≤ length (addOrUpdateEdge a b s r es)
-  unfolding addOrUpdateEdge
+  pub raise-longer : (es : List Edge) → length es ≤ length (addOrUpdateEdge a b w es)
+  unfolding addOrUpdateEdge newEdge
   raise-longer [] = omega arith
   raise-longer (e ∷ es) = byTest (hasEnds a b e)
-      (λ t. rw (raise-yes a b s r e es t) (omega arith))
-      (λ t. rw (raise-no a b s r e es t) (omega (arith, raise-longer es)))
+      (λ t. rw (raise-yes a b w e es t) (omega arith))
+      (λ t. rw (raise-no a b w e es t) (omega (arith, raise-longer es)))
 
 pub raiseAll-longer : (ns es : List Edge) → length es ≤ length (addOrUpdateEdges ns es)
 unfolding addOrUpdateEdges
 raiseAll-longer [] es = omega arith
 raiseAll-longer (n ∷ ns) es = omega (
   arith,
-  raise-longer (n .from) (n .to) (n .support) (n .isRef) es,
-  raiseAll-longer ns (addOrUpdateEdge (n .from) (n .to) (n .support) (n .isRef) es),
+  raise-longer (n .from) (n .to) (edgeData n) es,
+  raiseAll-longer ns (addOrUpdateEdge (n .from) (n .to) (edgeData n) es),
 )
 
 pub raiseAll-cons : (n : Edge) (ns es : List Edge) → addOrUpdateEdges (n ∷ ns) es ≡ addOrUpdateEdges ns (addOrUpdateEdges (n ∷ []) es)

@@ -1,4 +1,4 @@
--- EdgeMarks that say where edges stand, and the loop that redirects the edges of a vertex. Assumes nothing.
+-- Marks that say where edges stand, and the loop that redirects the edges of a vertex. Assumes nothing.
 use mathlib.Core.Path.{_≡_, refl, sym, ap, _∙_}
 use mathlib.Core.Bool.{Bool, true, false}
 use mathlib.Core.List.{List, [], _∷_, map}
@@ -9,12 +9,14 @@ use lib.ListN.{length, getD, set, length-set}
 use lib.Seq.{getD-set-same, getD-set-other}
 use lib.Dec.{eqb}
 use borrow.Author.Tests.{ne-eqb, le-leb, lt-leb}
-use Rattle.defs.specs.SeqGraph.{Edge, hasEnds, addOrUpdateEdge, addOrUpdateEdges}
+use Rattle.defs.specs.SeqGraph.{Edge, EdgeData, edgeData, hasEnds, addOrUpdateEdge, addOrUpdateEdges}
 use Rattle.laws.proofs.Walks.{byTest}
 use Rattle.laws.proofs.ListLaws.{byOrder}
 use Rattle.laws.proofs.Edges.{joins-ends}
 use Rattle.tabs.proofs.Tabs.{length-tab, getD-tab}
-use Rattle.store.specs.Store.{isSet, edgeIn, edgesIn, findEdge, Joinable}
+use Rattle.store.specs.Store.{edge, edgeIn, edgesIn, findEdge, carriedAt, Joinable}
+use Rattle.edge_data.specs.EdgeData.{carriedData}
+use Rattle.edge_data.specs.declared.Carried.{Carried}
 use Rattle.store.proofs.EdgeLaws.{no-edge}
 use Rattle.index.specs.Index.{edgeEnd, atFrom, Index, pairAt, endAt}
 use Rattle.index.proofs.AdjLaws.{at-head, at-step, at-end}
@@ -72,9 +74,9 @@ module _ {off y n lo m : ℕ} {es mp : List ℕ} (M : EdgeMarks off y n lo m es 
   pub joinable : {u v : ℕ} → u ≡ newFrom off y x → v ≡ newTo off y x → 4 * m + 4 ≤ length es → Joinable m es at u v
   joinable {u} {v} hu hv r = record { room = r; is = q ∙ M .is x b ∙ (λ i. findEdge (sym hu i) (sym hv i) (edgesIn m es)) }
 
-  module _ (s : ℕ) (r : Bool) (k : ℕ) (es′ : List ℕ) (is : edgesIn k es′ ≡ addOrUpdateEdge (newFrom off y x) (newTo off y x) s r (edgesIn m es)) where
+  module _ (w : EdgeData) (k : ℕ) (es′ : List ℕ) (is : edgesIn k es′ ≡ addOrUpdateEdge (newFrom off y x) (newTo off y x) w (edgesIn m es)) where
     abbrev added : List Edge
-    added = addOrUpdateEdge (newFrom off y x) (newTo off y x) s r (edgesIn m es)
+    added = addOrUpdateEdge (newFrom off y x) (newTo off y x) w (edgesIn m es)
 
     size : length added ≡ k
     size = sym (ap length is) ∙ length-tab k (edgeIn es′)
@@ -83,24 +85,24 @@ module _ {off y n lo m : ℕ} {es mp : List ℕ} (M : EdgeMarks off y n lo m es 
     size-old = length-tab m (edgeIn es)
 
     pub longer : m ≤ k
-    longer = omega (arith, size, size-old, raise-longer (newFrom off y x) (newTo off y x) s r (edgesIn m es))
+    longer = omega (arith, size, size-old, raise-longer (newFrom off y x) (newTo off y x) w (edgesIn m es))
 
     find-new : findEdge (newFrom off y x) (newTo off y x) added ≡ at
-    find-new = find-raised (newFrom off y x) (newTo off y x) s r (edgesIn m es) ∙ sym (q ∙ M .is x b)
+    find-new = find-raised (newFrom off y x) (newTo off y x) w (edgesIn m es) ∙ sym (q ∙ M .is x b)
 
     most-new : (z : ℕ) → z < n → getD (set mp x (at + 1)) z 0 ≤ k
     most-new z c = elim (ℕ-discrete z x) [
       | yes e ↦ rw (e, getD-set-same mp x (at + 1) 0 (omega (arith, M .room)))
-          (omega (arith, find-new, size, find-added (newFrom off y x) (newTo off y x) s r (edgesIn m es)))
+          (omega (arith, find-new, size, find-added (newFrom off y x) (newTo off y x) w (edgesIn m es)))
       | no ne ↦ rw (getD-set-other mp x z (at + 1) 0 ne) (omega (arith, M .most z c, longer))
     ]
 
     other-new : (z : ℕ) → z < n → (z ≡ x → ⊥) → place lo k (getD mp z 0) ≡ findEdge (newFrom off y z) (newTo off y z) added
     other-new z c ne = byOrder (getD mp z 0) lo
-        (λ h. place-low lo k (getD mp z 0) h ∙ sym (find-missing (newFrom off y x) (newTo off y x) s r (newFrom off y z) (newTo off y z)
+        (λ h. place-low lo k (getD mp z 0) h ∙ sym (find-missing (newFrom off y x) (newTo off y x) w (newFrom off y z) (newTo off y z)
         (λ a d. ne (ends-other off y x z a d)) (edgesIn m es) (omega (arith, size-old, M .is z c, place-low lo m (getD mp z 0) h))
         ∙ size))
-        (λ h. place-high lo k (getD mp z 0) h ∙ sym (find-other (newFrom off y x) (newTo off y x) s r (newFrom off y z) (newTo off y z)
+        (λ h. place-high lo k (getD mp z 0) h ∙ sym (find-other (newFrom off y x) (newTo off y x) w (newFrom off y z) (newTo off y z)
         (edgesIn m es) (omega (arith, size-old, M .is z c, place-high lo m (getD mp z 0) h, M .most z c)) ∙ sym (M .is z c)
         ∙ place-high lo m (getD mp z 0) h))
 
@@ -127,30 +129,25 @@ module _ {off y n lo m : ℕ} {es mp : List ℕ} {e : ℕ} (E : OneReady off y n
     pub edge-small : at + 1 < 4294967296
     edge-small = omega (arith, at-most (E .marks) x other-below q, E .small)
 
-    pub one-done : {u v s f k : ℕ} {es′ : List ℕ} → u ≡ newFrom off y x → v ≡ newTo off y x → s ≡ getD es (4 * e + 2) 0 → f ≡ getD es (4 * e + 3) 0
-        → edgesIn k es′ ≡ addOrUpdateEdge u v s (isSet f) (edgesIn m es) → OneDone off y n lo m es e k es′ (set mp x (at + 1))
-    unfolding addOrUpdateEdges
-    one-done {u} {v} {s} {f} {k} {es′} hu hv hs hf is =
-        let z = is ∙ (λ i. addOrUpdateEdge (hu i) (hv i) (hs i) (isSet (hf i)) (edgesIn m es)) in
+    pub one-done : {u v k : ℕ} {d : Carried} {es′ : List ℕ} → u ≡ newFrom off y x → v ≡ newTo off y x → d ≡ carriedAt es e
+        → edgesIn k es′ ≡ addOrUpdateEdge u v (carriedData d) (edgesIn m es) → OneDone off y n lo m es e k es′ (set mp x (at + 1))
+    unfolding addOrUpdateEdges edgeData
+    one-done {u} {v} {k} {d} {es′} hu hv hd is =
+        let z = is ∙ (λ i. addOrUpdateEdge (hu i) (hv i) (carriedData (hd i)) (edgesIn m es)) in
         record {
-          is = z ∙ ap (λ (t : ℕ). addOrUpdateEdge (newFrom off y t) (newTo off y t) (getD es (4 * e + 2) 0) (isSet (getD es (4 * e + 3) 0)) (edgesIn m es)) w;
-          marks = marks-more (E .marks) x other-below q (getD es (4 * e + 2) 0) (isSet (getD es (4 * e + 3) 0)) k es′ z;
+          is = z ∙ ap (λ (t : ℕ). addOrUpdateEdge (newFrom off y t) (newTo off y t) (carriedData (carriedAt es e)) (edgesIn m es)) w;
+          marks = marks-more (E .marks) x other-below q (carriedData (carriedAt es e)) k es′ z;
         }
 
 -- ---- all edges of a vertex
 
 -- edge e with y at its end `off` depends on the edge alone
 abbrev pub redirect : ℕ → ℕ → Edge → Edge
-redirect off y e = record { from = newFrom off y (endAt (1 - off) e); to = newTo off y (endAt (1 - off) e); support = e .support; isRef = e .isRef }
+redirect off y e = record { from = newFrom off y (endAt (1 - off) e); to = newTo off y (endAt (1 - off) e); support = e .support; isRef = e .isRef; capped = e .capped }
 
 pub redirected-is : (off y : ℕ) (es : List ℕ) (e : ℕ) → redirected off y es e ≡ redirect off y (edgeIn es e)
-redirected-is off y es e = λ i. record {
-  from = newFrom off y ((sym (end-is es (1 - off) e less)) i);
-  to =
-      newTo off y ((sym (end-is es (1 - off) e less)) i);
-  support = getD es (4 * e + 2) 0;
-  isRef = isSet (getD es (4 * e + 3) 0);
-}
+redirected-is off y es e =
+    ap (λ (x : ℕ). edge (newFrom off y x) (newTo off y x) (getD es (4 * e + 2) 0) (getD es (4 * e + 3) 0)) (sym (end-is es (1 - off) e less))
   where
     less : 1 - off ≤ 1
     less = omega arith
@@ -217,7 +214,7 @@ module _ {off y n lo m₀ m : ℕ} {es₀ heads nexts mp₀ : List ℕ} {v : ℕ
 
       pub redirecting-more : {k′ : ℕ} {es′ mp′ : List ℕ} → OneDone off y n lo k es e k′ es′ mp′ → length es′ ≡ length es → length mp′
           ≡ length mp → Redirecting off y n lo m₀ m es₀ mp₀ v k′ es′ mp′ (pairAt off nexts e)
-      unfolding addOrUpdateEdges
+      unfolding addOrUpdateEdges edgeData
       redirecting-more {k′} {es′} {mp′} E a b = let N = index .nexts e h in record {
         high = N .high;
         hit = λ c. N .hit c ∙ R .hit h;
@@ -251,8 +248,8 @@ module _ {off y n lo m₀ m : ℕ} {es₀ heads nexts mp₀ : List ℕ} {v : ℕ
           old-kept j c =
               let below : j < k = omega (arith, R .grown, F .behind) in
               sym (getD-tab k′ (edgeIn es′) j no-edge (omega (arith, size))) ∙ ap (λ (l : List Edge). getD l j no-edge) (E .is)
-              ∙ raise-old (newFrom off y (edgeEnd (1 - off) es e)) (newTo off y (edgeEnd (1 - off) es e)) (getD es (4 * e + 2) 0)
-              (isSet (getD es (4 * e + 3) 0)) no-edge (edgesIn k es) j (omega (arith, length-tab k (edgeIn es)))
+              ∙ raise-old (newFrom off y (edgeEnd (1 - off) es e)) (newTo off y (edgeEnd (1 - off) es e)) (carriedData (carriedAt es e))
+              no-edge (edgesIn k es) j (omega (arith, length-tab k (edgeIn es)))
               (rw (getD-tab k (edgeIn es) j no-edge below) (not-there off y (edgeEnd (1 - off) es e) (edgeIn es j) (free j c)))
               ∙ getD-tab k (edgeIn es) j no-edge below
 

@@ -6,8 +6,8 @@ use native.Mathlib.Omega.{arith}
 use lib.ListN.{length}
 use lib.Dec.{eqb}
 use Rattle.defs.specs.Lists.{keepIf}
-use Rattle.defs.specs.SeqGraph.{Edge, edgesFrom, edgesInto}
-use Rattle.defs.specs.Rewrites.{edgeData, newEdge, redirectedTo, redirectedFrom}
+use Rattle.defs.specs.SeqGraph.{Edge, edgesFrom, edgesInto, edgeData, newEdge}
+use Rattle.defs.specs.Rewrites.{redirectedTo, redirectedFrom}
 use Rattle.laws.proofs.ListLaws.{of-keepIf}
 use Rattle.tabs.proofs.Tabs.{tab-ext}
 use Rattle.store.specs.Store.{edgeIn, edgesIn, graphIn, EndsBelow}

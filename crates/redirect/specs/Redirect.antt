@@ -6,7 +6,7 @@ use Prim.Native.Nat.{ℕ, _+_, _*_, _-_, _≤_, _<_}
 use lib.ListN.{length, getD}
 use lib.Dec.{eqb, leb}
 use Rattle.defs.specs.SeqGraph.{Edge, addOrUpdateEdges}
-use Rattle.store.specs.Store.{isSet, edgeIn, edgesIn, findEdge}
+use Rattle.store.specs.Store.{edge, edgeIn, edgesIn, findEdge}
 use Rattle.index.specs.Index.{edgeEnd, incidentEdges, Indexed}
 
 -- the ends of an edge with y at its end `off` (0 from, 1 to) and x at the other
@@ -18,12 +18,9 @@ newTo off y x = cond (eqb off 0) x y
 
 -- edge e with y at its end `off`
 abbrev pub redirected : ℕ → ℕ → List ℕ → ℕ → Edge
-redirected off y es e = record {
-  from = newFrom off y (edgeEnd (1 - off) es e);
-  to = newTo off y (edgeEnd (1 - off) es e);
-  support = getD es (4 * e + 2) 0;
-  isRef = isSet (getD es (4 * e + 3) 0);
-}
+redirected off y es e =
+    let x = edgeEnd (1 - off) es e in
+    edge (newFrom off y x) (newTo off y x) (getD es (4 * e + 2) 0) (getD es (4 * e + 3) 0)
 
 -- the edges of v among the first m₀, each with y in the place of v
 abbrev pub redirectedAll : ℕ → ℕ → ℕ → List ℕ → ℕ → List Edge

@@ -39,9 +39,8 @@ fn redirect_edge(
 {
     let x = store::edge_end(es, e, 1 - off);
     let at = place_of(map[x as usize], lo, m);
-    let s = store::edge_support(es, e);
-    let f = store::edge_flag(es, e);
-    let k = store::add_or_update_edge(es, m, at, new_from(off, y, x), new_to(off, y, x), s, f);
+    let d = store::carried(es, e);
+    let k = store::add_or_update_edge(es, m, at, new_from(off, y, x), new_to(off, y, x), d);
     map[x as usize] = (at + 1) as u32;
     k
 }

@@ -37,7 +37,7 @@ fn next_on_reference(
     }
     let mut e = first;
     while e < m {
-        if store::edge_flag(es, e) != 0 {
+        if store::edge_is_ref(es, e) {
             return OptionVertex::Some(store::edge_to(es, e) as usize);
         }
         e = nexts[2 * e] as usize;

@@ -16,7 +16,7 @@ use Rattle.defs.specs.Cleanup.{referenceSourceVertex, referenceSinkVertex}
 use Rattle.laws.proofs.Walks.{byTest}
 use Rattle.laws.proofs.Cleaned.{source-in, sink-in}
 use Rattle.laws.proofs.ListLaws.{any-yes, any-no, any-map}
-use Rattle.store.specs.Store.{isSet, edgeIn, edgesIn, graphIn}
+use Rattle.store.specs.Store.{edgeIn, edgesIn, graphIn}
 use Rattle.compact.proofs.CompactLaws.{order-in}
 use Rattle.index.specs.Index.{edgeEnd, atFrom, incidentEdges, Index}
 use Rattle.index.proofs.AdjLaws.{at-head, at-step, at-end}
@@ -51,13 +51,6 @@ module _ {f : ℕ → ℕ} {m n : ℕ} {head next : ℕ → ℕ} {v : ℕ} (I : 
   pub seeking-end : {e : ℕ} → SeekingReference f m v p e → m ≤ e → false ≡ anyOf p (incidentEdges f m v)
   unfolding anyOf
   seeking-end {e} W h = sym (W .left ∙ ap (anyOf p) (at-end f m v e h))
-
--- a flag that was read
-pub set-yes : {x : ℕ} (y : ℕ) → x ≡ y → (x ≡ 0 → ⊥) → isSet y ≡ true
-set-yes y q h = ap not (ne-eqb y 0 (λ z. h (q ∙ z)))
-
-pub set-no : {x : ℕ} (y : ℕ) → x ≡ y → x ≡ 0 → isSet y ≡ false
-set-no y q h = ap not (eq-eqb y 0 (sym q ∙ h))
 
 -- ---- the definitions
 

@@ -7,13 +7,14 @@ use Prim.Native.Nat.{ℕ, _+_, _*_}
 use lib.ListN.{getD}
 use Rattle.defs.specs.SeqGraph.{isReferenceNode, isRefSource, isRefSink}
 use Rattle.defs.specs.Cleanup.{referenceSourceVertex, referenceSinkVertex}
-use Rattle.store.specs.Store.{isSet, graphIn}
+use Rattle.defs.specs.Record.{flagIsRef}
+use Rattle.store.specs.Store.{graphIn}
 use Rattle.refs.specs.declared.OptionVertex.{OptionVertex}
 use Rattle.refs.specs.declared.OptionVertex.the-variants.{Some, None}
 
 -- whether edge e is a reference edge
 abbrev pub refAt : List ℕ → ℕ → Bool
-refAt es e = isSet (getD es (4 * e + 3) 0)
+refAt es e = flagIsRef (getD es (4 * e + 3) 0)
 
 pub record RefNode (m n : ℕ) (es : List ℕ) (v : ℕ) (r : Bool) : Type 0 where
   pub is : (k : ℕ) (vs p : List ℕ) → r ≡ isReferenceNode (graphIn k n m es vs p) v

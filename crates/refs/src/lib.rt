@@ -27,7 +27,7 @@ pub fn any_ref(
 {
     let mut e = heads[2 * v + off] as usize;
     while e < m {
-        if store::edge_flag(es, e) != 0 {
+        if store::edge_is_ref(es, e) {
             return true;
         }
         e = nexts[2 * e + off] as usize;

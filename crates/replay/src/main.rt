@@ -51,9 +51,9 @@ fn report(n: u32) {
 
 fn counted(c: Counts, refused: u32, differ: u32) -> Counts {
     Counts {
-        cases: store::saturating_add(c.cases, 1),
-        refused: store::saturating_add(c.refused, refused),
-        differ: store::saturating_add(c.differ, differ),
+        cases: edge_data::saturating_add(c.cases, 1),
+        refused: edge_data::saturating_add(c.refused, refused),
+        differ: edge_data::saturating_add(c.differ, differ),
     }
 }
 
@@ -97,9 +97,9 @@ fn all_cases(fd: i32) -> Counts {
 
 fn add(c: Counts, d: Counts) -> Counts {
     Counts {
-        cases: store::saturating_add(c.cases, d.cases),
-        refused: store::saturating_add(c.refused, d.refused),
-        differ: store::saturating_add(c.differ, d.differ),
+        cases: edge_data::saturating_add(c.cases, d.cases),
+        refused: edge_data::saturating_add(c.refused, d.refused),
+        differ: edge_data::saturating_add(c.differ, d.differ),
     }
 }
 

@@ -92,10 +92,10 @@ layout-right bs a b c d s z =
 
 -- 5
 pub edges-right : (bs : List ℕ) → ((i : ℕ) → i < edgesOf bs → ((edgeAt bs i) .from < verticesOf bs) × ((edgeAt bs i) .to < verticesOf bs)
-    × (flagAt bs i ≤ 1)) → anyBadEdge bs ≡ false
+    × (flagAt bs i ≤ 3)) → anyBadEdge bs ≡ false
 edges-right bs h =
     T.any-bad-is bs
-    ∙ none-below (badEdge bs) (edgesOf bs) (λ i b. let e = h i b in sym (T.ends-below bs i (e .0) (e .1)) ∙ le-ltb 1 (flagAt bs i) (e .2))
+    ∙ none-below (badEdge bs) (edgesOf bs) (λ i b. let e = h i b in sym (T.ends-below bs i (e .0) (e .1)) ∙ le-ltb 3 (flagAt bs i) (e .2))
 
 -- 6
 single-undoubled : (es : List Edge) → Single es → doubledEdge es ≡ false

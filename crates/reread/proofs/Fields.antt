@@ -10,7 +10,7 @@ use Rattle.defs.specs.SeqGraph.{Edge, Graph, nodeCount}
 use Rattle.defs.specs.Simplify.{sequenceBytes}
 use Rattle.defs.specs.Record.{RecordKind, recordKindNumber, mark, kindOf, statusOf, verticesOf, bytesOf, le16, le32, u32At, lengthsAt}
 use Rattle.defs.specs.Record.{edgesAt, bytesAt, wholeLength, encodeEdge, encodeHeader, encode, lengthAt, edgeStart, flagAt}
-use Rattle.laws.proofs.ListLaws.{bit-small}
+use Rattle.laws.proofs.Flags.{flag-small}
 use Rattle.tabs.proofs.Tabs.{tab-ext, tab-getD}
 use Rattle.tabs.proofs.SumTabs.{map-tab, bytes-sum}
 use Rattle.le.proofs.LeLaws.{length-le16, value-of-digits}
@@ -56,9 +56,9 @@ module _ (kind status k v e b : ℕ) (rest : List ℕ) where
   unfolding encodeHeader le16 le32 u32At
   header-whole h = value-of-digits (wholeLength v e b) h
 
-edge-flag : (e : Edge) → getD (encodeEdge e) 8 0 ≤ 1
+edge-flag : (e : Edge) → getD (encodeEdge e) 8 0 ≤ 3
 unfolding encodeEdge le16 le32
-edge-flag e = bit-small (e .isRef)
+edge-flag e = flag-small e
 
 -- lengths
 length-concat : (vs : List (List ℕ)) → length (concat vs) ≡ sequenceBytes vs
@@ -151,10 +151,10 @@ module _ (kind : RecordKind) (status : ℕ) (g : Graph) where
         ∙ sym length-written
 
   module _ (ok : Encodable g) where
-    pub flag-written : (i : ℕ) → i < length (g .edges) → flagAt bs i ≤ 1
+    pub flag-written : (i : ℕ) → i < length (g .edges) → flagAt bs i ≤ 3
     unfolding edges
     flag-written i h =
-        let d : Edge = record { from = 0; to = 0; support = 0; isRef = false } in
+        let d : Edge = record { from = 0; to = 0; support = 0; isRef = false; capped = false } in
         let start : edgeStart bs i ≡ 32 + 2 * nodeCount g + 9 * i = edgeStart-is bs i ∙ ap (λ (n : ℕ). 32 + 2 * n + 9 * i) (vertices-read kind status g ok) in
         let shown = shows-field encodeEdge 9 edge-width (header ++ lengths) (concat (g .verts)) (32 + 2 * nodeCount g) (g .edges) d i before-edges h in
         let here : flagAt bs i ≡ getD (encodeEdge (getD (g .edges) i d)) 8 0 =

@@ -57,7 +57,7 @@ accepted-text result z = refl
 
 module _ {made : Rewritten} {es vs p text : List ℕ} (P : Printing made es vs p text) where
   pub answer-refused : {n : ℕ} → made .read ≡ Refused n → {text′ : List ℕ} {r : ℕ} → TextPut 19 (printedRefusal n) text 0 r text′
-      → TextPut 340000 (answerText made es vs p) text 0 r text′
+      → TextPut 344000 (answerText made es vs p) text 0 r text′
   unfolding readText
   answer-refused f W = put-as (sym (ap (λ (x : Read). readText x (made .rewrites) (made .rounds) (made .end) es vs p) f)) (put-most (omega arith) W)
 
@@ -80,11 +80,11 @@ module _ {made : Rewritten} {es vs p text : List ℕ} (P : Printing made es vs p
 
     module _ {len : ℕ} (q : len ≡ 32 + 2 * h .n + 9 * h .m + bytesIn (h .n) vs) where
       pub answer-over : {text′ : List ℕ} {r : ℕ} → 65536 < len → TextPut 19 (printedRefusal 11) text 0 r text′
-          → TextPut 340000 (answerText made es vs p) text 0 r text′
+          → TextPut 344000 (answerText made es vs p) text 0 r text′
       answer-over l W = put-as (sym (text-is (fits-short 65536 _ (omega (arith, long-is, q))) ∙ refused-text 11 _)) (put-most (omega arith) W)
 
       module _ (l : len ≤ 65536) where
-        text-fits : graphMost h vs ≤ 340000
+        text-fits : graphMost h vs ≤ 344000
         text-fits = omega (arith, q, B .vertices, B .edges, B .bytes)
 
         pub answer-printable : Printable h es vs p text
@@ -100,7 +100,7 @@ module _ {made : Rewritten} {es vs p text : List ℕ} (P : Printing made es vs p
 
         pub answer-graph : {text′ : List ℕ} {r : ℕ} → TextPut (graphMost h vs)
             (printedGraph (simplifiedIn h (made .rewrites) (made .rounds) (made .end) es vs p)) text 0 r text′
-            → TextPut 340000 (answerText made es vs p) text 0 r text′
+            → TextPut 344000 (answerText made es vs p) text 0 r text′
         answer-graph W =
             put-as (sym (text-is (fits-enough 65536 _ (omega (arith, long-is, q))) ∙ accepted-text _ _)) (put-most text-fits W)
 
@@ -122,7 +122,7 @@ module _ {bs es vs p heads nexts nodes mp starts tried sig : List ℕ} (Z : Lent
       in-pool = record { at = λ v w. omega (arith, H .within .at v w, H .used-room, c, Z .graph .room .p-room) }
 
   pub made-printing : {r : Rewritten} {es′ vs′ p′ text : List ℕ} → RewrittenAs SimplifyGraph bs heads nexts r es′ vs′ p′
-      → length es′ ≡ length es → length vs′ ≡ length vs → length p′ ≡ length p → 340000 ≤ length text → Printing r es′ vs′ p′ text
+      → length es′ ≡ length es → length vs′ ≡ length vs → length p′ ≡ length p → 344000 ≤ length text → Printing r es′ vs′ p′ text
   made-printing A a b c h = record { bounded = λ s e. bounded (A .holds s e) a b c; room = h }
 
 -- the simplification that is held is the definition's
@@ -139,7 +139,7 @@ simplified-is h r es vs p g q = λ i. record {
 abbrev answerFor : List ℕ → S.Simplified
 answerFor bs = simplifyGraphFull minTailSuffixLen (decode bs)
 
-put-front : {s text text′ : List ℕ} {r : ℕ} → 340000 ≤ length text → TextPut 340000 s text 0 r text′ → text′ ≡ s ++ drop r text
+put-front : {s text text′ : List ℕ} {r : ℕ} → 344000 ≤ length text → TextPut 344000 s text 0 r text′ → text′ ≡ s ++ drop r text
 put-front {s} {text} {text′} {r} h P =
     let e : 0 + length s ≡ r = omega (arith, P .end) in
     P .is ∙ sets-eq s text 0 (omega (arith, P .size)) ∙ ap (λ (x : ℕ). s ++ drop x text) e
@@ -158,11 +158,11 @@ shown-fitting bs q =
     sym (ap (λ (a : Response). printedAnswer a (answerFor bs))
     (respond-fits (inputCauses bs) 65536 (encode sequenceGraph 0 (answerFor bs .graph)) q))
 
-put-shown : {bs text text′ : List ℕ} {r m : ℕ} {s : List ℕ} → s ≡ shown bs → m ≤ 340000 → 340000 ≤ length text → TextPut m s text 0 r text′
+put-shown : {bs text text′ : List ℕ} {r m : ℕ} {s : List ℕ} → s ≡ shown bs → m ≤ 344000 → 344000 ≤ length text → TextPut m s text 0 r text′
     → Shown bs text r text′
 put-shown e l h P = let Q = put-as e (put-most l P) in record { long = omega (arith, Q .end); is = put-front h Q }
 
-pub long-shown : (bs : List ℕ) {text text′ : List ℕ} {r : ℕ} → 65536 < length bs → 340000 ≤ length text → TextPut 19 (printedRefusal 1) text 0 r text′
+pub long-shown : (bs : List ℕ) {text text′ : List ℕ} {r : ℕ} → 65536 < length bs → 344000 ≤ length text → TextPut 19 (printedRefusal 1) text 0 r text′
     → Shown bs text r text′
 long-shown bs l h P = put-shown (shown-refused bs (sym (causes-long bs l)) (λ z. omega arith)) (omega arith) h P
 
@@ -174,7 +174,7 @@ module _ {bs heads nexts : List ℕ} {made : Rewritten} {es vs p : List ℕ} (A 
       ∙ shown-fitting bs (sym (causes-record bs short) ∙ sym (A .number) ∙ number-graph f)
   made-is (Refused n) f = shown-refused bs (sym (causes-record bs short) ∙ sym (A .number) ∙ number-refused f) (A .refused n f)
 
-  pub made-shown : {text text′ : List ℕ} {r : ℕ} → 340000 ≤ length text → TextPut 340000 (answerText made es vs p) text 0 r text′ → Shown bs text r text′
+  pub made-shown : {text text′ : List ℕ} {r : ℕ} → 344000 ≤ length text → TextPut 344000 (answerText made es vs p) text 0 r text′ → Shown bs text r text′
   made-shown h P = put-shown (made-is (made .read) refl) (omega arith) h P
 
 -- the text ends within the slice

@@ -36,7 +36,7 @@ answerText made es vs p = readText (made .read) (made .rewrites) (made .rounds) 
 -- room for every text
 pub record Printing (made : Rewritten) (es vs p text : List ℕ) : Type 0 where
   pub bounded : (h : Held) → made .read ≡ Graph h → ShowBounded h es vs p
-  pub room : 340000 ≤ length text
+  pub room : 344000 ≤ length text
 
 -- the text stands at the front, r bytes long; the rest is as it was
 pub record Shown (bs text : List ℕ) (r : ℕ) (text′ : List ℕ) : Type 0 where

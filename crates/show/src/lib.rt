@@ -14,12 +14,12 @@ use rewriting::Rewritten;
 pub const RECORD_MOST: usize = 65536;
 
 // Room for the text of every answer whose record is that short.
-pub const TEXT_MOST: usize = 340000;
+pub const TEXT_MOST: usize = 344000;
 
 // The text of what became of a record, at the front. An answer record over 65,536 bytes is told as 11, though none is written here.
 fn put_answer(text: &mut [u8], made: Rewritten, es: &[u32], vs: &[u32], p: &[u8]) -> usize
     requires { ⌜ Printing made (now es) (now vs) (now p) (now text) ⌝ }
-    ensures { λ r. ⌜ TextPut 340000 (answerText made (now (es .entry)) (now (vs .entry)) (now (p .entry))) (now (text .entry)) 0 r (now (text .exit)) ⌝ }
+    ensures { λ r. ⌜ TextPut 344000 (answerText made (now (es .entry)) (now (vs .entry)) (now (p .entry))) (now (text .entry)) 0 r (now (text .exit)) ⌝ }
 {
     let read = made.read;
     let held = match read {
@@ -47,7 +47,7 @@ fn show_in(
     tried: &mut [u8],
     sig: &mut [u32],
 ) -> usize
-    requires { ⌜ (340000 ≤ length (now text)) × Lent (now rec) (now es) (now vs) (now p) (now heads) (now nexts) (now nodes) (now map)
+    requires { ⌜ (344000 ≤ length (now text)) × Lent (now rec) (now es) (now vs) (now p) (now heads) (now nexts) (now nodes) (now map)
         (now starts) (now tried) (now sig) ⌝ }
     ensures { λ r. ⌜ Shown (now (rec .entry)) (now (text .entry)) r (now (text .exit)) ⌝ }
 {

@@ -16,7 +16,8 @@ use Rattle.laws.proofs.Walks.{byTest}
 use Rattle.laws.proofs.ListLaws.{clash, byOrder, and-split, sameList-eq, sameList-refl}
 use Rattle.tabs.proofs.Tabs.{length-tab, getD-tab}
 use Rattle.tabs.proofs.SumTabs.{sum-below, map-tab, fields-none, fields-more, fields-length}
-use Rattle.store.specs.Store.{isSet, part, numsIn, edgeIn, seqIn}
+use Rattle.defs.specs.Record.{flagIsRef}
+use Rattle.store.specs.Store.{part, numsIn, edgeIn, seqIn}
 use Rattle.store.proofs.VertexLaws.{part-long}
 use Rattle.memory.specs.Memory.{graphOf}
 use Rattle.memory.specs.declared.Held.{Held}
@@ -186,16 +187,8 @@ module _ (vs p : List ℕ) (v : ℕ) {l l₁ : List ℕ} {old : ℕ} {s t : Sign
       long = ql ∙ sym (part-long p (getD vs (2 * v) 0) (getD vs (2 * v + 1) 0) h)
 
 -- one edge
-pub flag-unset : {f : ℕ} → f ≡ 0 → bit (isSet f) ≡ 0
-unfolding bit
-flag-unset {f} q = rw (eq-eqb f 0 q)
-
-pub flag-set : {f : ℕ} → (f ≡ 0 → ⊥) → bit (isSet f) ≡ 1
-unfolding bit
-flag-set {f} o = rw (ne-eqb f 0 o)
-
 pub edge-over : (es : List ℕ) (i : ℕ) {l l₁ l₂ l₃ : List ℕ} {old : ℕ} {s t u r : Signed} {a b c : ℕ} → a ≡ getD es (4 * i) 0
-    → b ≡ 2 * getD es (4 * i + 1) 0 + bit (isSet (getD es (4 * i + 3) 0)) → c ≡ getD es (4 * i + 2) 0
+    → b ≡ 2 * getD es (4 * i + 1) 0 + bit (flagIsRef (getD es (4 * i + 3) 0)) → c ≡ getD es (4 * i + 2) 0
     → WrittenOver l old s (a ∷ []) t l₁ → WrittenOver l₁ old t (b ∷ []) u l₂ → WrittenOver l₂ old u (c ∷ []) r l₃
     → WrittenOver l old s (storedEdge (edgeIn es i)) r l₃
 edge-over es i {l} {l₁} {l₂} {l₃} {old} {s} {t} {u} {r} qa qb qc A B C =

@@ -1,6 +1,5 @@
 -- Comparing what is stored is comparing signatures. Assumes nothing.
 use mathlib.Core.Path.{_≡_, refl, sym, ap, _∙_}
-use mathlib.Core.Bool.{Bool, true, false}
 use mathlib.Core.List.{List, [], _∷_, _++_, map, head-eq-of-cons-eq, tail-eq-of-cons-eq}
 use Prim.Native.Nat.{ℕ, _+_, _*_}
 use native.Mathlib.Omega.{arith}
@@ -20,35 +19,25 @@ edgeNumbers e = e .from ∷ e .to ∷ e .support ∷ bit (e .isRef) ∷ []
 abbrev signatureBy : (Edge → List ℕ) → Graph → List ℕ
 signatureBy f g = nodeCount g ∷ length (g .edges) ∷ concat (map storedVertex (g .verts)) ++ concat (map f (g .edges))
 
--- f gives as many numbers for every edge, and the edge can be told by them
-record Determines (f : Edge → List ℕ) : Type 0 where
+-- f gives as many numbers for every edge, and by them those that f′ gives can be told
+record Tells (f f′ : Edge → List ℕ) : Type 0 where
   long : (e e′ : Edge) → length (f e) ≡ length (f e′)
-  told : (e e′ : Edge) (xs ys : List ℕ) → f e ++ xs ≡ f e′ ++ ys → (e ≡ e′) × (xs ≡ ys)
+  told : (e e′ : Edge) (xs ys : List ℕ) → f e ++ xs ≡ f e′ ++ ys → (f′ e ≡ f′ e′) × (xs ≡ ys)
 
-edge-is : (e e′ : Edge) → e .from ≡ e′ .from → e .to ≡ e′ .to → e .support ≡ e′ .support → e .isRef ≡ e′ .isRef → e ≡ e′
-edge-is e e′ a b c d = λ i. record { from = a i; to = b i; support = c i; isRef = d i }
-
-bit-is : (b c : Bool) → bit b ≡ bit c → b ≡ c
-unfolding bit
-bit-is true true q = refl
-bit-is false false q = refl
-bit-is true false q = absurd (omega arith)
-bit-is false true q = absurd (omega arith)
-
-numbers-determine : Determines edgeNumbers
-numbers-determine = record {
+numbers-tell : Tells edgeNumbers storedEdge
+numbers-tell = record {
   long = λ e e′. refl;
   told = λ e e′ xs ys q.
       let a = tail-eq-of-cons-eq q in
       let b = tail-eq-of-cons-eq a in
       let c = tail-eq-of-cons-eq b in (
-        edge-is e e′ (head-eq-of-cons-eq q) (head-eq-of-cons-eq a) (head-eq-of-cons-eq b) (bit-is (e .isRef) (e′ .isRef) (head-eq-of-cons-eq c)),
+        (λ i. head-eq-of-cons-eq q i ∷ (2 * head-eq-of-cons-eq a i + head-eq-of-cons-eq c i) ∷ head-eq-of-cons-eq b i ∷ []),
         tail-eq-of-cons-eq c,
       );
 }
 
-stored-determine : Determines storedEdge
-stored-determine = record {
+stored-tell : Tells storedEdge edgeNumbers
+stored-tell = record {
   long = λ e e′. refl;
   told = λ e e′ xs ys q.
       let a = tail-eq-of-cons-eq q in
@@ -56,7 +45,7 @@ stored-determine = record {
       let packed : 2 * e .to + bit (e .isRef) ≡ 2 * e′ .to + bit (e′ .isRef) = head-eq-of-cons-eq a in
       let to : e .to ≡ e′ .to = omega (arith, packed, bit-small (e .isRef), bit-small (e′ .isRef)) in
       let flag : bit (e .isRef) ≡ bit (e′ .isRef) = omega (arith, packed, to) in
-      (edge-is e e′ (head-eq-of-cons-eq q) to (head-eq-of-cons-eq b) (bit-is (e .isRef) (e′ .isRef) flag), tail-eq-of-cons-eq b);
+      ((λ i. head-eq-of-cons-eq q i ∷ to i ∷ head-eq-of-cons-eq b i ∷ flag i ∷ []), tail-eq-of-cons-eq b);
 }
 
 append-told : (xs xs′ ys ys′ : List ℕ) → length xs ≡ length xs′ → xs ++ ys ≡ xs′ ++ ys′ → (xs ≡ xs′) × (ys ≡ ys′)
@@ -67,7 +56,7 @@ append-told (x ∷ xs) (x′ ∷ xs′) ys ys′ l q =
     let r = append-told xs xs′ ys ys′ (omega (arith, l)) (tail-eq-of-cons-eq q) in
     ((λ i. head-eq-of-cons-eq q i ∷ r .0 i), r .1)
 
-module _ {f : Edge → List ℕ} (D : Determines f) where
+module _ {f f′ : Edge → List ℕ} (T : Tells f f′) where
   abbrev vertexPart : Graph → List ℕ
   vertexPart g = concat (map storedVertex (g .verts))
 
@@ -80,20 +69,20 @@ module _ {f : Edge → List ℕ} (D : Determines f) where
   edges-long [] (e ∷ es) l = absurd (omega (arith, l))
   edges-long (e ∷ es) [] l = absurd (omega (arith, l))
   edges-long (e ∷ es) (e′ ∷ es′) l =
-      omega (arith, length-append (f e) (concat (map f es)), length-append (f e′) (concat (map f es′)), D .long e e′, edges-long es es′ (omega (arith, l)))
+      omega (arith, length-append (f e) (concat (map f es)), length-append (f e′) (concat (map f es′)), T .long e e′, edges-long es es′ (omega (arith, l)))
 
-  edges-told : (es es′ : List Edge) → length es ≡ length es′ → concat (map f es) ≡ concat (map f es′) → es ≡ es′
+  edges-told : (es es′ : List Edge) → length es ≡ length es′ → concat (map f es) ≡ concat (map f es′) → concat (map f′ es) ≡ concat (map f′ es′)
   unfolding concat
   edges-told [] [] l q = refl
   edges-told [] (e ∷ es) l q = absurd (omega (arith, l))
   edges-told (e ∷ es) [] l q = absurd (omega (arith, l))
   edges-told (e ∷ es) (e′ ∷ es′) l q =
-      let r = D .told e e′ (concat (map f es)) (concat (map f es′)) q in
-      λ i. r .0 i ∷ edges-told es es′ (omega (arith, l)) (r .1) i
+      let r = T .told e e′ (concat (map f es)) (concat (map f es′)) q in
+      λ i. r .0 i ++ edges-told es es′ (omega (arith, l)) (r .1) i
 
-  -- so the signature tells the vertices' numbers and the edges, whatever else is asked of the edges
-  signature-told : (f′ : Edge → List ℕ) (g h : Graph) → signatureBy f g ≡ signatureBy f h → signatureBy f′ g ≡ signatureBy f′ h
-  signature-told f′ g h q = λ i. head-eq-of-cons-eq q i ∷ count i ∷ (parts .0 i ++ concat (map f′ (edges-told (g .edges) (h .edges) count (parts .1) i)))
+  -- so the one signature tells the other
+  signature-told : (g h : Graph) → signatureBy f g ≡ signatureBy f h → signatureBy f′ g ≡ signatureBy f′ h
+  signature-told g h q = λ i. head-eq-of-cons-eq q i ∷ count i ∷ (parts .0 i ++ edges-told (g .edges) (h .edges) count (parts .1) i)
     where
       count : length (g .edges) ≡ length (h .edges)
       count = head-eq-of-cons-eq (tail-eq-of-cons-eq q)
@@ -118,8 +107,8 @@ same-alike a b c d to from = byTest (sameList a b)
 pub stored-same : (g h : Graph) → sameList (storedSignature g) (storedSignature h) ≡ sameList (graphTopologySignature g) (graphTopologySignature h)
 unfolding graphTopologySignature
 stored-same g h = same-alike (storedSignature g) (storedSignature h) (graphTopologySignature g) (graphTopologySignature h)
-    (signature-told stored-determine edgeNumbers g h)
-    (signature-told numbers-determine storedEdge g h)
+    (signature-told stored-tell g h)
+    (signature-told numbers-tell g h)
 
 -- nothing stored is no signature
 pub none-stored : (g : Graph) → sameList [] (storedSignature g) ≡ sameList [] (graphTopologySignature g)

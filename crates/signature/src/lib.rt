@@ -4,7 +4,8 @@ ghost use mathlib.Core.List.{[], _∷_};
 ghost use Prim.Native.Nat.{ℕ, _+_, _*_, _<_, _≤_};
 ghost use lib.ListN.{length, getD};
 ghost use Rattle.defs.specs.Lists.{bit};
-ghost use Rattle.store.specs.Store.{isSet, edgeIn, seqIn};
+ghost use Rattle.defs.specs.Record.{flagIsRef};
+ghost use Rattle.store.specs.Store.{edgeIn, seqIn};
 ghost use Rattle.signature.specs.Signature.{sameAt, storedVertex, storedEdge, storedVertices, storedEdges, WrittenOver, Writable, Pooled, EndsFit};
 ghost use Rattle.signature.specs.Signature.{SignatureWritable, Signature};
 use memory::Held;
@@ -87,16 +88,16 @@ fn put_vertices(sig: &mut [u32], old: usize, s: Signed, n: usize, vs: &[u32], p:
     t
 }
 
-// The end that edge i enters and its flag, as one number.
+// The end that edge i enters, and whether it is a reference edge, as one number. Whether its support was capped is not compared.
 fn end_and_flag(es: &[u32], i: usize) -> u32
     requires { ⌜ (4 * i + 4 ≤ length (now es)) × (2 * getD (now es) (4 * i + 1) 0 + 1 < 4294967296) ⌝ }
-    ensures { λ r. ⌜ r ≡ 2 * getD (now (es .entry)) (4 * i + 1) 0 + bit (isSet (getD (now (es .entry)) (4 * i + 3) 0)) ⌝ }
+    ensures { λ r. ⌜ r ≡ 2 * getD (now (es .entry)) (4 * i + 1) 0 + bit (flagIsRef (getD (now (es .entry)) (4 * i + 3) 0)) ⌝ }
 {
     let to = store::edge_to(es, i);
-    if store::edge_flag(es, i) == 0 {
-        return 2 * to;
+    if store::edge_is_ref(es, i) {
+        return 2 * to + 1;
     }
-    2 * to + 1
+    2 * to
 }
 
 // Writes the three numbers of edge i.

@@ -6,7 +6,7 @@ use lib.ListN.{length, getD}
 use Rattle.defs.specs.SeqGraph.{Edge, Graph, nodeCount, vertexSequence}
 
 abbrev pub noEdge : Edge
-noEdge = record { from = 0; to = 0; support = 0; isRef = false }
+noEdge = record { from = 0; to = 0; support = 0; isRef = false; capped = false }
 
 -- two edges with the same ends
 pub record SameEnds (g : Graph) : Type 0 where

@@ -1,20 +1,22 @@
 -- The new edges, pushed one kind after the other. Assumes nothing.
 use mathlib.Core.Path.{_≡_, ap, _∙_, subst}
-use mathlib.Core.Bool.{Bool, cond, _||_}
+use mathlib.Core.Bool.{Bool, false, cond, _||_}
 use mathlib.Core.List.{List, [], _∷_, _++_}
-use Prim.Native.Nat.{ℕ, _+_, _*_, _≤_, _<_, max}
+use Prim.Native.Nat.{ℕ, _+_, _*_, _≤_, _<_}
 use native.Mathlib.Omega.{arith}
 use lib.ListN.{length, getD, length-append, length-map}
 use Rattle.defs.specs.Lists.{bit}
-use Rattle.defs.specs.SeqGraph.{Edge, saturatingAdd}
-use Rattle.defs.specs.Rewrites.{EdgeData, MidPlan, newEdge, onlyIf, edgesToMiddles, edgesFromMiddles, prefixToSuffixFrom}
+use Rattle.defs.specs.SeqGraph.{Edge, EdgeData, newEdge, joinedData}
+use Rattle.defs.specs.Rewrites.{MidPlan, supportOne, onlyIf, edgesToMiddles, edgesFromMiddles, prefixToSuffixFrom}
+use Rattle.defs.specs.Record.{flagIsRef, flagIsCapped}
+use Rattle.laws.proofs.Flags.{plain-says-ref, plain-not-capped}
 use Rattle.laws.proofs.SplitCounts.{length-toMiddles, length-only, length-fromMiddles}
-use Rattle.store.specs.Store.{isSet, edge}
-use Rattle.store.proofs.EdgeLaws.{set-max}
+use Rattle.edge_data.specs.EdgeData.{carries, carriedData}
+use Rattle.edge_data.specs.declared.Carried.{Carried}
+use Rattle.store.specs.Store.{edge}
 use Rattle.split_and_update.specs.Pushed.{EdgesPushed, edgeIf, leaves, leftNodes}
 use Rattle.split_and_update.specs.Ends.{plansOf, planOf, goneNodes, Mids, anyRef, midEdges, nothing, DirectIs, upper, lower, directOnce}
 use Rattle.split_and_update.specs.Ends.{updateEdges, updateEdgesOf, EdgeIfPushed, MidsPushed, Edgeable, EdgesAdded}
-use Rattle.split_and_update.specs.declared.Direct.{Direct}
 use Rattle.split_and_update.specs.declared.Places.{Places}
 use Rattle.split_and_update.proofs.PushLaws.{pushed-then}
 use Rattle.split_and_update.proofs.NodeLaws.{length-mid, plans-same, mids-kept}
@@ -36,10 +38,10 @@ new-length w l d = omega (
 )
   where
     first : Edge
-    first = newEdge (w .top) (w .prefix) (record { support = 1; isRef = anyRef 1 l || d .isRef })
+    first = newEdge (w .top) (w .prefix) (supportOne (anyRef 1 l || d .isRef))
 
     last : Edge
-    last = newEdge (w .suffix) (w .bottom) (record { support = 1; isRef = anyRef 0 l || d .isRef })
+    last = newEdge (w .suffix) (w .bottom) (supportOne (anyRef 0 l || d .isRef))
 
     between : Edge
     between = newEdge (upper w) (lower w) (directOnce w d)
@@ -135,36 +137,36 @@ module _ {m : ℕ} {es vs heads nodes : List ℕ} {c cut : ℕ} {w : Places} (E 
           plans₄ = plans-same (E .mids) es₄ kept₄ (leaves vs cut)
 
           module _ {u₅ k₅ : ℕ} {es₅ : List ℕ} (A₅ : MidsPushed m k₄ es₄ vs heads nodes c cut 0 u₅ (w .middles) k₅ es₅) where
-            pub pushed-all : {d : Direct} (g₁ g₀ : ℕ) {t : ℕ} → DirectIs m es vs heads nodes c cut d → isSet g₁ ≡ anyRef 1 plans → f₁
-                ≡ max g₁ (d .flag) → isSet g₀ ≡ anyRef 0 plans → f₂ ≡ max g₀ (d .flag)
+            pub pushed-all : (d d′ : Carried) {direct into out r₁ r₀ : Bool} → DirectIs m es vs heads nodes c cut d → direct ≡ flagIsRef (d .flag)
+                → into ≡ anyRef 1 plans → out ≡ anyRef 0 plans → r₁ ≡ (into || direct) → f₁ ≡ bit r₁ → r₀ ≡ (out || direct) → f₂ ≡ bit r₀
                 → a₁ ≡ w .top → b₁ ≡ w .prefix → s₁ ≡ 1 → a₂ ≡ w .suffix → b₂ ≡ w .bottom → s₂ ≡ 1
-                → u₃ ≡ upper w → a₄ ≡ upper w → b₄ ≡ lower w → u₅ ≡ lower w → t ≡ saturatingAdd (d .support) (d .support) → s₄
-                ≡ cond (w .prefixed) t (d .support) → f₄ ≡ d .flag
+                → u₃ ≡ upper w → a₄ ≡ upper w → b₄ ≡ lower w → u₅ ≡ lower w
+                → carriedData d′ ≡ cond (w .prefixed) (joinedData (carriedData d) (carriedData d)) (carriedData d) → s₄ ≡ d′ .support → f₄ ≡ d′ .flag
                 → EdgesAdded m es vs heads nodes c cut w k₅ es₅
-            unfolding updateEdges newEdge
-            pushed-all {d} g₁ g₀ {t} D q₁ h₁ q₀ h₀ i₁ j₁ o₁ i₂ j₂ o₂ i₃ i₄ j₄ i₅ ht hs hf = record {
+            unfolding updateEdges newEdge supportOne
+            pushed-all d d′ {direct} D qd q₁ q₀ h₁ v₁ h₀ v₀ i₁ j₁ o₁ i₂ j₂ o₂ i₃ i₄ j₄ i₅ hd hs hf = record {
               is = subst (λ (new : List Edge). EdgesPushed m es new k₅ es₅) news
                   (pushed-then (A₁ .is) (pushed-then (A₂ .is) (pushed-then (A₃ .is) (pushed-then (A₄ .is) (A₅ .is)))));
             }
               where
-                flag : (off g f : ℕ) → isSet g ≡ anyRef off plans → f ≡ max g (d .flag) → isSet f ≡ (anyRef off plans || together .isRef)
-                flag off g f q h = ap isSet h ∙ set-max g (d .flag) ∙ (λ i. q i || D .is i .isRef)
+                -- what a new edge of support 1 carries
+                plain : (off : ℕ) {s f : ℕ} {any r : Bool} → s ≡ 1 → any ≡ anyRef off plans → r ≡ (any || direct) → f ≡ bit r
+                    → _≡_ {A = EdgeData} (carries s f) record { support = 1; isRef = anyRef off plans || together .isRef; capped = false }
+                plain off {r = r} o q h v = λ i. record {
+                  support = o i;
+                  isRef = (ap flagIsRef v ∙ plain-says-ref r ∙ h ∙ (λ j. q j || (qd ∙ (λ z. D .is z .isRef)) j)) i;
+                  capped = (ap flagIsCapped v ∙ plain-not-capped r) i;
+                }
 
-                doubled : s₄ ≡ cond (w .prefixed) (saturatingAdd (together .support) (together .support)) (together .support)
-                doubled = hs ∙ (λ i. cond (w .prefixed) ((ht ∙ (λ j. saturatingAdd (D .is j .support) (D .is j .support))) i) (D .is i .support))
+                doubled : carries s₄ f₄ ≡ directOnce w together
+                doubled = (λ i. carries (hs i) (hf i)) ∙ hd ∙ ap (directOnce w) (D .is)
 
                 news : edgeIf (w .prefixed) a₁ b₁ s₁ f₁ ++ (edgeIf (w .linked) a₂ b₂ s₂ f₂
                     ++ (midEdges 1 u₃ (w .middles) (plansOf m es₂ heads left)
                     ++ (edgeIf (w .consumed) a₄ b₄ s₄ f₄ ++ midEdges 0 u₅ (w .middles) (plansOf m es₄ heads left))))
                     ≡ updateEdgesOf m es vs heads nodes c cut w
                 news = λ i.
-                    onlyIf (w .prefixed) (record { from = i₁ i; to = j₁ i; support = o₁ i; isRef = flag 1 g₁ f₁ q₁ h₁ i } ∷ [])
-                    ++ (onlyIf (w .linked) (record { from = i₂ i; to = j₂ i; support = o₂ i; isRef = flag 0 g₀ f₂ q₀ h₀ i } ∷ [])
+                    onlyIf (w .prefixed) (newEdge (i₁ i) (j₁ i) (plain 1 o₁ q₁ h₁ v₁ i) ∷ [])
+                    ++ (onlyIf (w .linked) (newEdge (i₂ i) (j₂ i) (plain 0 o₂ q₀ h₀ v₀ i) ∷ [])
                     ++ (edgesToMiddles (i₃ i) (w .middles) (plans₂ i)
-                    ++ (onlyIf (w .consumed) (record {
-                      from = i₄ i;
-                      to = j₄ i;
-                      support = doubled i;
-                      isRef =
-                          (ap isSet hf ∙ (λ j. D .is j .isRef)) i;
-                    } ∷ []) ++ edgesFromMiddles (w .middles) (i₅ i) (plans₄ i))))
+                    ++ (onlyIf (w .consumed) (newEdge (i₄ i) (j₄ i) (doubled i) ∷ []) ++ edgesFromMiddles (w .middles) (i₅ i) (plans₄ i))))

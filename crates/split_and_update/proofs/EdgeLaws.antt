@@ -7,9 +7,11 @@ use mathlib.Core.List.{List, [], _∷_, _++_, append-assoc, append-nil, List·Me
 use Prim.Native.Nat.{ℕ, suc, _+_, _≤_, _<_, min}
 use native.Mathlib.Omega.{arith}
 use lib.ListN.{length}
+use lib.Dec.{ltb}
+use borrow.Author.Tests.{le-ltb}
 use Rattle.defs.specs.Lists.{bit}
-use Rattle.defs.specs.SeqGraph.{Edge, hasEnds, addOrUpdateEdge, addOrUpdateEdges, saturatingAdd}
-use Rattle.defs.specs.Rewrites.{EdgeData, MidPlan, newEdge, newEdgeIf, joinedData, onlyIf, orElse, isNone, isRefIf, edgesToMiddles}
+use Rattle.defs.specs.SeqGraph.{Edge, hasEnds, addOrUpdateEdge, addOrUpdateEdges, saturatingAdd, EdgeData, edgeData, newEdge, joinedData}
+use Rattle.defs.specs.Rewrites.{MidPlan, supportOne, newEdgeIf, onlyIf, orElse, isNone, isRefIf, edgesToMiddles}
 use Rattle.defs.specs.Rewrites.{edgesFromMiddles, prefixToSuffix, prefixToSuffixFrom, splitAndUpdateWith}
 use Rattle.laws.proofs.Walks.{byTest}
 use Rattle.laws.proofs.ListLaws.{and-split, bit-yes}
@@ -23,27 +25,26 @@ use Rattle.split_and_update.specs.declared.Places.{Places}
 
 -- ---- edges with new ends
 
-raise-new : (u v s : ℕ) (r : Bool) (es : List Edge) → (Linked es u v → ⊥) → addOrUpdateEdge u v s r es ≡ es
-    ++ (record { from = u; to = v; support = s; isRef = r } ∷ [])
+raise-new : (u v : ℕ) (d : EdgeData) (es : List Edge) → (Linked es u v → ⊥) → addOrUpdateEdge u v d es ≡ es ++ (newEdge u v d ∷ [])
 unfolding addOrUpdateEdge
-raise-new u v s r [] h = refl
-raise-new u v s r (e ∷ es) h = byTest (hasEnds u v e)
+raise-new u v d [] h = refl
+raise-new u v d (e ∷ es) h = byTest (hasEnds u v e)
     (λ t. let q = joins-ends u v e t in absurd (h (e, List·Memᴰ·head refl, q .0, q .1)))
-    (λ t. raise-no u v s r e es t ∙ ap (λ (l : List Edge). e ∷ l) (raise-new u v s r es (λ l. h (linked-tail u v l))))
+    (λ t. raise-no u v d e es t ∙ ap (λ (l : List Edge). e ∷ l) (raise-new u v d es (λ l. h (linked-tail u v l))))
 
 -- the edge e has the ends already
-raise-past : (u v s : ℕ) (r : Bool) (x : List Edge) (e : Edge) (y : List Edge) → (Linked x u v → ⊥) → hasEnds u v e ≡ true
-    → addOrUpdateEdge u v s r (x ++ (e ∷ y)) ≡ x ++ (record { from = e .from; to = e .to; support = saturatingAdd (e .support) s; isRef = e .isRef || r } ∷ y)
-raise-past u v s r [] e y h q = raise-yes u v s r e y q
-raise-past u v s r (d ∷ x) e y h q = byTest (hasEnds u v d)
-    (λ t. let z = joins-ends u v d t in absurd (h (d, List·Memᴰ·head refl, z .0, z .1)))
-    (λ t. raise-no u v s r d (x ++ (e ∷ y)) t ∙ ap (λ (l : List Edge). d ∷ l) (raise-past u v s r x e y (λ l. h (linked-tail u v l)) q))
+raise-past : (u v : ℕ) (d : EdgeData) (x : List Edge) (e : Edge) (y : List Edge) → (Linked x u v → ⊥) → hasEnds u v e ≡ true
+    → addOrUpdateEdge u v d (x ++ (e ∷ y)) ≡ x ++ (newEdge (e .from) (e .to) (joinedData (edgeData e) d) ∷ y)
+raise-past u v d [] e y h q = raise-yes u v d e y q
+raise-past u v d (f ∷ x) e y h q = byTest (hasEnds u v f)
+    (λ t. let z = joins-ends u v f t in absurd (h (f, List·Memᴰ·head refl, z .0, z .1)))
+    (λ t. raise-no u v d f (x ++ (e ∷ y)) t ∙ ap (λ (l : List Edge). f ∷ l) (raise-past u v d x e y (λ l. h (linked-tail u v l)) q))
 
 raise-fresh : (ns es : List Edge) → Single ns → ((u v : ℕ) → Linked ns u v → Linked es u v → ⊥) → addOrUpdateEdges ns es ≡ es ++ ns
-unfolding addOrUpdateEdges
+unfolding addOrUpdateEdges edgeData newEdge
 raise-fresh [] es s h = sym (append-nil es)
 raise-fresh (n ∷ ns) es s h =
-    ap (addOrUpdateEdges ns) (raise-new (n .from) (n .to) (n .support) (n .isRef) es (λ l. h (n .from) (n .to) (n, List·Memᴰ·head refl, refl, refl) l))
+    ap (addOrUpdateEdges ns) (raise-new (n .from) (n .to) (edgeData n) es (λ l. h (n .from) (n .to) (n, List·Memᴰ·head refl, refl, refl) l))
     ∙ raise-fresh ns (es ++ (n ∷ [])) (s .1) (λ u v a b. linked-append es (n ∷ []) u v b (λ l. h u v (linked-tail u v a) l) (λ l. let q =
     of-one n u v l in s .0 (rw (q .0, q .1) at a)))
     ∙ append-assoc es (n ∷ []) ns
@@ -77,32 +78,40 @@ single-from u j (m ∷ l) = (λ k. let z = of-linksFrom (suc j) u l j u k in ome
 
 -- ---- the edge from prefix to suffix, once more where there is a prefix
 
+abbrev once : Bool → EdgeData → EdgeData
+once P d = cond P (joinedData d d) d
+
 twiceIf : Bool → Option EdgeData → Option EdgeData
 twiceIf P none = none
-twiceIf P (some d) = some (record { support = cond P (saturatingAdd (d .support) (d .support)) (d .support); isRef = d .isRef })
-
-or-same : (r : Bool) → (r || r) ≡ r
-or-same true = refl
-or-same false = refl
+twiceIf P (some d) = some (once P d)
 
 join-last : (P : Bool) (o : Option EdgeData) (u v : ℕ) (x y : List Edge) → (Linked x u v → ⊥)
     → addOrUpdateEdges (onlyIf P (newEdgeIf u v o)) (x ++ (newEdgeIf u v o ++ y)) ≡ x ++ (newEdgeIf u v (twiceIf P o) ++ y)
-unfolding onlyIf newEdgeIf addOrUpdateEdges twiceIf newEdge
+unfolding onlyIf newEdgeIf addOrUpdateEdges twiceIf newEdge edgeData
 join-last false none u v x y h = refl
 join-last false (some d) u v x y h = refl
 join-last true none u v x y h = refl
 join-last true (some d) u v x y h =
-    raise-past u v (d .support) (d .isRef) x (newEdge u v d) y h (ends-join u v (newEdge u v d) refl refl)
-    ∙ ap (λ (r : Bool). x ++ (record { from = u; to = v; support = saturatingAdd (d .support) (d .support); isRef = r } ∷ y)) (or-same (d .isRef))
+    raise-past u v d x (newEdge u v d) y h (ends-join u v (newEdge u v d) refl refl)
 
 -- ---- what the edge from prefix to suffix carries, gathered from nothing
 
 joined-nothing : (a b : EdgeData) → joinedData nothing (joinedData a b) ≡ joinedData a b
 unfolding joinedData saturatingAdd
-joined-nothing a b = λ i. record { support = least i; isRef = a .isRef || b .isRef }
+joined-nothing a b = λ i. record { support = least i; isRef = a .isRef || b .isRef; capped = (ap (λ (x : Bool). mark || x) fits ∙ or-false mark) i }
   where
     least : min (0 + min (a .support + b .support) 4294967295) 4294967295 ≡ min (a .support + b .support) 4294967295
     least = omega arith
+
+    mark : Bool
+    mark = (a .capped || b .capped) || ltb 4294967295 (a .support + b .support)
+
+    fits : ltb 4294967295 (0 + min (a .support + b .support) 4294967295) ≡ false
+    fits = le-ltb 4294967295 (0 + min (a .support + b .support) 4294967295) (omega arith)
+
+    or-false : (x : Bool) → (x || false) ≡ x
+    or-false true = refl
+    or-false false = refl
 
 gathered-ref : (l : List MidPlan) → isRefIf (prefixToSuffix l) ≡ (prefixToSuffixFrom nothing l) .isRef
 unfolding isRefIf prefixToSuffix prefixToSuffixFrom
@@ -110,21 +119,11 @@ gathered-ref [] = refl
 gathered-ref (m ∷ l) = ap (λ (d : EdgeData). (prefixToSuffixFrom d l) .isRef) (sym (joined-nothing (m .toMid) (m .fromMid)))
 
 gathered-edge : (P : Bool) (u v : ℕ) (l : List MidPlan) → newEdgeIf u v (twiceIf P (prefixToSuffix l))
-    ≡ onlyIf (isCons l) (newEdge u v (record {
-      support = cond P
-          (saturatingAdd ((prefixToSuffixFrom nothing l) .support) ((prefixToSuffixFrom nothing l) .support))
-          ((prefixToSuffixFrom nothing l) .support);
-      isRef = (prefixToSuffixFrom nothing l) .isRef;
-    }) ∷ [])
+    ≡ onlyIf (isCons l) (newEdge u v (once P (prefixToSuffixFrom nothing l)) ∷ [])
 unfolding newEdgeIf twiceIf prefixToSuffix prefixToSuffixFrom onlyIf isCons
 gathered-edge P u v [] = refl
 gathered-edge P u v (m ∷ l) =
-    ap (λ (a : EdgeData). newEdge u v (record {
-      support = cond P
-          (saturatingAdd ((prefixToSuffixFrom a l) .support) ((prefixToSuffixFrom a l) .support)) ((prefixToSuffixFrom a l) .support);
-      isRef =
-          (prefixToSuffixFrom a l) .isRef;
-    }) ∷ [])
+    ap (λ (a : EdgeData). newEdge u v (once P (prefixToSuffixFrom a l)) ∷ [])
     (sym (joined-nothing (m .toMid) (m .fromMid)))
 
 -- ---- all of them
@@ -284,8 +283,8 @@ module _ (P S : Bool) (n top : ℕ) (bottom : Option ℕ) (lefts others : List M
       ∙ ap (addOrUpdateEdges (onlyIf P e₄)) (raise-fresh new es single apart₀ ∙ regroup es e₁ e₂ e₃ (e₄ ++ e₅))
       ∙ join-last P gone t b before e₅ before-apart
       ∙ sym (regroup es e₁ e₂ e₃ (newEdgeIf t b (twiceIf P gone) ++ e₅))
-      ∙ (λ i. es ++ (onlyIf P (newEdge top n (record { support = 1; isRef = anyRef 1 lefts || gathered-ref others i }) ∷ [])
-      ++ (onlyIf linked (newEdge sv b₀ (record { support = 1; isRef = anyRef 0 lefts || gathered-ref others i }) ∷ [])
+      ∙ (λ i. es ++ (onlyIf P (newEdge top n (supportOne (anyRef 1 lefts || gathered-ref others i)) ∷ [])
+      ++ (onlyIf linked (newEdge sv b₀ (supportOne (anyRef 0 lefts || gathered-ref others i)) ∷ [])
       ++ (e₃ ++ (gathered-edge P t b others i ++ e₅)))))
     where
       shape : e₁ ++ (e₂ ++ (e₃ ++ (e₄ ++ (e₅ ++ onlyIf P e₄)))) ≡ (e₁ ++ (e₂ ++ (e₃ ++ (e₄ ++ e₅)))) ++ onlyIf P e₄

@@ -1,27 +1,28 @@
 -- A turn of each loop over the nodes. Assumes nothing.
 use mathlib.Core.Path.{_≡_, sym, ap, _∙_, subst}
-use mathlib.Core.Bool.{Bool, cond, _||_}
+use mathlib.Core.Bool.{Bool, false, cond, _||_}
 use mathlib.Core.List.{List, [], _∷_, _++_, map, map-append, append-nil}
-use Prim.Native.Nat.{ℕ, _+_, _*_, _-_, _≤_, _<_, max}
+use Prim.Native.Nat.{ℕ, _+_, _*_, _-_, _≤_, _<_}
 use native.Mathlib.Omega.{arith}
 use lib.ListN.{length, getD, length-append, length-map}
 use lib.Dec.{eqb}
 use Rattle.defs.specs.Lists.{anyOf}
-use Rattle.defs.specs.SeqGraph.{Edge, saturatingAdd}
-use Rattle.defs.specs.Rewrites.{EdgeData, MidPlan, onlyIf, joinedData, newEdge, prefixToSuffixFrom}
+use Rattle.defs.specs.SeqGraph.{Edge, EdgeData, joinedData, newEdge}
+use Rattle.defs.specs.Rewrites.{MidPlan, onlyIf, prefixToSuffixFrom}
+use Rattle.defs.specs.Record.{flagIsRef}
 use Rattle.laws.proofs.Walks.{byTest}
 use Rattle.laws.proofs.ListLaws.{byOrder}
 use Rattle.laws.proofs.Diamonds.{nonEmpty-yes}
-use Rattle.store.specs.Store.{isSet, part, putEdge}
+use Rattle.edge_data.specs.EdgeData.{carries, carriedData}
+use Rattle.edge_data.specs.declared.Carried.{Carried}
+use Rattle.store.specs.Store.{part, putEdge}
 use Rattle.store.proofs.VertexLaws.{part-long}
-use Rattle.store.proofs.EdgeLaws.{set-max}
 use Rattle.index.specs.Index.{pairAt}
 use Rattle.split_and_update.specs.Pushed.{EdgesPushed, VertsPushed, filled, PartPushed, startOf, lenOf, leftNodes, restOf, Restables, RestsPushed}
-use Rattle.split_and_update.specs.Ends.{endSupport, endFlag, endData, planOf, plansOf, goneNodes, midData, anyRef, midEdges, nothing}
+use Rattle.split_and_update.specs.Ends.{endCarried, planOf, plansOf, goneNodes, midData, anyRef, midEdges, nothing}
 use Rattle.split_and_update.proofs.PushLaws.{pushed-none, pushed-one, pushed-then, verts-none, verts-then, nonEmpty-no, part-own}
 use Rattle.split_and_update.proofs.NodeLaws.{left-more, left-same, left-none, left-room, gone-more, gone-same, gone-none}
-use Rattle.split_and_update.proofs.NodeLaws.{any-snoc, join-snoc, mid-none, mid-snoc, midEdge, mid-data, length-mid, support-same}
-use Rattle.split_and_update.proofs.NodeLaws.{flag-same}
+use Rattle.split_and_update.proofs.NodeLaws.{any-snoc, join-snoc, mid-none, mid-snoc, midEdge, mid-data, length-mid, carried-same}
 
 -- ---- what remains of each
 
@@ -81,11 +82,11 @@ module _ {k : ℕ} {vs₀ p nodes : List ℕ} {c x y : ℕ} (F : Restables k vs�
             (omega (arith, w .at (getD nodes i 0) (F .below i h), F .long i h, part-long p (s + x) (l - y - x) fits)) (R .within used w);
       }
 
--- ---- the flag of the middles that remain
+-- ---- whether a middle that remains has a reference edge
 
-pub flag-start : (m : ℕ) (es vs heads nodes : List ℕ) (cut off : ℕ) → isSet 0 ≡ anyRef off (plansOf m es heads (leftNodes vs cut nodes 0))
+pub ref-start : (m : ℕ) (es vs heads nodes : List ℕ) (cut off : ℕ) → false ≡ anyRef off (plansOf m es heads (leftNodes vs cut nodes 0))
 unfolding anyOf
-flag-start m es vs heads nodes cut off = rw (left-none vs nodes cut)
+ref-start m es vs heads nodes cut off = rw (left-none vs nodes cut)
 
 module _ (m : ℕ) (es vs heads nodes : List ℕ) (cut i : ℕ) where
   abbrev v : ℕ
@@ -95,39 +96,30 @@ module _ (m : ℕ) (es vs heads nodes : List ℕ) (cut i : ℕ) where
       ++ (planOf m es heads [] v ∷ [])
   plans-left h = ap (plansOf m es heads) (left-more vs nodes cut i h) ∙ map-append (planOf m es heads []) (leftNodes vs cut nodes i) (v ∷ [])
 
-  pub flag-more : (off flag : ℕ) {f r l : ℕ} → off ≤ 1 → isSet flag ≡ anyRef off (plansOf m es heads (leftNodes vs cut nodes i)) → l
-      ≡ lenOf vs v → cut < l → f ≡ endFlag m es heads off v → r ≡ max flag f
-      → isSet r ≡ anyRef off (plansOf m es heads (leftNodes vs cut nodes (i + 1)))
-  flag-more off flag {f} {r} {l} o inv el h ef er =
-      ap isSet er ∙ set-max flag f ∙ ap (λ (b : Bool). b || isSet f) inv
-      ∙ ap (λ (b : Bool). anyRef off (plansOf m es heads (leftNodes vs cut nodes i)) || b) (ap isSet ef
-      ∙ ap (λ (d : EdgeData). d .isRef) (sym (mid-data m es heads [] off v o)))
+  pub ref-more : (off : ℕ) (any : Bool) (d : Carried) {r r′ : Bool} {l : ℕ} → off ≤ 1 → any ≡ anyRef off (plansOf m es heads (leftNodes vs cut nodes i))
+      → l ≡ lenOf vs v → cut < l → d ≡ endCarried m es heads off v → r ≡ flagIsRef (d .flag) → r′ ≡ (any || r)
+      → r′ ≡ anyRef off (plansOf m es heads (leftNodes vs cut nodes (i + 1)))
+  ref-more off any d {r} {r′} {l} o inv el h ed er er′ =
+      er′ ∙ ap (λ (b : Bool). b || r) inv
+      ∙ ap (λ (b : Bool). anyRef off (plansOf m es heads (leftNodes vs cut nodes i)) || b) (er ∙ ap (λ (c : Carried). flagIsRef (c .flag)) ed
+      ∙ ap (λ (c : EdgeData). c .isRef) (sym (mid-data m es heads [] off v o)))
       ∙ sym (any-snoc (λ (q : MidPlan). midData off q .isRef) (plansOf m es heads (leftNodes vs cut nodes i)) (planOf m es heads [] v))
       ∙ ap (anyRef off) (sym (plans-left (omega arith)))
 
-  pub flag-skip : (off flag : ℕ) {l : ℕ} → isSet flag ≡ anyRef off (plansOf m es heads (leftNodes vs cut nodes i)) → l ≡ lenOf vs v
-      → l ≤ cut → isSet flag ≡ anyRef off (plansOf m es heads (leftNodes vs cut nodes (i + 1)))
-  flag-skip off flag inv el h = inv ∙ ap (λ (l : List ℕ). anyRef off (plansOf m es heads l)) (sym (left-same vs nodes cut i (omega arith)))
+  pub ref-skip : (off : ℕ) (any : Bool) {l : ℕ} → any ≡ anyRef off (plansOf m es heads (leftNodes vs cut nodes i)) → l ≡ lenOf vs v
+      → l ≤ cut → any ≡ anyRef off (plansOf m es heads (leftNodes vs cut nodes (i + 1)))
+  ref-skip off any inv el h = inv ∙ ap (λ (l : List ℕ). anyRef off (plansOf m es heads l)) (sym (left-same vs nodes cut i (omega arith)))
 
   -- ---- the edges of the middles that are consumed
 
   abbrev gathered : ℕ → EdgeData
   gathered j = prefixToSuffixFrom nothing (plansOf m es heads (goneNodes vs cut nodes j))
 
-  pub direct-more : (flag : ℕ) {support s₁ s₀ s f₁ f₀ f support′ flag′ l : ℕ}
-      → _≡_ {A = EdgeData} (record { support = support; isRef = isSet flag }) (gathered i) → l ≡ lenOf vs v → l ≤ cut
-      → s₁ ≡ endSupport m es heads 1 v → s₀ ≡ endSupport m es heads 0 v → s ≡ saturatingAdd s₁ s₀ → f₁ ≡ endFlag m es heads 1 v → f₀
-      ≡ endFlag m es heads 0 v → f ≡ max f₁ f₀
-      → support′ ≡ saturatingAdd support s → flag′ ≡ max flag f → _≡_ {A = EdgeData} (record { support = support′; isRef = isSet flag′ }) (gathered (i + 1))
-  unfolding joinedData
-  direct-more flag {support} {s₁} {s₀} {s} {f₁} {f₀} {f} {support′} {flag′} inv el h q₁ q₀ qs g₁ g₀ gf us uf =
-      (λ t. record {
-        support = (us ∙ ap (saturatingAdd support) (qs ∙ (λ u. saturatingAdd (q₁ u) (q₀ u)))) t;
-        isRef =
-            (ap isSet uf ∙ set-max flag f ∙ ap (λ (b : Bool). isSet flag || b) (ap isSet gf ∙ set-max f₁ f₀
-            ∙ (λ u. isSet (g₁ u) || isSet (g₀ u)))) t;
-      })
-      ∙ ap (λ (d : EdgeData). joinedData d (joinedData (endData m es heads 1 v) (endData m es heads 0 v))) inv
+  pub direct-more : (all into out both all′ : Carried) {l : ℕ} → carriedData all ≡ gathered i → l ≡ lenOf vs v → l ≤ cut
+      → into ≡ endCarried m es heads 1 v → out ≡ endCarried m es heads 0 v → carriedData both ≡ joinedData (carriedData into) (carriedData out)
+      → carriedData all′ ≡ joinedData (carriedData all) (carriedData both) → carriedData all′ ≡ gathered (i + 1)
+  direct-more all into out both all′ inv el h q₁ q₀ qb qa =
+      qa ∙ (λ t. joinedData (inv t) ((qb ∙ (λ u. joinedData (carriedData (q₁ u)) (carriedData (q₀ u)))) t))
       ∙ sym (join-snoc nothing (plansOf m es heads (goneNodes vs cut nodes i)) (planOf m es heads [] v))
       ∙ ap (prefixToSuffixFrom nothing) (sym (ap (plansOf m es heads) (gone-more vs nodes cut i (omega arith))
       ∙ map-append (planOf m es heads []) (goneNodes vs cut nodes i) (v ∷ [])))
@@ -174,16 +166,17 @@ module _ {m k : ℕ} {es₀ vs heads nodes : List ℕ} {cut off u first i : ℕ}
   }
 
   one-edge : (es′ : List ℕ) (s f : ℕ) → 4 * at + 4 ≤ length es → es′ ≡ cond (eqb off 1) (putEdge es at u j s f) (putEdge es at j u s f)
-      → EdgesPushed at es (midEdge off u j (record { support = s; isRef = isSet f }) ∷ []) (at + 1) es′
+      → EdgesPushed at es (midEdge off u j (carries s f) ∷ []) (at + 1) es′
   unfolding newEdge
   one-edge es′ s f r q = byTest (eqb off 1) (λ t. rw t (pushed-one u j s f r (rw t at q))) (λ t. rw t (pushed-one j u s f r (rw t at q)))
 
-  pub pushing-more : {s f l : ℕ} {es′ : List ℕ} → off ≤ 1 → m ≤ k → l ≡ lenOf vs node → cut < l → pairAt 1 heads node < m → 4 * at
-      + 4 ≤ length es → s ≡ endSupport m es heads off node → f ≡ endFlag m es heads off node
-      → es′ ≡ cond (eqb off 1) (putEdge es at u j s f) (putEdge es at j u s f) → PushingMiddles m k es₀ vs heads nodes cut off u first (i + 1) es′ (at + 1) (j + 1)
-  pushing-more {s} {f} {l} {es′} o mk el h en r es-is f-is q = record {
+  pub pushing-more : (d : Carried) {l : ℕ} {es′ : List ℕ} → off ≤ 1 → m ≤ k → l ≡ lenOf vs node → cut < l → pairAt 1 heads node < m
+      → 4 * at + 4 ≤ length es → d ≡ endCarried m es heads off node
+      → es′ ≡ cond (eqb off 1) (putEdge es at u j (d .support) (d .flag)) (putEdge es at j u (d .support) (d .flag))
+      → PushingMiddles m k es₀ vs heads nodes cut off u first (i + 1) es′ (at + 1) (j + 1)
+  pushing-more d {l} {es′} o mk el h en r d-is q = record {
     number = omega (arith, P .number, ap length more, length-append (leftNodes vs cut nodes i) (node ∷ []));
-    edges = subst (λ (new : List Edge). EdgesPushed k es₀ new (at + 1) es′) (sym news) (pushed-then (P .edges) (one-edge es′ s f r q));
+    edges = subst (λ (new : List Edge). EdgesPushed k es₀ new (at + 1) es′) (sym news) (pushed-then (P .edges) (one-edge es′ (d .support) (d .flag) r q));
   }
     where
       more : leftNodes vs cut nodes (i + 1) ≡ leftNodes vs cut nodes i ++ (node ∷ [])
@@ -192,15 +185,12 @@ module _ {m k : ℕ} {es₀ vs heads nodes : List ℕ} {cut off u first i : ℕ}
       kept : (x : ℕ) → x < 4 * m → getD es x 0 ≡ getD es₀ x 0
       kept x b = P .edges .same x (omega arith)
 
-      carried : midData off (planOf m es₀ heads [] node) ≡ record { support = s; isRef = isSet f }
-      carried = mid-data m es₀ heads [] off node o ∙ sym (λ t. record {
-        support = (es-is ∙ support-same m es₀ es heads kept off node) t;
-        isRef = isSet ((f-is ∙ flag-same m es₀ es heads kept off node en) t);
-      })
+      carried : midData off (planOf m es₀ heads [] node) ≡ carriedData d
+      carried = mid-data m es₀ heads [] off node o ∙ sym (ap carriedData (d-is ∙ carried-same m es₀ es heads kept off node en))
 
       news : midEdges off u first (plansOf m es₀ heads (leftNodes vs cut nodes (i + 1)))
           ≡ midEdges off u first (plansOf m es₀ heads (leftNodes vs cut nodes i))
-          ++ (midEdge off u j (record { support = s; isRef = isSet f }) ∷ [])
+          ++ (midEdge off u j (carriedData d) ∷ [])
       news = ap (λ (l : List ℕ). midEdges off u first (plansOf m es₀ heads l)) more
           ∙ ap (midEdges off u first) (map-append (planOf m es₀ heads []) (leftNodes vs cut nodes i) (node ∷ []))
           ∙ mid-snoc off u first (plansOf m es₀ heads (leftNodes vs cut nodes i)) (planOf m es₀ heads [] node)

@@ -8,19 +8,22 @@ use native.Mathlib.Nat.{add-zero}
 use lib.ListN.{length, getD, length-append}
 use lib.Dec.{eqb, ltb}
 use borrow.Author.Tests.{lt-ltb, le-ltb, ltb-true, eqb-true, eqb-false}
-use Rattle.defs.specs.Lists.{tab, tabFrom, keepIf, anyOf}
-use Rattle.defs.specs.SeqGraph.{Edge}
-use Rattle.defs.specs.Rewrites.{EdgeData, MidPlan, joinedData, newEdge, edgesToMiddles, edgesFromMiddles, prefixToSuffixFrom}
+use Rattle.defs.specs.Lists.{bit, tab, tabFrom, keepIf, anyOf}
+use Rattle.defs.specs.SeqGraph.{Edge, EdgeData, joinedData, newEdge}
+use Rattle.defs.specs.Rewrites.{MidPlan, edgesToMiddles, edgesFromMiddles, prefixToSuffixFrom}
+use Rattle.defs.specs.Record.{flagIsRef}
 use Rattle.laws.proofs.Walks.{byTest}
 use Rattle.laws.proofs.ListLaws.{of-keepIf, keepIf-same}
 use Rattle.laws.proofs.Counts.{length-both}
 use Rattle.laws.proofs.SplitCounts.{length-toMiddles, length-fromMiddles}
 use Rattle.tabs.proofs.Tabs.{length-tab}
 use Rattle.tabs.proofs.ListTabs.{tab-append, keepIf-append, keepIf-tab-yes, keepIf-tab-no, of-mem-tab}
-use Rattle.store.specs.Store.{isSet, numsIn}
+use Rattle.edge_data.specs.EdgeData.{carriedData}
+use Rattle.edge_data.specs.declared.Carried.{Carried}
+use Rattle.store.specs.Store.{numsIn}
 use Rattle.index.specs.Index.{pairAt}
 use Rattle.split_and_update.specs.Pushed.{lenOf, leaves, leftNodes}
-use Rattle.split_and_update.specs.Ends.{Entered, endSupport, endFlag, endData, planOf, plansOf, goneNodes, Mids, midData, midEdges}
+use Rattle.split_and_update.specs.Ends.{Entered, endCarried, endData, planOf, plansOf, goneNodes, Mids, midData, midEdges}
 
 abbrev nodeAt : List ℕ → ℕ → ℕ
 nodeAt nodes i = getD nodes i 0
@@ -114,18 +117,16 @@ mid-data m es heads q off v h = byTest (eqb off 1)
     (λ t. let z : 0 ≡ off = omega (arith, eqb-false off 1 t, h) in rw t (ap (λ (x : ℕ). endData m es heads x v) z))
 
 module _ (m : ℕ) (es es′ heads : List ℕ) (same : (i : ℕ) → i < 4 * m → getD es′ i 0 ≡ getD es i 0) where
-  pub support-same : (off v : ℕ) → endSupport m es′ heads off v ≡ endSupport m es heads off v
-  support-same off v = byTest (ltb (pairAt off heads v) m)
-      (λ t. rw t (same (4 * pairAt off heads v + 2) (omega (arith, ltb-true (pairAt off heads v) m t))))
-      (λ t. rw t)
-
-  pub flag-same : (off v : ℕ) → pairAt 1 heads v < m → endFlag m es′ heads off v ≡ endFlag m es heads off v
-  flag-same off v h = byTest (ltb (pairAt off heads v) m)
-      (λ t. rw t (same (4 * pairAt off heads v + 3) (omega (arith, ltb-true (pairAt off heads v) m t))))
-      (λ t. rw t (same (4 * pairAt 1 heads v + 3) (omega arith)))
+  pub carried-same : (off v : ℕ) → pairAt 1 heads v < m → endCarried m es′ heads off v ≡ endCarried m es heads off v
+  carried-same off v h = byTest (ltb (pairAt off heads v) m)
+      (λ t. let b = ltb-true (pairAt off heads v) m t in rw t (λ i. record {
+        support = same (4 * pairAt off heads v + 2) (omega (arith, b)) i;
+        flag = same (4 * pairAt off heads v + 3) (omega (arith, b)) i;
+      }))
+      (λ t. rw t (λ i. record { support = 0; flag = bit (flagIsRef (same (4 * pairAt 1 heads v + 3) (omega arith) i)) }))
 
   pub data-same : (off v : ℕ) → pairAt 1 heads v < m → endData m es′ heads off v ≡ endData m es heads off v
-  data-same off v h = λ i. record { support = support-same off v i; isRef = isSet (flag-same off v h i) }
+  data-same off v h = ap carriedData (carried-same off v h)
 
 pub map-same : {A B : Type 0} (f g : A → B) (l : List A) → ((x : A) → List·Memᴰ x l → f x ≡ g x) → map f l ≡ map g l
 map-same f g [] h = refl

@@ -8,9 +8,9 @@ use lib.ListN.{length, getD, take, drop}
 use lib.Dec.{eqb, ltb}
 use borrow.Author.Tests.{lt-ltb, le-ltb, ltb-true, ltb-false}
 use Rattle.defs.specs.Lists.{keepIf, anyOf}
-use Rattle.defs.specs.SeqGraph.{Edge, Graph, vertexSequence, edgesFrom, edgesInto, isReferenceNode}
-use Rattle.defs.specs.Rewrites.{EdgeData, MidPlan, midPlan, processEdge, hasRemaining, edgesToMiddles, edgesFromMiddles, prefixToSuffixFrom}
-use Rattle.defs.specs.Rewrites.{newEdge, joinedData}
+use Rattle.defs.specs.SeqGraph.{Edge, Graph, vertexSequence, edgesFrom, edgesInto, isReferenceNode, EdgeData, edgeData, newEdge, joinedData}
+use Rattle.defs.specs.Rewrites.{MidPlan, midPlan, processEdge, hasRemaining, edgesToMiddles, edgesFromMiddles, prefixToSuffixFrom}
+use Rattle.laws.proofs.Flags.{plain-says-ref, plain-not-capped}
 use Rattle.laws.proofs.Walks.{byTest}
 use Rattle.laws.proofs.ListLaws.{keepIf-yes, keepIf-no, any-yes, any-no}
 use Rattle.tabs.proofs.Tabs.{getD-tab}
@@ -59,7 +59,7 @@ module _ (k n m : ℕ) (es vs p heads : List ℕ) (v : ℕ) (M : Middle m es hea
   into-one = into-is k n m es vs p v ∙ ap (map (edgeIn es)) (M .into)
 
   to-is : processEdge g v (edgesInto g v) ≡ endData m es heads 1 v
-  unfolding processEdge
+  unfolding processEdge edgeData
   to-is = ap (processEdge g v) into-one ∙ rw (lt-ltb (pairAt 1 heads v) m (M .first))
 
   reference : edgesFrom g v ≡ [] → isReferenceNode g v ≡ (edgeIn es (pairAt 1 heads v)) .isRef
@@ -67,11 +67,15 @@ module _ (k n m : ℕ) (es vs p heads : List ℕ) (v : ℕ) (M : Middle m es hea
   reference h = ref-into v (g .edges) h ∙ ap (anyOf (λ (d : Edge). d .isRef)) (unfold edgesInto in into-one) ∙ any-one (edgeIn es (pairAt 1 heads v))
 
   from-end : processEdge g v (edgesFrom g v) ≡ endData m es heads 0 v
-  unfolding processEdge
+  unfolding processEdge edgeData
   from-end = byTest (ltb (pairAt 0 heads v) m)
       (λ t. let o = M .out (ltb-true _ _ t) in ap (processEdge g v) (from-is k n m es vs p v ∙ ap (map (edgeIn es)) (o .1)) ∙ rw t)
       (λ t. let z : edgesFrom g v ≡ [] = from-is k n m es vs p v ∙ ap (map (edgeIn es)) (M .end (ltb-false _ _ t)) in
-      ap (processEdge g v) z ∙ rw t (λ i. record { support = 0; isRef = reference z i }))
+      ap (processEdge g v) z ∙ rw t (λ i. record {
+        support = 0;
+        isRef = (reference z ∙ sym (plain-says-ref ((edgeIn es (pairAt 1 heads v)) .isRef))) i;
+        capped = sym (plain-not-capped ((edgeIn es (pairAt 1 heads v)) .isRef)) i;
+      }))
 
   module _ (x y : ℕ) (b : v < n) (inside : startOf vs v + lenOf vs v ≤ length p) (long : x + y ≤ lenOf vs v) where
     rest-is : drop x (take (length (vertexSequence g v) - y) (vertexSequence g v)) ≡ restOf vs p x y v

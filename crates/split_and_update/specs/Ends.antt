@@ -5,13 +5,15 @@ use mathlib.Core.List.{List, [], _∷_, _++_, map}
 use Prim.Native.Nat.{ℕ, _+_, _*_, _-_, _≤_, _<_}
 use lib.ListN.{length, getD}
 use lib.Dec.{eqb, ltb}
-use Rattle.defs.specs.Lists.{keepIf, anyOf}
-use Rattle.defs.specs.SeqGraph.{Edge, saturatingAdd}
-use Rattle.defs.specs.Rewrites.{EdgeData, MidPlan, newEdge, edgesToMiddles, edgesFromMiddles, prefixToSuffixFrom, onlyIf}
-use Rattle.store.specs.Store.{isSet, numsIn}
+use Rattle.defs.specs.Lists.{bit, keepIf, anyOf}
+use Rattle.defs.specs.SeqGraph.{Edge, EdgeData, newEdge, joinedData}
+use Rattle.defs.specs.Rewrites.{MidPlan, supportOne, edgesToMiddles, edgesFromMiddles, prefixToSuffixFrom, onlyIf}
+use Rattle.defs.specs.Record.{flagIsRef}
+use Rattle.edge_data.specs.EdgeData.{carriedData}
+use Rattle.edge_data.specs.declared.Carried.{Carried}
+use Rattle.store.specs.Store.{carriedAt, numsIn}
 use Rattle.index.specs.Index.{pairAt}
 use Rattle.split_and_update.specs.Pushed.{EdgesPushed, edgeIf, leaves, leftNodes}
-use Rattle.split_and_update.specs.declared.Direct.{Direct}
 use Rattle.split_and_update.specs.declared.Places.{Places}
 
 -- v has an edge in, and its places in the index can be read
@@ -21,15 +23,13 @@ pub record Entered (m : ℕ) (es heads : List ℕ) (off v : ℕ) : Type 0 where
   pub heads-room : 2 * v + 2 ≤ length heads
   pub first : pairAt 1 heads v < m
 
--- support and flag of v's first edge at the end off; where there is none, 0 and the flag of the edge in
-abbrev pub endSupport : ℕ → List ℕ → List ℕ → ℕ → ℕ → ℕ
-endSupport m es heads off v = cond (ltb (pairAt off heads v) m) (getD es (4 * pairAt off heads v + 2) 0) 0
-
-abbrev pub endFlag : ℕ → List ℕ → List ℕ → ℕ → ℕ → ℕ
-endFlag m es heads off v = cond (ltb (pairAt off heads v) m) (getD es (4 * pairAt off heads v + 3) 0) (getD es (4 * pairAt 1 heads v + 3) 0)
+-- what v's first edge at the end off carries; where there is none, 0 and the reference flag of the edge in
+abbrev pub endCarried : ℕ → List ℕ → List ℕ → ℕ → ℕ → Carried
+endCarried m es heads off v =
+    cond (ltb (pairAt off heads v) m) (carriedAt es (pairAt off heads v)) record { support = 0; flag = bit (flagIsRef (getD es (4 * pairAt 1 heads v + 3) 0)) }
 
 abbrev pub endData : ℕ → List ℕ → List ℕ → ℕ → ℕ → EdgeData
-endData m es heads off v = record { support = endSupport m es heads off v; isRef = isSet (endFlag m es heads off v) }
+endData m es heads off v = carriedData (endCarried m es heads off v)
 
 -- a middle of which q remains
 abbrev pub planOf : ℕ → List ℕ → List ℕ → List ℕ → ℕ → MidPlan
@@ -64,14 +64,11 @@ abbrev pub midEdges : ℕ → ℕ → ℕ → List MidPlan → List Edge
 midEdges off u j l = cond (eqb off 1) (edgesToMiddles u j l) (edgesFromMiddles j u l)
 
 abbrev pub nothing : EdgeData
-nothing = record { support = 0; isRef = false }
-
-abbrev pub directData : Direct → EdgeData
-directData d = record { support = d .support; isRef = isSet (d .flag) }
+nothing = record { support = 0; isRef = false; capped = false }
 
 -- the edges of all middles of which nothing remains
-pub record DirectIs (m : ℕ) (es vs heads nodes : List ℕ) (c cut : ℕ) (d : Direct) : Type 0 where
-  pub is : directData d ≡ prefixToSuffixFrom nothing (plansOf m es heads (goneNodes vs cut nodes c))
+pub record DirectIs (m : ℕ) (es vs heads nodes : List ℕ) (c cut : ℕ) (d : Carried) : Type 0 where
+  pub is : carriedData d ≡ prefixToSuffixFrom nothing (plansOf m es heads (goneNodes vs cut nodes c))
 
 -- the new edges, in order: into the prefix, out of the suffix, into the middles, from prefix to suffix, out of the middles
 abbrev pub upper : Places → ℕ
@@ -81,12 +78,12 @@ abbrev pub lower : Places → ℕ
 lower w = cond (w .suffixed) (w .suffix) (w .bottom)
 
 abbrev pub directOnce : Places → EdgeData → EdgeData
-directOnce w d = record { support = cond (w .prefixed) (saturatingAdd (d .support) (d .support)) (d .support); isRef = d .isRef }
+directOnce w d = cond (w .prefixed) (joinedData d d) d
 
 unfoldable pub updateEdges : Places → List MidPlan → EdgeData → List Edge
 updateEdges w l d =
-    onlyIf (w .prefixed) (newEdge (w .top) (w .prefix) record { support = 1; isRef = anyRef 1 l || d .isRef } ∷ [])
-    ++ (onlyIf (w .linked) (newEdge (w .suffix) (w .bottom) record { support = 1; isRef = anyRef 0 l || d .isRef } ∷ [])
+    onlyIf (w .prefixed) (newEdge (w .top) (w .prefix) (supportOne (anyRef 1 l || d .isRef)) ∷ [])
+    ++ (onlyIf (w .linked) (newEdge (w .suffix) (w .bottom) (supportOne (anyRef 0 l || d .isRef)) ∷ [])
     ++ (edgesToMiddles (upper w) (w .middles) l ++ (onlyIf (w .consumed) (newEdge (upper w) (lower w) (directOnce w d) ∷ [])
     ++ edgesFromMiddles (w .middles) (lower w) l)))
 

@@ -6,17 +6,14 @@ ghost use Prim.Native.Nat.{_+_, _*_, _-_, _<_, _≤_};
 ghost use lib.Dec.{eqb};
 ghost use lib.ListN.{length};
 ghost use Rattle.defs.specs.Lists.{bit};
-ghost use Rattle.store.specs.Store.{isSet, putEdge, part};
+ghost use Rattle.defs.specs.SeqGraph.{joinedData};
+ghost use Rattle.edge_data.specs.EdgeData.{carriedData};
+ghost use Rattle.store.specs.Store.{putEdge, part};
 ghost use Rattle.split_and_update.specs.Pushed.{PartPushed, Restables, RestsPushed, leftNodes};
-ghost use Rattle.split_and_update.specs.Ends.{Entered, endSupport, endFlag, Mids, DirectIs, anyRef, plansOf, EdgeIfPushed, MidsPushed, Edgeable, EdgesAdded};
+ghost use Rattle.split_and_update.specs.Ends.{Entered, endCarried, Mids, DirectIs, anyRef, plansOf, EdgeIfPushed, MidsPushed, Edgeable, EdgesAdded};
 ghost use Rattle.split_and_update.specs.Split.{Vertable, VertsAdded, placesOf, Splittable, SplitDone};
+use edge_data::Carried;
 use memory::Held;
-
-// What the edge from prefix to suffix carries.
-pub struct Direct {
-    pub support: u32,
-    pub flag: u32,
-}
 
 // Where the new vertices stand: the prefix, the suffix, the first of what remains of the middles.
 pub struct Places {
@@ -50,28 +47,21 @@ pub fn pick(test: bool, a: u32, b: u32) -> u32
     if test { a } else { b }
 }
 
-// The support of v's first edge at the end `off`; 0 where there is none.
-pub fn end_support(es: &[u32], m: usize, heads: &[u32], off: usize, v: u32) -> u32
+// What v's first edge at the end `off` carries. Where there is none: support 0, a reference edge where the edge into v is one, not capped.
+pub fn end_data(es: &[u32], m: usize, heads: &[u32], off: usize, v: u32) -> Carried
     requires { ⌜ Entered m (now es) (now heads) off v ⌝ }
-    ensures { λ r. ⌜ r ≡ endSupport m (now (es .entry)) (now (heads .entry)) off v ⌝ }
+    ensures { λ r. ⌜ r ≡ endCarried m (now (es .entry)) (now (heads .entry)) off v ⌝ }
 {
     let e = heads[2 * (v as usize) + off] as usize;
     if e < m {
-        return store::edge_support(es, e);
+        return store::carried(es, e);
     }
-    0
-}
-
-// Its flag; where there is none, that of the edge into v.
-pub fn end_flag(es: &[u32], m: usize, heads: &[u32], off: usize, v: u32) -> u32
-    requires { ⌜ Entered m (now es) (now heads) off v ⌝ }
-    ensures { λ r. ⌜ r ≡ endFlag m (now (es .entry)) (now (heads .entry)) off v ⌝ }
-{
-    let e = heads[2 * (v as usize) + off] as usize;
-    if e < m {
-        return store::edge_flag(es, e);
+    let into = heads[2 * (v as usize) + 1] as usize;
+    let flag = edge_data::new_flag(store::edge_is_ref(es, into));
+    Carried {
+        support: 0,
+        flag: flag,
     }
-    store::edge_flag(es, heads[2 * (v as usize) + 1] as usize)
 }
 
 // A part of the pool that starts at `start` becomes the sequence of vertex k, unless it is empty; the number of vertices.
@@ -130,8 +120,8 @@ pub fn push_rests(
     j
 }
 
-// Whether an edge at the end `off` of one of the middles that remain is a reference edge: a flag.
-pub fn mids_flag(
+// Whether an edge at the end `off` of one of the middles that remain is a reference edge.
+pub fn mids_ref(
     es: &[u32],
     m: usize,
     vs: &[u32],
@@ -140,20 +130,21 @@ pub fn mids_flag(
     c: usize,
     cut: usize,
     off: usize,
-) -> u32
+) -> bool
     requires { ⌜ (off ≤ 1) × Mids m (now es) (now vs) (now heads) (now nodes) c ⌝ }
-    ensures { λ r. ⌜ isSet r ≡ anyRef off (plansOf m (now (es .entry)) (now (heads .entry)) (leftNodes (now (vs .entry)) cut (now (nodes .entry)) c)) ⌝ }
+    ensures { λ r. ⌜ r ≡ anyRef off (plansOf m (now (es .entry)) (now (heads .entry)) (leftNodes (now (vs .entry)) cut (now (nodes .entry)) c)) ⌝ }
 {
-    let mut flag = 0u32;
+    let mut any = false;
     let mut i = 0;
     while i < c {
         let v = nodes[i];
         i += 1;
         if cut < store::vertex_len(vs, v) {
-            flag = store::larger(flag, end_flag(es, m, heads, off, v));
+            let d = end_data(es, m, heads, off, v);
+            any = edge_data::either(any, edge_data::flag_is_ref(d.flag));
         }
     }
-    flag
+    any
 }
 
 // What the edges of the middles that are consumed carry together.
@@ -165,30 +156,32 @@ pub fn prefix_to_suffix(
     nodes: &[u32],
     c: usize,
     cut: usize,
-) -> Direct
+) -> Carried
     requires { ⌜ Mids m (now es) (now vs) (now heads) (now nodes) c ⌝ }
     ensures { λ r. ⌜ DirectIs m (now (es .entry)) (now (vs .entry)) (now (heads .entry)) (now (nodes .entry)) c cut r ⌝ }
 {
-    let mut support = 0u32;
-    let mut flag = 0u32;
+    let mut all = Carried {
+        support: 0,
+        flag: 0,
+    };
     let mut i = 0;
     while i < c {
         let v = nodes[i];
         i += 1;
         if store::vertex_len(vs, v) <= cut {
-            let s = store::saturating_add(
-                end_support(es, m, heads, 1, v),
-                end_support(es, m, heads, 0, v),
-            );
-            let f = store::larger(end_flag(es, m, heads, 1, v), end_flag(es, m, heads, 0, v));
-            support = store::saturating_add(support, s);
-            flag = store::larger(flag, f);
+            let into = end_data(es, m, heads, 1, v);
+            let out = end_data(es, m, heads, 0, v);
+            all = edge_data::joined(all, edge_data::joined(into, out));
         }
     }
-    Direct {
-        support: support,
-        flag: flag,
-    }
+    all
+}
+
+// An edge that is added twice is joined with itself.
+pub fn twice_if(test: bool, d: Carried) -> Carried
+    ensures { λ r. ⌜ carriedData r ≡ cond test (joinedData (carriedData d) (carriedData d)) (carriedData d) ⌝ }
+{
+    if test { edge_data::joined(d, d) } else { d }
 }
 
 // Stores an edge between u and the middle j at k: from u to j at the end 1, from j to u at the end 0.
@@ -228,9 +221,8 @@ pub fn push_mid_edges(
         let v = nodes[i];
         i += 1;
         if cut < store::vertex_len(vs, v) {
-            let s = end_support(es, m, heads, off, v);
-            let f = end_flag(es, m, heads, off, v);
-            put_mid_edge(es, at, off, u, j, s, f);
+            let d = end_data(es, m, heads, off, v);
+            put_mid_edge(es, at, off, u, j, d.support, d.flag);
             at += 1;
             j += 1;
         }
@@ -265,16 +257,18 @@ pub fn add_edges(
     ensures { λ r. ⌜ EdgesAdded m (now (es .entry)) (now (vs .entry)) (now (heads .entry)) (now (nodes .entry)) c cut w r (now (es .exit)) ⌝ }
 {
     let d = prefix_to_suffix(es, m, vs, heads, nodes, c, cut);
-    let into = store::larger(mids_flag(es, m, vs, heads, nodes, c, cut, 1), d.flag);
-    let out = store::larger(mids_flag(es, m, vs, heads, nodes, c, cut, 0), d.flag);
+    let direct = edge_data::flag_is_ref(d.flag);
+    let to_mids = mids_ref(es, m, vs, heads, nodes, c, cut, 1);
+    let from_mids = mids_ref(es, m, vs, heads, nodes, c, cut, 0);
+    let into = edge_data::new_flag(edge_data::either(to_mids, direct));
+    let out = edge_data::new_flag(edge_data::either(from_mids, direct));
     let t = pick(w.prefixed, w.prefix, w.top);
     let b = pick(w.suffixed, w.suffix, w.bottom);
-    let twice = store::saturating_add(d.support, d.support);
-    let s = pick(w.prefixed, twice, d.support);
+    let once = twice_if(w.prefixed, d);
     let k1 = push_edge_if(es, m, w.prefixed, w.top, w.prefix, 1, into);
     let k2 = push_edge_if(es, k1, w.linked, w.suffix, w.bottom, 1, out);
     let k3 = push_mid_edges(es, m, k2, vs, heads, nodes, c, cut, 1, t, w.middles);
-    let k4 = push_edge_if(es, k3, w.consumed, t, b, s, d.flag);
+    let k4 = push_edge_if(es, k3, w.consumed, t, b, once.support, once.flag);
     push_mid_edges(es, m, k4, vs, heads, nodes, c, cut, 0, b, w.middles)
 }
 

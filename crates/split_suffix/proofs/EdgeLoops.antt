@@ -8,15 +8,19 @@ use native.Mathlib.Nat.{add-zero}
 use native.Mathlib.Numerals.{add-one}
 use native.Mathlib.Omega.{arith}
 use lib.ListN.{length, getD}
-use Rattle.defs.specs.Lists.{tab, concat}
-use Rattle.defs.specs.SeqGraph.{Edge, hasEnds, addOrUpdateEdge, addOrUpdateEdges}
+use Rattle.defs.specs.Lists.{bit, tab, concat}
+use Rattle.defs.specs.SeqGraph.{Edge, EdgeData, edgeData, hasEnds, addOrUpdateEdge, addOrUpdateEdges}
+use Rattle.defs.specs.Record.{flagIsRef}
+use Rattle.laws.proofs.Flags.{plain-says-ref, plain-not-capped}
 use Rattle.laws.proofs.Walks.{byTest}
 use Rattle.laws.proofs.Edges.{joins-ends}
 use Rattle.laws.proofs.SplitCounts.{raiseAll-append}
 use Rattle.tabs.proofs.Tabs.{tab-snoc, tab-zero, length-tab, getD-tab}
 use Rattle.tabs.proofs.ListTabs.{tab-append, raiseAll-none, mem-tab}
 use Rattle.tabs.proofs.SumTabs.{concat-append, concat-snoc}
-use Rattle.store.specs.Store.{isSet, edge, edgeIn, edgesIn, putEdge, EndsBelow}
+use Rattle.edge_data.specs.EdgeData.{carries}
+use Rattle.edge_data.specs.declared.Carried.{Carried}
+use Rattle.store.specs.Store.{edge, edgeIn, edgesIn, putEdge, EndsBelow}
 use Rattle.store.proofs.EdgeLaws.{no-edge, length-put, put-other, packed-miss}
 use Rattle.compact.proofs.CompactLaws.{ends-mem, mem-ends}
 use Rattle.index.specs.Index.{edgeEnd}
@@ -24,15 +28,15 @@ use Rattle.redirect.specs.Redirect.{redirectedAll, Redirectable, Redirected}
 use Rattle.redirect.proofs.RaiseLaws.{first-missing, raise-longer, raiseAll-longer, raiseAll-ends}
 use Rattle.redirect.proofs.RedirectLaws.{marks-start}
 use Rattle.redirect.proofs.SameLaws.{all-same, indexed-same, into-ends}
-use Rattle.split_suffix.specs.Split.{hasPrefix, entryNumber, linkEdges, blockEdges, suffixNumber, nodeEdges, suffixEdges, Linkable, LinksDone}
+use Rattle.split_suffix.specs.Split.{hasPrefix, entryNumber, fromPrefix, toBottom, linkEdges, blockEdges, suffixNumber, nodeEdges, suffixEdges, Linkable, LinksDone}
 use Rattle.split_suffix.specs.Split.{MarksLow, BlockReady, BlockDone, SplitEdgesReady, SplitEdgesDone}
 
 -- ---- new edges behind the old ones
 
 -- an edge with a new end is added
 push-new : {y k : ℕ} {es : List ℕ} (a b s f : ℕ) → EndsBelow y k es → 4 * k + 4 ≤ length es → ((x z : ℕ) → x < y → z < y → x ≡ a → z ≡ b → ⊥)
-    → edgesIn (k + 1) (putEdge es k a b s f) ≡ addOrUpdateEdge a b s (isSet f) (edgesIn k es)
-push-new {y} {k} {es} a b s f E r new = packed-miss k es (putEdge es k a b s f) a b s f k r
+    → edgesIn (k + 1) (putEdge es k a b s f) ≡ addOrUpdateEdge a b (carries s f) (edgesIn k es)
+push-new {y} {k} {es} a b s f E r new = packed-miss k es (putEdge es k a b s f) a b record { support = s; flag = f } k r
     (sym (first-missing (hasEnds a b) no-edge (edgesIn k es) none ∙ length-tab k (edgeIn es))) (omega arith) refl
   where
     none : (j : ℕ) → j < length (edgesIn k es) → hasEnds a b (getD (edgesIn k es) j no-edge) ≡ false
@@ -41,32 +45,42 @@ push-new {y} {k} {es} a b s f E r new = packed-miss k es (putEdge es k a b s f) 
         rw (getD-tab k (edgeIn es) j no-edge c) (byTest (hasEnds a b (edgeIn es j)) (λ t. let z = joins-ends a b (edgeIn es j) t in
         absurd (new _ _ (E .at j c .0) (E .at j c .1) (z .0) (z .1))) (λ t. t))
 
+-- the flag of a new edge says whether it is a reference edge, and that it is not capped
+plain-is : (r : Bool) → _≡_ {A = EdgeData} (carries 1 (bit r)) record { support = 1; isRef = r; capped = false }
+plain-is r = λ i. record { support = 1; isRef = plain-says-ref r i; capped = plain-not-capped r i }
+
 module _ {y bottom k : ℕ} {es : List ℕ} (L : Linkable y bottom k es) where
   pub link-one : (s f : ℕ) → LinksDone false y bottom s f k es (k + 1) (putEdge es k y bottom s f)
-  unfolding addOrUpdateEdges
+  unfolding addOrUpdateEdges edgeData
   link-one s f = record {
     is = push-new y bottom s f (L .ends) (omega (arith, L .room)) (λ x z a b q r. omega arith);
     old = λ j b. put-other es k y bottom s f j (λ q. omega arith);
   }
 
   module _ (s f : ℕ) where
-    abbrev es₁ : List ℕ
-    es₁ = putEdge es k (y + 1) y 1 f
+    abbrev plain : Edge
+    plain = fromPrefix y (edge y bottom s f)
 
-    first-is : edgesIn (k + 1) es₁ ≡ addOrUpdateEdge (y + 1) y 1 (isSet f) (edgesIn k es)
-    first-is = push-new (y + 1) y 1 f (L .ends) (omega (arith, L .room)) (λ x z a b q r. omega arith)
+    abbrev es₁ : List ℕ
+    es₁ = putEdge es k (y + 1) y 1 (bit (flagIsRef f))
+
+    first-is : edgesIn (k + 1) es₁ ≡ addOrUpdateEdge (y + 1) y (edgeData plain) (edgesIn k es)
+    unfolding edgeData
+    first-is = push-new (y + 1) y 1 (bit (flagIsRef f)) (L .ends) (omega (arith, L .room)) (λ x z a b q r. omega arith)
+        ∙ ap (λ (d : EdgeData). addOrUpdateEdge (y + 1) y d (edgesIn k es)) (plain-is (flagIsRef f))
 
     -- the edges then: none leaves y
     old-ends : (e : Edge) → List·Memᴰ e (edgesIn (k + 1) es₁) → (e .from ≡ y → ⊥)
     unfolding addOrUpdateEdges
-    old-ends e m = raiseAll-ends (λ a b. a ≡ y → ⊥) (record { from = y + 1; to = y; support = 1; isRef = isSet f } ∷ []) (edgesIn k es)
+    old-ends e m = raiseAll-ends (λ a b. a ≡ y → ⊥) (plain ∷ []) (edgesIn k es)
         (λ d o q. omega (arith, q, (ends-mem (L .ends) d o) .0))
-        (λ d o q. ⊎-elim (λ (i : d ≡ record { from = y + 1; to = y; support = 1; isRef = isSet f }).
+        (λ d o q. ⊎-elim (λ (i : d ≡ plain).
         omega (arith, q, ap (λ (x : Edge). x .from) i)) (λ n. List·Memᴰ·not-nil n) (List·Memᴰ·cases-cons o))
         e (rw first-is at m)
 
-    second-is : edgesIn (k + 1 + 1) (putEdge es₁ (k + 1) y bottom s f) ≡ addOrUpdateEdge y bottom s (isSet f) (edgesIn (k + 1) es₁)
-    second-is = packed-miss (k + 1) es₁ (putEdge es₁ (k + 1) y bottom s f) y bottom s f (k + 1) (rw (length-put es k (y + 1) y 1 f) (omega (arith, L .room)))
+    second-is : edgesIn (k + 1 + 1) (putEdge es₁ (k + 1) y bottom s f) ≡ addOrUpdateEdge y bottom (carries s f) (edgesIn (k + 1) es₁)
+    second-is = packed-miss (k + 1) es₁ (putEdge es₁ (k + 1) y bottom s f) y bottom record { support = s; flag = f } (k + 1)
+        (rw (length-put es k (y + 1) y 1 (bit (flagIsRef f))) (omega (arith, L .room)))
         (sym (first-missing (hasEnds y bottom) no-edge (edgesIn (k + 1) es₁) none ∙ length-tab (k + 1) (edgeIn es₁))) (omega arith) refl
       where
         none : (j : ℕ) → j < length (edgesIn (k + 1) es₁) → hasEnds y bottom (getD (edgesIn (k + 1) es₁) j no-edge) ≡ false
@@ -77,19 +91,19 @@ module _ {y bottom k : ℕ} {es : List ℕ} (L : Linkable y bottom k es) where
             (λ t. t))
 
     pub link-two : LinksDone true y bottom s f k es (k + 2) (putEdge es₁ (k + 1) y bottom s f)
-    unfolding addOrUpdateEdges
+    unfolding addOrUpdateEdges edgeData
     link-two = record {
-      is = ap (λ (x : ℕ). edgesIn x (putEdge es₁ (k + 1) y bottom s f)) two ∙ second-is ∙ ap (addOrUpdateEdge y bottom s (isSet f)) first-is;
-      old = λ j b. put-other es₁ (k + 1) y bottom s f j (λ q. omega arith) ∙ put-other es k (y + 1) y 1 f j (λ q. omega arith);
+      is = ap (λ (x : ℕ). edgesIn x (putEdge es₁ (k + 1) y bottom s f)) two ∙ second-is ∙ ap (addOrUpdateEdge y bottom (carries s f)) first-is;
+      old = λ j b. put-other es₁ (k + 1) y bottom s f j (λ q. omega arith) ∙ put-other es k (y + 1) y 1 (bit (flagIsRef f)) j (λ q. omega arith);
     }
       where
         two : k + 2 ≡ k + 1 + 1
         two = omega arith
 
 -- what the code leaves with a prefix, and without
-pub links-two : {prefix : Bool} {y bottom k s f : ℕ} {es es₁ es₂ : List ℕ} → Linkable y bottom k es → prefix ≡ true → es₁
-    ≡ putEdge es k (y + 1) y 1 f → es₂ ≡ putEdge es₁ (k + 1) y bottom s f → LinksDone prefix y bottom s f k es (k + 2) es₂
-links-two {s = s} {f = f} L t a b = rw (t, b, a) (link-two L s f)
+pub links-two : {prefix : Bool} {y bottom k s f g : ℕ} {es es₁ es₂ : List ℕ} → Linkable y bottom k es → prefix ≡ true → g ≡ bit (flagIsRef f)
+    → es₁ ≡ putEdge es k (y + 1) y 1 g → es₂ ≡ putEdge es₁ (k + 1) y bottom s f → LinksDone prefix y bottom s f k es (k + 2) es₂
+links-two {s = s} {f = f} L t q a b = rw (t, b, a, q) (link-two L s f)
 
 pub links-one : {prefix : Bool} {y bottom k s f : ℕ} {es es₁ : List ℕ} → Linkable y bottom k es → prefix ≡ false → es₁
     ≡ putEdge es k y bottom s f → LinksDone prefix y bottom s f k es (k + 1) es₁
@@ -105,14 +119,14 @@ entry-low false y = (omega arith, omega arith)
 links-to : (prefix : Bool) (y bottom : ℕ) (d e : Edge) → bottom < y → List·Memᴰ e (linkEdges prefix y bottom d)
     → (e .from < entryNumber prefix y + 1) × (e .to < entryNumber prefix y + 1) × (e .to ≡ entryNumber prefix y → ⊥)
 links-to true y bottom d e h m = ⊎-elim
-    (λ (i : e ≡ record { from = y + 1; to = y; support = 1; isRef = d .isRef }). (
+    (λ (i : e ≡ fromPrefix y d). (
       omega (arith, ap (λ (x : Edge). x .from) i),
       omega (arith, ap (λ (x : Edge). x .to) i),
       λ q.
           omega (arith, q, ap (λ (x : Edge). x .to) i),
     ))
     (λ n. ⊎-elim
-    (λ (i : e ≡ record { from = y; to = bottom; support = d .support; isRef = d .isRef }). (
+    (λ (i : e ≡ toBottom y bottom d). (
       omega (arith, ap (λ (x : Edge). x .from) i),
       omega (arith, ap (λ (x : Edge). x .to) i),
       λ q.
@@ -121,7 +135,7 @@ links-to true y bottom d e h m = ⊎-elim
     (λ o. absurd (List·Memᴰ·not-nil o)) (List·Memᴰ·cases-cons n))
     (List·Memᴰ·cases-cons m)
 links-to false y bottom d e h m = ⊎-elim
-    (λ (i : e ≡ record { from = y; to = bottom; support = d .support; isRef = d .isRef }). (
+    (λ (i : e ≡ toBottom y bottom d). (
       omega (arith, ap (λ (x : Edge). x .from) i),
       omega (arith, ap (λ (x : Edge). x .to) i),
       λ q.
@@ -132,13 +146,16 @@ links-to false y bottom d e h m = ⊎-elim
 -- they add an edge at least
 links-longer : (prefix : Bool) (y bottom k : ℕ) (es : List ℕ) (s f : ℕ) → EndsBelow y k es → 4 * k + 4 ≤ length es → k
     + 1 ≤ length (addOrUpdateEdges (linkEdges prefix y bottom (edge y bottom s f)) (edgesIn k es))
-unfolding addOrUpdateEdges
-links-longer true y bottom k es s f E r = omega (
-  arith,
-  ap length (push-new (y + 1) y 1 f E r (λ x z a b q w. omega arith)),
-  length-tab (k + 1) (edgeIn (putEdge es k (y + 1) y 1 f)),
-  raise-longer y bottom s (isSet f) (addOrUpdateEdge (y + 1) y 1 (isSet f) (edgesIn k es)),
-)
+unfolding addOrUpdateEdges edgeData
+links-longer true y bottom k es s f E r =
+    let d : EdgeData = record { support = 1; isRef = flagIsRef f; capped = false } in
+    omega (
+      arith,
+      ap length (push-new (y + 1) y 1 (bit (flagIsRef f)) E r (λ x z a b q w. omega arith)),
+      length-tab (k + 1) (edgeIn (putEdge es k (y + 1) y 1 (bit (flagIsRef f)))),
+      ap (λ (c : EdgeData). length (addOrUpdateEdge (y + 1) y c (edgesIn k es))) (plain-is (flagIsRef f)),
+      raise-longer y bottom (carries s f) (addOrUpdateEdge (y + 1) y d (edgesIn k es)),
+    )
 links-longer false y bottom k es s f E r = omega (
   arith,
   ap length (push-new y bottom s f E r (λ x z a b q w. omega arith)),

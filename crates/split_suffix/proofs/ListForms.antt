@@ -10,8 +10,8 @@ use lib.ListN.{length, getD, take, drop, length-append}
 use lib.Seq.{take-take}
 use borrow.Author.Tests.{lt-ltb, le-ltb}
 use Rattle.defs.specs.Lists.{tab, concat}
-use Rattle.defs.specs.SeqGraph.{Edge, Graph, edgesInto, edgesFrom}
-use Rattle.defs.specs.Rewrites.{edgeData, newEdge, processEdge, redirectedTo, suffixAndPrefix, suffixAndPrefixEdges, withoutSuffix, splitVertices, splitEdges}
+use Rattle.defs.specs.SeqGraph.{Edge, Graph, edgesInto, edgesFrom, edgeData, newEdge}
+use Rattle.defs.specs.Rewrites.{supportOne, processEdge, redirectedTo, suffixAndPrefix, suffixAndPrefixEdges, withoutSuffix, splitVertices, splitEdges}
 use Rattle.laws.proofs.Whole.{byList}
 use Rattle.tabs.proofs.Tabs.{tab-snoc, tab-zero}
 use Rattle.tabs.proofs.SumTabs.{concat-snoc}
@@ -96,10 +96,10 @@ module _ (k n m s from : ℕ) (es vs p heads nexts nodes : List ℕ) (c bottom :
 
   block-are : (v : ℕ) → v < n → s ≤ size v → getD heads (2 * v) 0 < m → (y : ℕ) → blockEdges y bottom (hasPrefix vs s v) heads m es v
       ≡ block g bottom suffix y v
-  unfolding suffixAndPrefixEdges newEdge edgeData
+  unfolding suffixAndPrefixEdges newEdge edgeData supportOne
   block-are v b h o y = cases v b h
       (λ e t. rw (t, e) (λ i. newEdge y bottom (sym (out-is v b o) i) ∷ into-all y k n m es vs p v i))
-      (λ x xs e t. rw (t, e) (λ i. newEdge (add-one y i) y record { support = 1; isRef = (sym (out-is v b o) i) .isRef }
+      (λ x xs e t. rw (t, e) (λ i. newEdge (add-one y i) y (supportOne ((sym (out-is v b o) i) .isRef))
       ∷ newEdge y bottom (sym (out-is v b o) i) ∷ (into-all (y + 1) k n m es vs p v
       ∙ ap (λ (z : ℕ). map (redirectedTo z) (edgesInto g v)) (add-one y)) i))
 

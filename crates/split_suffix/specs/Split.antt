@@ -1,6 +1,6 @@
 -- What splitting the predecessors of a vertex does to the slices. Assumes nothing.
 use mathlib.Core.Path.{_≡_}
-use mathlib.Core.Bool.{Bool, true, cond}
+use mathlib.Core.Bool.{Bool, true, false, cond}
 use mathlib.Core.List.{List, [], _∷_, _++_}
 use Prim.Native.Nat.{ℕ, zero, suc, _+_, _*_, _-_, _≤_, _<_}
 use lib.ListN.{length, getD}
@@ -24,11 +24,19 @@ hasPrefix vs s v = ltb s (getD vs (2 * v + 1) 0)
 abbrev pub entryNumber : Bool → ℕ → ℕ
 entryNumber prefix y = cond prefix (y + 1) y
 
--- the edges of a new suffix vertex y that carry what d carries: from its prefix, and to the bottom
+-- the edge from a new prefix vertex, y + 1, to its suffix vertex, y: support 1, a reference edge where d is one, not capped
+abbrev pub fromPrefix : ℕ → Edge → Edge
+fromPrefix y d = record { from = y + 1; to = y; support = 1; isRef = d .isRef; capped = false }
+
+-- the edge from a new suffix vertex y to the bottom carries what d carries
+abbrev pub toBottom : ℕ → ℕ → Edge → Edge
+toBottom y bottom d = record { from = y; to = bottom; support = d .support; isRef = d .isRef; capped = d .capped }
+
+-- the edges of a new suffix vertex y: from its prefix, if there is one, and to the bottom
 abbrev pub linkEdges : Bool → ℕ → ℕ → Edge → List Edge
 linkEdges prefix y bottom d = cond prefix
-    (record { from = y + 1; to = y; support = 1; isRef = d .isRef } ∷ record { from = y; to = bottom; support = d .support; isRef = d .isRef } ∷ [])
-    (record { from = y; to = bottom; support = d .support; isRef = d .isRef } ∷ [])
+    (fromPrefix y d ∷ toBottom y bottom d ∷ [])
+    (toBottom y bottom d ∷ [])
 
 -- all new edges of the predecessor v, whose edge out is its first
 abbrev pub blockEdges : ℕ → ℕ → Bool → List ℕ → ℕ → List ℕ → ℕ → List Edge

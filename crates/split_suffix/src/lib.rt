@@ -24,7 +24,8 @@ fn link_suffix(es: &mut [u32], k: usize, y: u32, bottom: u32, prefix: bool, s: u
     ensures { λ r. ⌜ LinksDone prefix y bottom s f k (now (es .entry)) r (now (es .exit)) ⌝ }
 {
     if prefix {
-        store::put_edge(es, k, y + 1, y, 1, f);
+        let flag = edge_data::new_flag(edge_data::flag_is_ref(f));
+        store::put_edge(es, k, y + 1, y, 1, flag);
         store::put_edge(es, k + 1, y, bottom, s, f);
         return k + 2;
     }

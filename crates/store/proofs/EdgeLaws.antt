@@ -3,7 +3,7 @@ use mathlib.Core.Path.{_≡_, refl, sym, ap, _∙_}
 use mathlib.Core.Bool.{Bool, true, false, cond, not, _&&_, _||_}
 use mathlib.Core.List.{List, [], _∷_, _++_}
 use mathlib.Core.Logic.{_≢_}
-use Prim.Native.Nat.{ℕ, zero, _+_, _*_, _≤_, _<_, max}
+use Prim.Native.Nat.{ℕ, zero, _+_, _*_, _≤_, _<_}
 use native.Mathlib.Omega.{arith}
 use lib.ListN.{length, getD, set, length-set}
 use lib.Seq.{getD-set-same, getD-set-other}
@@ -11,33 +11,35 @@ use lib.Dec.{eqb}
 use borrow.Author.Tests.{eq-eqb, ne-eqb, eqb-true, eqb-false}
 use Rattle.defs.specs.Lists.{tab}
 use Rattle.tabs.proofs.Tabs.{tab-snoc, tab-ext, tab-set, length-tab, getD-tab, firstIx-yes, firstIx-no}
-use Rattle.defs.specs.SeqGraph.{Edge, hasEnds, addOrUpdateEdge, saturatingAdd}
+use Rattle.defs.specs.SeqGraph.{Edge, EdgeData, edgeData, newEdge, joinedData, hasEnds, addOrUpdateEdge}
 use Rattle.laws.proofs.Walks.{byTest}
 use Rattle.laws.proofs.Edges.{raise-yes, raise-no}
-use Rattle.store.specs.Store.{isSet, edge, edgeIn, edgesIn, putEdge, findEdge}
+use Rattle.store.specs.Store.{isSet, edge, edgeIn, edgesIn, putEdge, findEdge, carriedAt}
+use Rattle.edge_data.specs.EdgeData.{carriedData}
+use Rattle.edge_data.specs.declared.Carried.{Carried}
 
 abbrev pub no-edge : Edge
-no-edge = record { from = 0; to = 0; support = 0; isRef = false }
+no-edge = record { from = 0; to = 0; support = 0; isRef = false; capped = false }
 
--- the edge with support s more
-abbrev raised : ℕ → Bool → Edge → Edge
-raised s r e = record { from = e .from; to = e .to; support = saturatingAdd (e .support) s; isRef = e .isRef || r }
+-- the edge joined with what another carries
+abbrev pub raised : EdgeData → Edge → Edge
+raised d e = newEdge (e .from) (e .to) (joinedData (edgeData e) d)
 
-raise-hit : (a b s : ℕ) (r : Bool) (es : List Edge) → findEdge a b es < length es
-    → addOrUpdateEdge a b s r es ≡ set es (findEdge a b es) (raised s r (getD es (findEdge a b es) no-edge))
-raise-hit a b s r [] h = absurd (omega arith)
-raise-hit a b s r (e ∷ es) h = byTest (hasEnds a b e)
-    (λ t. rw (firstIx-yes (hasEnds a b) e es t) (raise-yes a b s r e es t))
-    (λ t. rw (firstIx-no (hasEnds a b) e es t) (raise-no a b s r e es t
-    ∙ ap (λ (xs : List Edge). e ∷ xs) (raise-hit a b s r es (omega (arith, h, firstIx-no (hasEnds a b) e es t)))))
+raise-hit : (a b : ℕ) (d : EdgeData) (es : List Edge) → findEdge a b es < length es
+    → addOrUpdateEdge a b d es ≡ set es (findEdge a b es) (raised d (getD es (findEdge a b es) no-edge))
+raise-hit a b d [] h = absurd (omega arith)
+raise-hit a b d (e ∷ es) h = byTest (hasEnds a b e)
+    (λ t. rw (firstIx-yes (hasEnds a b) e es t) (raise-yes a b d e es t))
+    (λ t. rw (firstIx-no (hasEnds a b) e es t) (raise-no a b d e es t
+    ∙ ap (λ (xs : List Edge). e ∷ xs) (raise-hit a b d es (omega (arith, h, firstIx-no (hasEnds a b) e es t)))))
 
-raise-miss : (a b s : ℕ) (r : Bool) (es : List Edge) → length es ≤ findEdge a b es
-    → addOrUpdateEdge a b s r es ≡ es ++ (record { from = a; to = b; support = s; isRef = r } ∷ [])
+raise-miss : (a b : ℕ) (d : EdgeData) (es : List Edge) → length es ≤ findEdge a b es
+    → addOrUpdateEdge a b d es ≡ es ++ (newEdge a b d ∷ [])
 unfolding addOrUpdateEdge
-raise-miss a b s r [] h = refl
-raise-miss a b s r (e ∷ es) h = byTest (hasEnds a b e)
+raise-miss a b d [] h = refl
+raise-miss a b d (e ∷ es) h = byTest (hasEnds a b e)
     (λ t. absurd (omega (arith, h, firstIx-yes (hasEnds a b) e es t)))
-    (λ t. raise-no a b s r e es t ∙ ap (λ (xs : List Edge). e ∷ xs) (raise-miss a b s r es (omega (arith, h, firstIx-no (hasEnds a b) e es t))))
+    (λ t. raise-no a b d e es t ∙ ap (λ (xs : List Edge). e ∷ xs) (raise-miss a b d es (omega (arith, h, firstIx-no (hasEnds a b) e es t))))
 
 pub length-put : (es : List ℕ) (i a b s r : ℕ) → length (putEdge es i a b s r) ≡ length es
 unfolding putEdge
@@ -102,22 +104,19 @@ set-is {x} ne = ap not (ne-eqb x 0 ne)
 pub set-not : {x : ℕ} → x ≡ 0 → isSet x ≡ false
 set-not {x} e = ap not (eq-eqb x 0 e)
 
-pub set-max : (w r : ℕ) → isSet (max w r) ≡ isSet w || isSet r
-set-max w r = byTest (eqb w 0)
-    (λ t. let e : max w r ≡ r = omega (arith, eqb-true w 0 t) in rw (t, e))
-    (λ t. let e : eqb (max w r) 0 ≡ false = ne-eqb _ _ (λ (q : max w r ≡ 0). eqb-false w 0 t (omega arith)) in rw (t, e))
-
 -- what the code leaves where the edge is there, and where it is not
-pub packed-hit : (m : ℕ) (es es′ : List ℕ) (a b x r e fr to z u w v : ℕ) → 4 * m + 4 ≤ length es → e ≡ findEdge a b (edgesIn m es) → e < m
-    → fr ≡ getD es (4 * e) 0 → to ≡ getD es (4 * e + 1) 0 → z ≡ getD es (4 * e + 2) 0 → u ≡ saturatingAdd z x → w ≡ getD es (4 * e + 3) 0 → v ≡ max w r
-    → es′ ≡ putEdge es e fr to u v → edgesIn m es′ ≡ addOrUpdateEdge a b x (isSet r) (edgesIn m es)
-packed-hit m es es′ a b x r e fr to z u w v R q h hf ht hz hu hw hv is =
-    ap (edgesIn m) is ∙ put-set m es e fr to u v h (omega arith)
-    ∙ rw (hf, ht, hu, hv, hz, hw, set-max (getD es (4 * e + 3) 0) r)
-    (sym (raise-hit a b x (isSet r) (edgesIn m es) (omega (arith, length-tab m (edgeIn es), q))
-    ∙ rw (← q, getD-tab m (edgeIn es) e no-edge h)))
+module _ (m : ℕ) (es es′ : List ℕ) (a b : ℕ) (d : Carried) (e : ℕ) (room : 4 * m + 4 ≤ length es) (is : e ≡ findEdge a b (edgesIn m es)) where
+  pub packed-hit : (fr to : ℕ) (j : Carried) → e < m → fr ≡ getD es (4 * e) 0 → to ≡ getD es (4 * e + 1) 0
+      → carriedData j ≡ joinedData (carriedData (carriedAt es e)) (carriedData d) → es′ ≡ putEdge es e fr to (j .support) (j .flag)
+      → edgesIn m es′ ≡ addOrUpdateEdge a b (carriedData d) (edgesIn m es)
+  unfolding newEdge edgeData
+  packed-hit fr to j h hf ht hj put =
+      ap (edgesIn m) put ∙ put-set m es e fr to (j .support) (j .flag) h (omega arith)
+      ∙ ap (set (edgesIn m es) e) (λ i. newEdge (hf i) (ht i) (hj i))
+      ∙ sym (raise-hit a b (carriedData d) (edgesIn m es) (omega (arith, length-tab m (edgeIn es), is))
+      ∙ rw (← is, getD-tab m (edgeIn es) e no-edge h))
 
-pub packed-miss : (m : ℕ) (es es′ : List ℕ) (a b x r e : ℕ) → 4 * m + 4 ≤ length es → e ≡ findEdge a b (edgesIn m es) → m ≤ e
-    → es′ ≡ putEdge es m a b x r → edgesIn (m + 1) es′ ≡ addOrUpdateEdge a b x (isSet r) (edgesIn m es)
-packed-miss m es es′ a b x r e R q h is = ap (edgesIn (m + 1)) is ∙ put-push m es a b x r R
-    ∙ sym (raise-miss a b x (isSet r) (edgesIn m es) (omega (arith, length-tab m (edgeIn es), q)))
+  pub packed-miss : m ≤ e → es′ ≡ putEdge es m a b (d .support) (d .flag) → edgesIn (m + 1) es′ ≡ addOrUpdateEdge a b (carriedData d) (edgesIn m es)
+  unfolding newEdge
+  packed-miss h put = ap (edgesIn (m + 1)) put ∙ put-push m es a b (d .support) (d .flag) room
+      ∙ sym (raise-miss a b (carriedData d) (edgesIn m es) (omega (arith, length-tab m (edgeIn es), is)))

@@ -1,5 +1,5 @@
--- The graph in slices: edges, four numbers each (from, to, support, flag: not 0 means reference); vertices, two numbers each (where the sequence
--- starts in the pool, and how long it is); and the pool. Assumes nothing.
+-- The graph in slices: edges, four numbers each (from, to, support, and the flag as in a record); vertices, two numbers each (where the
+-- sequence starts in the pool, and how long it is); and the pool. Assumes nothing.
 use mathlib.Core.Path.{_≡_}
 use mathlib.Core.Bool.{Bool, true, not}
 use mathlib.Core.List.{List, [], _∷_}
@@ -9,12 +9,11 @@ use lib.Dec.{eqb}
 use Rattle.defs.specs.Lists.{tab, rank, sum}
 use Rattle.tabs.specs.First.{firstIx}
 use Rattle.defs.specs.SeqGraph.{Edge, Graph, hasEnds}
-
-abbrev pub isSet : ℕ → Bool
-isSet f = not (eqb f 0)
+use Rattle.defs.specs.Record.{flagIsRef, flagIsCapped}
+use Rattle.edge_data.specs.declared.Carried.{Carried}
 
 abbrev pub edge : ℕ → ℕ → ℕ → ℕ → Edge
-edge a b s r = record { from = a; to = b; support = s; isRef = isSet r }
+edge a b s f = record { from = a; to = b; support = s; isRef = flagIsRef f; capped = flagIsCapped f }
 
 -- the edge at index i, and the first m edges
 abbrev pub edgeIn : List ℕ → ℕ → Edge
@@ -23,9 +22,13 @@ edgeIn es i = edge (getD es (4 * i) 0) (getD es (4 * i + 1) 0) (getD es (4 * i +
 abbrev pub edgesIn : ℕ → List ℕ → List Edge
 edgesIn m es = tab m (edgeIn es)
 
+-- what the edge at index i carries
+abbrev pub carriedAt : List ℕ → ℕ → Carried
+carriedAt es i = record { support = getD es (4 * i + 2) 0; flag = getD es (4 * i + 3) 0 }
+
 -- es with an edge stored at index i
 unfoldable pub putEdge : List ℕ → ℕ → ℕ → ℕ → ℕ → ℕ → List ℕ
-putEdge es i a b s r = set (set (set (set es (4 * i) a) (4 * i + 1) b) (4 * i + 2) s) (4 * i + 3) r
+putEdge es i a b s f = set (set (set (set es (4 * i) a) (4 * i + 1) b) (4 * i + 2) s) (4 * i + 3) f
 
 -- the number of the first edge from a to b, or the number of edges
 abbrev pub findEdge : ℕ → ℕ → List Edge → ℕ
@@ -68,6 +71,9 @@ pub record EndsBelow (n m : ℕ) (es : List ℕ) : Type 0 where
 -- each of the n vertices has its sequence within the first `used` bytes of the pool
 pub record Within (used n : ℕ) (vs : List ℕ) : Type 0 where
   pub at : (v : ℕ) → v < n → getD vs (2 * v) 0 + getD vs (2 * v + 1) 0 ≤ used
+
+abbrev pub isSet : ℕ → Bool
+isSet x = not (eqb x 0)
 
 -- a vertex stays where its number in the map is not 0
 abbrev pub keptBy : List ℕ → ℕ → Bool

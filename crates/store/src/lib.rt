@@ -2,10 +2,12 @@
 // pool and how long it is. The pool: the sequences' bytes. Only the functions here read and write an edge's or a vertex's numbers where
 // they stand; other crates call them, and name the places only in contracts.
 ghost use mathlib.Core.Path.{_≡_};
-ghost use Prim.Native.Nat.{ℕ, _+_, _*_, _<_, _≤_, max};
+ghost use Prim.Native.Nat.{ℕ, _+_, _*_, _<_, _≤_};
 ghost use lib.ListN.{length, getD, set};
-ghost use Rattle.defs.specs.SeqGraph.{Edge, hasEnds, addOrUpdateEdge, saturatingAdd};
-ghost use Rattle.store.specs.Store.{edgeIn, edgesIn, putEdge, putVertex, Joinable, isSet};
+ghost use Rattle.defs.specs.SeqGraph.{Edge, hasEnds, addOrUpdateEdge};
+ghost use Rattle.edge_data.specs.EdgeData.{carriedData};
+ghost use Rattle.store.specs.Store.{edgeIn, edgesIn, putEdge, putVertex, Joinable, carriedAt};
+use edge_data::Carried;
 
 pub fn edge_from(es: &[u32], i: usize) -> u32
     requires { ⌜ 4 * i + 4 ≤ length (now es) ⌝ }
@@ -33,6 +35,31 @@ pub fn edge_flag(es: &[u32], i: usize) -> u32
     ensures { λ r. ⌜ r ≡ getD (now (es .entry)) (4 * i + 3) 0 ⌝ }
 {
     es[4 * i + 3]
+}
+
+pub fn edge_is_ref(es: &[u32], i: usize) -> bool
+    requires { ⌜ 4 * i + 4 ≤ length (now es) ⌝ }
+    ensures { λ r. ⌜ r ≡ (edgeIn (now (es .entry)) i) .isRef ⌝ }
+{
+    edge_data::flag_is_ref(edge_flag(es, i))
+}
+
+pub fn edge_is_capped(es: &[u32], i: usize) -> bool
+    requires { ⌜ 4 * i + 4 ≤ length (now es) ⌝ }
+    ensures { λ r. ⌜ r ≡ (edgeIn (now (es .entry)) i) .capped ⌝ }
+{
+    edge_data::flag_is_capped(edge_flag(es, i))
+}
+
+// What edge i carries: its support and its flag as they are.
+pub fn carried(es: &[u32], i: usize) -> Carried
+    requires { ⌜ 4 * i + 4 ≤ length (now es) ⌝ }
+    ensures { λ r. ⌜ r ≡ carriedAt (now (es .entry)) i ⌝ }
+{
+    Carried {
+        support: edge_support(es, i),
+        flag: edge_flag(es, i),
+    }
 }
 
 // The end `off` of edge i: 0 is the end that it leaves, 1 the end that it enters.
@@ -104,41 +131,24 @@ pub fn put_start(vs: &mut [u32], v: usize, start: u32)
     vs[2 * v] = start;
 }
 
-pub fn saturating_add(x: u32, y: u32) -> u32
-    ensures { λ r. ⌜ r ≡ saturatingAdd x y ⌝ }
-{
-    if 4294967295 - x < y {
-        4294967295
-    } else {
-        x + y
-    }
-}
-
-pub fn larger(x: u32, y: u32) -> u32
-    ensures { λ r. ⌜ r ≡ max x y ⌝ }
-{
-    if x < y { y } else { x }
-}
-
-// The edge from a to b stands at `at` and gains s and r; where `at` is m there is none, and one is added at the end. The number of edges.
-pub fn add_or_update_edge(
-    es: &mut [u32],
-    m: usize,
-    at: usize,
-    a: u32,
-    b: u32,
-    s: u32,
-    r: u32,
-) -> usize
+// The edge from a to b stands at `at` and is joined with d; where `at` is m there is none, and one that carries d is added at the end. The
+// number of edges.
+pub fn add_or_update_edge(es: &mut [u32], m: usize, at: usize, a: u32, b: u32, d: Carried) -> usize
     requires { ⌜ Joinable m (now es) at a b ⌝ }
-    ensures { λ k. ⌜ (k ≤ m + 1) × (edgesIn k (now (es .exit)) ≡ addOrUpdateEdge a b s (isSet r) (edgesIn m (now (es .entry)))) ⌝ }
+    ensures { λ k. ⌜ (k ≤ m + 1) × (edgesIn k (now (es .exit)) ≡ addOrUpdateEdge a b (carriedData d) (edgesIn m (now (es .entry)))) ⌝ }
 {
     if at < m {
-        let t = saturating_add(edge_support(es, at), s);
-        let f = larger(edge_flag(es, at), r);
-        put_edge(es, at, edge_from(es, at), edge_to(es, at), t, f);
+        let j = edge_data::joined(carried(es, at), d);
+        put_edge(
+            es,
+            at,
+            edge_from(es, at),
+            edge_to(es, at),
+            j.support,
+            j.flag,
+        );
         return m;
     }
-    put_edge(es, m, a, b, s, r);
+    put_edge(es, m, a, b, d.support, d.flag);
     m + 1
 }

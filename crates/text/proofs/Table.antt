@@ -20,13 +20,13 @@ unfolding P.ascii P.digit P.decimalBy P.decimal P.signed P.field P.isLetter P.pr
     P.secondLine P.vertexLine P.edgeLine P.printedGraph P.printedRefusal P.printedAnswer P.inputCauses P.shown A.fits A.respondTo A.respond F.refusalOf
     F.otherLength F.takesKind F.wrongMark F.pastLimit F.layoutDisagrees F.badEdge F.anyBadEdge F.doubledEdge F.equalKmers F.doubled
     F.hasCycle F.recordCauses F.recordRefusal R.le16 R.le32 R.u16At R.u32At R.recordKindNumber R.edgesAt R.bytesAt R.wholeLength
-    R.encodeEdge R.encodeHeader R.encode R.lengthAt R.sequenceStart R.sequenceAt R.edgeStart R.flagAt R.edgeAt R.decode C.forward C.grow
+    R.flagOf R.encodeEdge R.encodeHeader R.encode R.lengthAt R.sequenceStart R.sequenceAt R.edgeStart R.flagAt R.edgeAt R.decode C.forward C.grow
     C.reached L.tabFrom L.sum L.keepIf L.anyOf L.allOf L.headOr L.concat L.keepAt L.given L.bit L.rank L.elemOf L.upFrom L.firstOf
     L.sameList L.commonPrefix₂ L.commonPrefixBy L.commonPrefix L.commonSuffix G.nodeCount G.vertexSequence G.edgesFrom G.edgesInto
     G.outgoingNodes G.incomingNodes G.outDegree G.inDegree G.isReferenceNode G.isRefSource G.isRefSink G.saturatingAdd G.hasEnds
     G.addOrUpdateEdge G.addOrUpdateEdges G.remapEdge G.compactVertices G.keeps G.removeVerticesById G.remapNumbers G.withAdditions
     G.applyChange Z.isLinearChainStart Z.chainGoesOn Z.traceLinearChain Z.lastOf Z.moveFrom Z.mergeLinearChain Z.linearChain
-    Z.zipStarts Z.zipLinearChains W.nonEmpty W.edgeData W.newEdge W.processEdge W.midPlan W.hasRemaining W.joinedData W.prefixToSuffixFrom
+    Z.zipStarts Z.zipLinearChains W.nonEmpty G.edgeData G.newEdge W.supportOne W.processEdge W.midPlan W.hasRemaining G.joinedData W.prefixToSuffixFrom
     W.prefixToSuffix W.newEdgeIf W.edgesToMiddles W.edgesFromMiddles W.isRefIf W.onlyIf W.orElse W.isNone W.splitAndUpdateWith
     W.splitAndUpdate W.sharedPrefix W.sharedSuffix W.isDiamond W.bottomOf W.mergesDiamond W.diamondChange W.tryMergeDiamond W.isTails
     W.mergesTails W.tailsChange W.tryMergeTails W.redirectedTo W.suffixAndPrefix W.suffixAndPrefixEdges W.withoutSuffix W.splitVertices

@@ -8,7 +8,10 @@ use Rattle.defs.specs.Record.{sequenceGraph, encode}
 use Rattle.text.specs.Printed.{ascii}
 
 abbrev edge : ℕ → ℕ → ℕ → Bool → Edge
-edge u v s r = record { from = u; to = v; support = s; isRef = r }
+edge u v s r = record { from = u; to = v; support = s; isRef = r; capped = false }
+
+abbrev cappedEdge : ℕ → ℕ → ℕ → Bool → Edge
+cappedEdge u v s r = record { from = u; to = v; support = s; isRef = r; capped = true }
 
 abbrev graph : ℕ → List (List ℕ) → List Edge → List ℕ
 graph k vs es = encode sequenceGraph 0 record { k = k; verts = vs; edges = es }
@@ -19,9 +22,9 @@ inputs =
     graph 10 (ascii "AA" ∷ ascii "CTG" ∷ ascii "CAG" ∷ ascii "TT" ∷ []) (edge 0 1 5 true ∷ edge 1 3 5 true ∷ edge 0 2 2 false ∷ edge 2 3 2 false ∷ []) ∷
     -- bytes beside the letters, an empty sequence, more vertices than edges
     graph 128 ((0 ∷ 64 ∷ 65 ∷ 90 ∷ 91 ∷ 96 ∷ 97 ∷ 122 ∷ 123 ∷ 255 ∷ []) ∷ [] ∷ []) [] ∷
-    -- more edges than vertices
+    -- more edges than vertices, two of them capped
     graph 2 (ascii "ACA" ∷ ascii "CGT" ∷ ascii "GAC" ∷ ascii "TTG" ∷ [])
-    (edge 0 1 4294967295 true ∷ edge 0 2 0 false ∷ edge 0 3 10 false ∷ edge 1 2 100 true ∷ edge 1 3 9 false ∷ edge 2 3 99 true ∷ []) ∷
+    (cappedEdge 0 1 4294967295 true ∷ edge 0 2 0 false ∷ cappedEdge 0 3 10 false ∷ edge 1 2 100 true ∷ edge 1 3 9 false ∷ edge 2 3 99 true ∷ []) ∷
     -- a cycle; no record
     graph 10 (ascii "A" ∷ ascii "C" ∷ []) (edge 0 1 1 true ∷ edge 1 0 1 false ∷ []) ∷
     ascii "SGR1" ∷
@@ -59,9 +62,9 @@ texts =
     "v 1 CGT" ∷
     "v 2 GAC" ∷
     "v 3 TTG" ∷
-    "e 0 1 4294967295 r" ∷
+    "e 0 1 4294967295 rc" ∷
     "e 0 2 0 -" ∷
-    "e 0 3 10 -" ∷
+    "e 0 3 10 -c" ∷
     "e 1 2 100 r" ∷
     "e 1 3 9 -" ∷
     "e 2 3 99 r" ∷

@@ -72,8 +72,11 @@ secondLine rewrites rounds end = field "rewrites " rewrites ++ field " rounds " 
 unfoldable pub vertexLine : ℕ → List ℕ → List ℕ
 vertexLine v s = field "v " v ++ ascii " " ++ printedSequence s ++ ascii "\n"
 
+-- r for a reference edge, else -; right behind it c for a capped one
 unfoldable pub edgeLine : Edge → List ℕ
-edgeLine e = field "e " (e .from) ++ field " " (e .to) ++ field " " (e .support) ++ cond (e .isRef) (ascii " r\n") (ascii " -\n")
+edgeLine e =
+    field "e " (e .from) ++ field " " (e .to) ++ field " " (e .support)
+    ++ cond (e .isRef) (ascii " r") (ascii " -") ++ cond (e .capped) (ascii "c\n") (ascii "\n")
 
 unfoldable pub printedGraph : Simplified → List ℕ
 printedGraph s =

@@ -11,10 +11,10 @@ use borrow.Author.Tests.{eq-eqb, ne-eqb}
 use Rattle.defs.specs.Lists.{bit, concat, tab, tabFrom, sum}
 use Rattle.defs.specs.SeqGraph.{Edge, nodeCount}
 use Rattle.defs.specs.Simplify.{sequenceBytes}
-use Rattle.defs.specs.Record.{mark, le16, le32, edgesAt, bytesAt, wholeLength, encodeEdge, encodeHeader, sequenceGraph, recordKindNumber, encode}
+use Rattle.defs.specs.Record.{flagOf, mark, le16, le32, edgesAt, bytesAt, wholeLength, encodeEdge, encodeHeader, sequenceGraph, recordKindNumber, encode}
 use Rattle.tabs.proofs.Tabs.{tab-ext, length-tab}
 use Rattle.tabs.proofs.SumTabs.{sum-none, sum-more, map-tab, fields-length}
-use Rattle.store.specs.Store.{isSet, edge, edgeIn, part, seqIn, graphIn, Within}
+use Rattle.store.specs.Store.{edge, edgeIn, part, seqIn, graphIn, Within}
 use Rattle.store.proofs.VertexLaws.{part-long}
 use Rattle.pool.specs.Pool.{bytesIn}
 use Rattle.memory.specs.Memory.{graphOf}
@@ -68,19 +68,11 @@ header-length status k n m b = refl
 
 -- ---- an edge
 
-pub flag-off : (r : ℕ) → r ≡ 0 → 0 ≡ bit (isSet r)
-unfolding bit
-flag-off r q = rw (eq-eqb r 0 q)
-
-pub flag-on : (r : ℕ) → (r ≡ 0 → ⊥) → 1 ≡ bit (isSet r)
-unfolding bit
-flag-on r ne = rw (ne-eqb r 0 ne)
-
-pub edge-put : (at : ℕ) (l : List ℕ) {a b s f : ℕ} (e : Edge) {l₁ l₂ l₃ : List ℕ} → a ≡ e .from → b ≡ e .to → s ≡ e .support → f ≡ bit (e .isRef)
+pub edge-put : (at : ℕ) (l : List ℕ) {a b s f : ℕ} (e : Edge) {l₁ l₂ l₃ : List ℕ} → a ≡ e .from → b ≡ e .to → s ≡ e .support → f ≡ flagOf e
     → l₁ ≡ sets l at (le16 a) → l₂ ≡ sets l₁ (at + 2) (le16 b) → l₃ ≡ sets l₂ (at + 4) (le32 s) → set l₃ (at + 8) f ≡ sets l at (encodeEdge e)
 unfolding encodeEdge le16 le32
 edge-put at l {f = f} e {l₁} {l₂} {l₃} qa qb qs qf p₁ p₂ p₃ =
-    put-four l (le16 (e .from)) (le16 (e .to)) (le32 (e .support)) (bit (e .isRef) ∷ []) at (at + 2) (at + 4) (at + 8)
+    put-four l (le16 (e .from)) (le16 (e .to)) (le32 (e .support)) (flagOf e ∷ []) at (at + 2) (at + 4) (at + 8)
     (p₁ ∙ ap (λ (x : ℕ). sets l at (le16 x)) qa) (p₂ ∙ ap (λ (x : ℕ). sets l₁ (at + 2) (le16 x)) qb) (p₃
     ∙ ap (λ (x : ℕ). sets l₂ (at + 4) (le32 x)) qs) (ap (λ (x : ℕ). set l₃ (at + 8) x) qf)
     refl refl refl

@@ -4,9 +4,9 @@ ghost use mathlib.Core.List.{[], _∷_, _++_};
 ghost use Prim.Native.Nat.{_+_, _*_, _<_, _≤_};
 ghost use lib.ListN.{length};
 ghost use lib.Seq.{sets};
-ghost use Rattle.defs.specs.Lists.{bit, concat, tab};
+ghost use Rattle.defs.specs.Lists.{concat, tab};
 ghost use Rattle.defs.specs.Record.{mark, le16, le32, encodeEdge, encodeHeader};
-ghost use Rattle.store.specs.Store.{isSet, edgeIn, part, seqIn};
+ghost use Rattle.store.specs.Store.{edgeIn, part, seqIn};
 ghost use Rattle.pool.specs.Pool.{bytesIn};
 ghost use Rattle.write_record.specs.Written.{lengthBytes, HeaderCountable, EdgeFits, EdgesFit, LengthsFit, SequencesFit, Measured, RecordWritable, RecordWritten};
 use kmer::KmerSize;
@@ -69,13 +69,6 @@ fn put_lengths(out: &mut [u8], vs: &[u32], n: usize)
     }
 }
 
-// 1 for a reference edge, else 0.
-fn flag_byte(flag: u32) -> u8
-    ensures { λ r. ⌜ r ≡ bit (isSet flag) ⌝ }
-{
-    if flag == 0 { 0 } else { 1 }
-}
-
 fn put_edge(out: &mut [u8], at: usize, es: &[u32], i: usize)
     requires { ⌜ EdgeFits (now es) i at (now out) ⌝ }
     ensures { λ _. ⌜ now (out .exit) ≡ sets (now (out .entry)) at (encodeEdge (edgeIn (now (es .entry)) i)) ⌝ }
@@ -83,7 +76,8 @@ fn put_edge(out: &mut [u8], at: usize, es: &[u32], i: usize)
     le::put_u16(out, at, store::edge_from(es, i) as u16);
     le::put_u16(out, at + 2, store::edge_to(es, i) as u16);
     le::put_u32(out, at + 4, store::edge_support(es, i));
-    out[at + 8] = flag_byte(store::edge_flag(es, i));
+    let flag = edge_data::flag_of(store::edge_is_ref(es, i), store::edge_is_capped(es, i));
+    out[at + 8] = flag as u8;
 }
 
 fn put_edges(out: &mut [u8], at: usize, es: &[u32], m: usize)

@@ -4,9 +4,6 @@ use Rattle.calls.proofs.AnswerLaws.{counts-refused, counts-answered}
 use borrow.Author.Needs.{needs}
 use Rattle.calls.proofs.count_call.Statement.{statement}
 use Rattle.calls.proofs.count_call.Tie as tie
-use Rattle.calls.proofs.count_call.Reads as reads
-use Rattle.calls.proofs.count_call.Lts as lts
-use Rattle.store.proofs.saturating_add.Reads as saturating-add-reads
 
 returns : tie.Need-returns
 returns c =

@@ -8,7 +8,7 @@ use Rattle.graph_text.proofs.put_edges.Statement.{statement}
 use Rattle.graph_text.proofs.put_edges.Tie as tie
 
 abbrev Inv-loop : tie.InvT-loop
-Inv-loop text₀ at es m to₀ i₀ text to i = Lines m (λ (k : ℕ). 37 * k) (λ (k : ℕ). edgeLine (edgeIn es k)) text₀ at text to i
+Inv-loop text₀ at es m to₀ i₀ text to i = Lines m (λ (k : ℕ). 38 * k) (λ (k : ℕ). edgeLine (edgeIn es k)) text₀ at text to i
 
 abbrev μ-loop : tie.MeasureT-loop
 μ-loop text₀ at es m to₀ i₀ text to i = m - i

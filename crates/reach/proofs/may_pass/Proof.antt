@@ -8,7 +8,7 @@ returns : tie.Need-returns
 returns c =
     let at-if1 : tie.Then1 = search in
     let start : tie.Start = search in
-    pass-plain (start .args .plain) (start .args .es .now) (start .args .e) (at-if1 .if1 .taken) (c .edge-flag .ensures)
+    pass-plain (start .args .plain) (start .args .es .now) (start .args .e) (at-if1 .if1 .taken) (c .edge-is-ref .ensures)
 
 returns-2 : tie.Need-returns-2
 returns-2 c =

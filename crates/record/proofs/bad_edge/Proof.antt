@@ -10,7 +10,7 @@ use Rattle.record.proofs.bad_edge.Tie as tie
 
 returns-3 : tie.Need-returns-3
 returns-3 c =
-    ap (λ n. ltb 1 n) (c .edge-flag-at .ensures)
+    ap (λ n. ltb 3 n) (c .edge-flag-at .ensures)
     ∙ ends-below (start .args .rec .now) (start .args .i) (omega arith) (omega arith)
   where
     start : tie.Start

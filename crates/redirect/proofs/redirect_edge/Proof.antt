@@ -29,14 +29,11 @@ module _ (c : tie.After-slice-known4) where
   abbrev at-new-from : tie.After-new-from
   at-new-from = let c = at-new-to in search
 
-  abbrev at-edge-flag : tie.After-edge-flag
-  at-edge-flag = let c = at-new-from in search
-
-  abbrev at-edge-support : tie.After-edge-support
-  at-edge-support = let c = at-edge-flag in search
+  abbrev at-carried : tie.After-carried
+  at-carried = let c = at-new-from in search
 
   abbrev at-place-of : tie.After-place-of
-  at-place-of = let c = at-edge-support in search
+  at-place-of = let c = at-carried in search
 
   abbrev at-edge-end : tie.After-edge-end
   at-edge-end = let c = at-place-of in search
@@ -60,8 +57,7 @@ returns c =
     (at-place-of c .place-of .ensures)
     (at-new-from c .new-from .ensures)
     (at-new-to c .new-to .ensures)
-    (at-edge-support c .edge-support .ensures)
-    (at-edge-flag c .edge-flag .ensures)
+    (at-carried c .carried .ensures)
     (at-aoue c .add-or-update-edge .ensures .1)
 
 pub redirect-edge-spec : {M : Type 1} → statement M
@@ -73,7 +69,6 @@ redirect-edge-spec =
     (λ c. search needs)
     (λ c. search needs)
     (λ c. search needs)
-    (λ c κs. search needs)
     (λ c κs. search needs)
     (λ c κs. search needs)
     (λ c κs. search needs)

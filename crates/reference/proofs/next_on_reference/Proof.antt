@@ -1,8 +1,7 @@
 -- `reference::next_on_reference` meets its contract. Assumes nothing.
 use native.Mathlib.Omega.{arith}
-use mathlib.Core.Path.{refl}
+use mathlib.Core.Path.{refl, sym, _∙_}
 use Prim.Native.Nat.{_*_, _-_}
-use Rattle.refs.proofs.RefLaws.{set-yes, set-no}
 use Rattle.paths.proofs.StepLaws.{out-index}
 use Rattle.reference.proofs.NextLaws.{
   Looking,
@@ -27,17 +26,17 @@ returns-2 c =
     (start .pre .1)
     (at-loop .loop .inv)
     (at-loop-test .loop-test .taken)
-    (set-yes _ (at-edge-flag .edge-flag .ensures) (at-if2 .if2 .taken))
+    (sym (at-edge-is-ref .edge-is-ref .ensures) ∙ at-if2 .if2 .taken)
     (c .edge-to .ensures)
   where
     at-if2 : tie.Then2 Inv-loop μ-loop
     at-if2 = search
 
-    at-edge-flag : tie.After-edge-flag Inv-loop μ-loop
-    at-edge-flag = let c = at-if2 in search
+    at-edge-is-ref : tie.After-edge-is-ref Inv-loop μ-loop
+    at-edge-is-ref = let c = at-if2 in search
 
     at-loop-test : tie.In-loop Inv-loop μ-loop
-    at-loop-test = let c = at-edge-flag in search
+    at-loop-test = let c = at-edge-is-ref in search
 
     at-loop : tie.At-loop Inv-loop μ-loop
     at-loop = let c = at-loop-test in search
@@ -51,16 +50,16 @@ loop-again c =
     (start .pre .1)
     (at-loop .loop .inv)
     (at-loop-test .loop-test .taken)
-    (set-no _ (at-edge-flag .edge-flag .ensures) (at-if2 .if2 .left))
+    (sym (at-edge-is-ref .edge-is-ref .ensures) ∙ at-if2 .if2 .left)
   where
     at-if2 : tie.Else2 Inv-loop μ-loop
     at-if2 = search
 
-    at-edge-flag : tie.After-edge-flag Inv-loop μ-loop
-    at-edge-flag = let c = at-if2 in search
+    at-edge-is-ref : tie.After-edge-is-ref Inv-loop μ-loop
+    at-edge-is-ref = let c = at-if2 in search
 
     at-loop-test : tie.In-loop Inv-loop μ-loop
-    at-loop-test = let c = at-edge-flag in search
+    at-loop-test = let c = at-edge-is-ref in search
 
     at-loop : tie.At-loop Inv-loop μ-loop
     at-loop = let c = at-loop-test in search

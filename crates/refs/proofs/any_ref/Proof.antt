@@ -1,6 +1,6 @@
 -- `refs::any_ref` meets its contract. Assumes nothing.
 use native.Mathlib.Omega.{arith}
-use Rattle.refs.proofs.RefLaws.{set-yes, set-no}
+use mathlib.Core.Path.{sym, _∙_}
 use Prim.Native.Nat.{_+_, _*_, _-_}
 use borrow.Author.Tests.{eq-eqb, ne-eqb}
 use Rattle.index.specs.Index.{edgeEnd}
@@ -22,7 +22,7 @@ loop-holds c =
 
 returns : tie.Need-returns Inv-loop μ-loop
 returns c =
-    let at-edge-flag : tie.After-edge-flag Inv-loop μ-loop = search in
+    let at-edge-is-ref : tie.After-edge-is-ref Inv-loop μ-loop = search in
     let at-loop-test : tie.In-loop Inv-loop μ-loop = search in
     let at-loop : tie.At-loop Inv-loop μ-loop = search in
     let start : tie.Start Inv-loop μ-loop = search in
@@ -31,7 +31,7 @@ returns c =
     (refAt (start .args .es .now))
     (at-loop .loop .inv)
     (at-loop-test .loop-test .taken)
-    (set-yes _ (at-edge-flag .edge-flag .ensures) (c .if1 .taken))
+    (sym (at-edge-is-ref .edge-is-ref .ensures) ∙ c .if1 .taken)
 
 loop-less : tie.Need-loop-less Inv-loop μ-loop
 loop-less c =
@@ -46,7 +46,7 @@ loop-less c =
 loop-again : tie.Need-loop-again Inv-loop μ-loop
 loop-again c =
     let at-if1 : tie.Else1 Inv-loop μ-loop = search in
-    let at-edge-flag : tie.After-edge-flag Inv-loop μ-loop = search in
+    let at-edge-is-ref : tie.After-edge-is-ref Inv-loop μ-loop = search in
     let at-loop-test : tie.In-loop Inv-loop μ-loop = search in
     let at-loop : tie.At-loop Inv-loop μ-loop = search in
     let start : tie.Start Inv-loop μ-loop = search in
@@ -55,7 +55,7 @@ loop-again c =
     (refAt (start .args .es .now))
     (at-loop .loop .inv)
     (at-loop-test .loop-test .taken)
-    (set-no _ (at-edge-flag .edge-flag .ensures) (at-if1 .if1 .left))
+    (sym (at-edge-is-ref .edge-is-ref .ensures) ∙ at-if1 .if1 .left)
 
 returns-2 : tie.Need-returns-2 Inv-loop μ-loop
 returns-2 c =

@@ -12,7 +12,7 @@ push-edge-if-requires-2 c κs = room₂ (start .pre) (at-push-edge-if .push-edge
     at-push-edge-if = search
 
     start : tie.Start
-    start = let c = at-push-edge-if in let c : tie.After-larger = search in search
+    start = let c = at-push-edge-if in let c : tie.After-new-flag = search in search
 
 push-mid-edges-requires : tie.Need-push-mid-edges-requires
 push-mid-edges-requires c κs =
@@ -25,7 +25,7 @@ push-mid-edges-requires c κs =
     at-push-edge-if = let c = at-push-edge-if2 in search
 
     start : tie.Start
-    start = let c = at-push-edge-if in let c : tie.After-larger = search in search
+    start = let c = at-push-edge-if in let c : tie.After-new-flag = search in search
 
 push-edge-if-requires-3 : tie.Need-push-edge-if-requires-3
 push-edge-if-requires-3 c κs =
@@ -45,7 +45,7 @@ push-edge-if-requires-3 c κs =
     at-push-edge-if = let c = at-push-edge-if2 in search
 
     start : tie.Start
-    start = let c = at-push-edge-if in let c : tie.After-larger = search in search
+    start = let c = at-push-edge-if in let c : tie.After-new-flag = search in search
 
 push-mid-edges-requires-2 : tie.Need-push-mid-edges-requires-2
 push-mid-edges-requires-2 c κs =
@@ -69,7 +69,7 @@ push-mid-edges-requires-2 c κs =
     at-push-edge-if = let c = at-push-edge-if2 in search
 
     start : tie.Start
-    start = let c = at-push-edge-if in let c : tie.After-larger = search in search
+    start = let c = at-push-edge-if in let c : tie.After-new-flag = search in search
 
 returns : tie.Need-returns
 returns c =
@@ -80,19 +80,21 @@ returns c =
     (at-push-mid-edges .push-mid-edges .ensures)
     (at-push-edge-if3 .push-edge-if3 .ensures)
     (at-push-mid-edges2 .push-mid-edges2 .ensures)
-    (at-mids-flag .mids-flag .result)
-    (at-mids-flag2 .mids-flag2 .result)
+    (at-prefix-to-suffix .prefix-to-suffix .result)
+    (at-twice-if .twice-if .result)
     (at-prefix-to-suffix .prefix-to-suffix .ensures)
-    (at-mids-flag .mids-flag .ensures)
-    (at-larger .larger .ensures)
-    (at-mids-flag2 .mids-flag2 .ensures)
-    (at-larger2 .larger2 .ensures) refl refl refl refl refl refl
+    (at-flag-is-ref .flag-is-ref .ensures)
+    (at-mids-ref .mids-ref .ensures)
+    (at-mids-ref2 .mids-ref2 .ensures)
+    (at-either .either .ensures)
+    (at-new-flag .new-flag .ensures)
+    (at-either2 .either2 .ensures)
+    (at-new-flag2 .new-flag2 .ensures) refl refl refl refl refl refl
     (at-pick .pick .ensures)
     (at-pick .pick .ensures)
     (at-pick2 .pick2 .ensures)
     (at-pick2 .pick2 .ensures)
-    (at-saturating-add .saturating-add .ensures)
-    (at-pick3 .pick3 .ensures) refl
+    (at-twice-if .twice-if .ensures) refl refl
   where
     at-push-mid-edges2 : tie.After-push-mid-edges2
     at-push-mid-edges2 = search
@@ -109,32 +111,38 @@ returns c =
     at-push-edge-if : tie.After-push-edge-if
     at-push-edge-if = let c = at-push-edge-if2 in search
 
-    at-pick3 : tie.After-pick3
-    at-pick3 = let c = at-push-edge-if in search
-
-    at-saturating-add : tie.After-saturating-add
-    at-saturating-add = let c = at-pick3 in search
+    at-twice-if : tie.After-twice-if
+    at-twice-if = let c = at-push-edge-if in search
 
     at-pick2 : tie.After-pick2
-    at-pick2 = let c = at-saturating-add in search
+    at-pick2 = let c = at-twice-if in search
 
     at-pick : tie.After-pick
     at-pick = let c = at-pick2 in search
 
-    at-larger2 : tie.After-larger2
-    at-larger2 = let c = at-pick in search
+    at-new-flag2 : tie.After-new-flag2
+    at-new-flag2 = let c = at-pick in search
 
-    at-mids-flag2 : tie.After-mids-flag2
-    at-mids-flag2 = let c = at-larger2 in search
+    at-either2 : tie.After-either2
+    at-either2 = let c = at-new-flag2 in search
 
-    at-larger : tie.After-larger
-    at-larger = let c = at-mids-flag2 in search
+    at-new-flag : tie.After-new-flag
+    at-new-flag = let c = at-either2 in search
 
-    at-mids-flag : tie.After-mids-flag
-    at-mids-flag = let c = at-larger in search
+    at-either : tie.After-either
+    at-either = let c = at-new-flag in search
+
+    at-mids-ref2 : tie.After-mids-ref2
+    at-mids-ref2 = let c = at-either in search
+
+    at-mids-ref : tie.After-mids-ref
+    at-mids-ref = let c = at-mids-ref2 in search
+
+    at-flag-is-ref : tie.After-flag-is-ref
+    at-flag-is-ref = let c = at-mids-ref in search
 
     at-prefix-to-suffix : tie.After-prefix-to-suffix
-    at-prefix-to-suffix = let c = at-mids-flag in search
+    at-prefix-to-suffix = let c = at-flag-is-ref in search
 
     start : tie.Start
     start = let c = at-prefix-to-suffix in search
@@ -152,7 +160,9 @@ add-edges-spec =
     (λ c κs. search needs)
     (λ c κs. search needs)
     (λ c κs. search needs)
-    (λ c κs. let start : tie.Start = let c : tie.After-mids-flag = search in search in room₁ (start .pre))
+    (λ c κs. search needs)
+    (λ c κs. search needs)
+    (λ c κs. let start : tie.Start = let c : tie.After-mids-ref = search in search in room₁ (start .pre))
     push-edge-if-requires-2
     push-mid-edges-requires
     push-edge-if-requires-3

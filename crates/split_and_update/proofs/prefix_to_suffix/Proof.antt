@@ -3,8 +3,8 @@ use native.Mathlib.Omega.{arith}
 use mathlib.Core.Path.{_≡_, _∙_, ap}
 use Prim.Native.Nat.{ℕ, _-_, _≤_}
 use borrow.Author.Needs.{needs}
-use Rattle.defs.specs.Rewrites.{EdgeData, prefixToSuffixFrom}
-use Rattle.store.specs.Store.{isSet}
+use Rattle.defs.specs.Rewrites.{prefixToSuffixFrom}
+use Rattle.edge_data.specs.EdgeData.{carriedData}
 use Rattle.split_and_update.specs.Ends.{plansOf, goneNodes, nothing}
 use Rattle.split_and_update.proofs.NodeLaws.{mids-enter}
 use Rattle.split_and_update.proofs.LoopLaws.{direct-start, direct-more, direct-skip}
@@ -12,13 +12,11 @@ use Rattle.split_and_update.proofs.prefix_to_suffix.Statement.{statemen
 use Rattle.split_and_update.proofs.prefix_to_suffix.Tie as tie
 
 abbrev Inv-loop : tie.InvT-loop
-Inv-loop es m vs heads nodes c cut support₀ flag₀ i₀ support flag i =
-    (i ≤ c) ×
-    (_≡_ {A = EdgeData} (record { support = support; isRef = isSet flag })
-    (prefixToSuffixFrom nothing (plansOf m es heads (goneNodes vs cut nodes i))))
+Inv-loop es m vs heads nodes c cut all₀ i₀ all i =
+    (i ≤ c) × (carriedData all ≡ prefixToSuffixFrom nothing (plansOf m es heads (goneNodes vs cut nodes i)))
 
 abbrev μ-loop : tie.MeasureT-loop
-μ-loop es m vs heads nodes c cut support₀ flag₀ i₀ support flag i = c - i
+μ-loop es m vs heads nodes c cut all₀ i₀ all i = c - i
 
 loop-holds : tie.Need-loop-holds Inv-loop μ-loop
 loop-holds c = (
@@ -30,8 +28,8 @@ loop-holds c = (
     start : tie.Start Inv-loop μ-loop
     start = search
 
-end-support-requires : tie.Need-end-support-requires Inv-loop μ-loop
-end-support-requires c κs = mids-enter (start .pre) _ (at-loop .loop .i) (omega arith) (at-loop-test .loop-test .taken)
+end-data-requires : tie.Need-end-data-requires Inv-loop μ-loop
+end-data-requires c κs = mids-enter (start .pre) _ (at-loop .loop .i) (omega arith) (at-loop-test .loop-test .taken)
   where
     at-loop-test : tie.In-loop Inv-loop μ-loop
     at-loop-test = search
@@ -42,33 +40,8 @@ end-support-requires c κs = mids-enter (start .pre) _ (at-loop .loop .i) (omega
     start : tie.Start Inv-loop μ-loop
     start = let c = at-loop in search
 
-end-support-requires-2 : tie.Need-end-support-requires-2 Inv-loop μ-loop
-end-support-requires-2 c κs =
-    mids-enter (start .pre) _ (at-loop .loop .i) (omega arith) (at-loop-test .loop-test .taken)
-  where
-    at-loop-test : tie.In-loop Inv-loop μ-loop
-    at-loop-test = search
-
-    at-loop : tie.At-loop Inv-loop μ-loop
-    at-loop = let c = at-loop-test in search
-
-    start : tie.Start Inv-loop μ-loop
-    start = let c = at-loop in search
-
-end-flag-requires : tie.Need-end-flag-requires Inv-loop μ-loop
-end-flag-requires c κs = mids-enter (start .pre) _ (at-loop .loop .i) (omega arith) (at-loop-test .loop-test .taken)
-  where
-    at-loop-test : tie.In-loop Inv-loop μ-loop
-    at-loop-test = search
-
-    at-loop : tie.At-loop Inv-loop μ-loop
-    at-loop = let c = at-loop-test in search
-
-    start : tie.Start Inv-loop μ-loop
-    start = let c = at-loop in search
-
-end-flag-requires-2 : tie.Need-end-flag-requires-2 Inv-loop μ-loop
-end-flag-requires-2 c κs = mids-enter (start .pre) _ (at-loop .loop .i) (omega arith) (at-loop-test .loop-test .taken)
+end-data-requires-2 : tie.Need-end-data-requires-2 Inv-loop μ-loop
+end-data-requires-2 c κs = mids-enter (start .pre) _ (at-loop .loop .i) (omega arith) (at-loop-test .loop-test .taken)
   where
     at-loop-test : tie.In-loop Inv-loop μ-loop
     at-loop-test = search
@@ -83,36 +56,23 @@ loop-again : tie.Need-loop-again Inv-loop μ-loop
 loop-again c = (
   omega arith,
   direct-more (start .args .m) (start .args .es .now) (start .args .vs .now) (start .args .heads .now)
-      (start .args .nodes .now) (start .args .cut) (at-loop .loop .i) (at-loop .loop .flag) (at-loop .loop .inv .1)
-      (at-vertex-len .vertex-len .ensures) (at-if1 .if1 .taken) (at-end-support .end-support .ensures)
-      (at-end-support2 .end-support2 .ensures) (at-saturating-add .saturating-add .ensures) (at-end-flag .end-flag .ensures)
-      (at-end-flag2 .end-flag2 .ensures) (at-larger .larger .ensures) (at-saturating-add2 .saturating-add2 .ensures)
-      (c .larger2 .ensures),
+      (start .args .nodes .now) (start .args .cut) (at-loop .loop .i) (at-loop .loop .all) (at-end-data .end-data .result)
+      (at-end-data2 .end-data2 .result) (at-joined .joined .result) (c .joined2 .result) (at-loop .loop .inv .1)
+      (at-vertex-len .vertex-len .ensures) (at-if1 .if1 .taken) (at-end-data .end-data .ensures) (at-end-data2 .end-data2 .ensures)
+      (at-joined .joined .ensures) (c .joined2 .ensures),
 )
   where
-    at-saturating-add2 : tie.After-saturating-add2 Inv-loop μ-loop
-    at-saturating-add2 = search
+    at-joined : tie.After-joined Inv-loop μ-loop
+    at-joined = search
 
-    at-larger : tie.After-larger Inv-loop μ-loop
-    at-larger = let c = at-saturating-add2 in search
+    at-end-data2 : tie.After-end-data2 Inv-loop μ-loop
+    at-end-data2 = let c = at-joined in search
 
-    at-end-flag2 : tie.After-end-flag2 Inv-loop μ-loop
-    at-end-flag2 = let c = at-larger in search
-
-    at-end-flag : tie.After-end-flag Inv-loop μ-loop
-    at-end-flag = let c = at-end-flag2 in search
-
-    at-saturating-add : tie.After-saturating-add Inv-loop μ-loop
-    at-saturating-add = let c = at-end-flag in search
-
-    at-end-support2 : tie.After-end-support2 Inv-loop μ-loop
-    at-end-support2 = let c = at-saturating-add in search
-
-    at-end-support : tie.After-end-support Inv-loop μ-loop
-    at-end-support = let c = at-end-support2 in search
+    at-end-data : tie.After-end-data Inv-loop μ-loop
+    at-end-data = let c = at-end-data2 in search
 
     at-if1 : tie.Then1 Inv-loop μ-loop
-    at-if1 = let c = at-end-support in search
+    at-if1 = let c = at-end-data in search
 
     at-vertex-len : tie.After-vertex-len Inv-loop μ-loop
     at-vertex-len = let c = at-if1 in search
@@ -173,12 +133,8 @@ prefix-to-suffix-spec =
     (λ c. omega arith)
     (λ c. omega arith)
     vertex-len-requires
-    end-support-requires
-    end-support-requires-2
-    (λ c κs. search needs)
-    end-flag-requires
-    end-flag-requires-2
-    (λ c κs. search needs)
+    end-data-requires
+    end-data-requires-2
     (λ c κs. search needs)
     (λ c κs. search needs)
     (λ c. omega arith)

@@ -15,20 +15,8 @@ Inv-loop es₀ m k vs heads nodes c cut off u first at₀ j₀ i₀ es at j i = 
 abbrev μ-loop : tie.MeasureT-loop
 μ-loop es₀ m k vs heads nodes c cut off u first at₀ j₀ i₀ es at j i = c - i
 
-end-support-requires : tie.Need-end-support-requires Inv-loop μ-loop
-end-support-requires c κs =
-    let at-loop-test : tie.In-loop Inv-loop μ-loop = search in
-    let at-loop : tie.At-loop Inv-loop μ-loop = search in
-    let start : tie.Start Inv-loop μ-loop = search in
-    mids-enter
-    (mids-kept (start .pre .0 .1 .1 .1) (at-loop .loop .inv .1 .edges .len))
-    (start .args .off)
-    (at-loop .loop .i)
-    (start .pre .0 .0)
-    (at-loop-test .loop-test .taken)
-
-end-flag-requires : tie.Need-end-flag-requires Inv-loop μ-loop
-end-flag-requires c κs =
+end-data-requires : tie.Need-end-data-requires Inv-loop μ-loop
+end-data-requires c κs =
     let at-loop-test : tie.In-loop Inv-loop μ-loop = search in
     let at-loop : tie.At-loop Inv-loop μ-loop = search in
     let start : tie.Start Inv-loop μ-loop = search in
@@ -57,14 +45,11 @@ module _ (c : tie.After-slice-known2 Inv-loop μ-loop) where
   abbrev at-put-mid-edge : tie.After-put-mid-edge Inv-loop μ-loop
   at-put-mid-edge = search
 
-  abbrev at-end-flag : tie.After-end-flag Inv-loop μ-loop
-  at-end-flag = let c = at-put-mid-edge in search
-
-  abbrev at-end-support : tie.After-end-support Inv-loop μ-loop
-  at-end-support = let c = at-end-flag in search
+  abbrev at-end-data : tie.After-end-data Inv-loop μ-loop
+  at-end-data = let c = at-put-mid-edge in search
 
   abbrev at-if1 : tie.Then1 Inv-loop μ-loop
-  at-if1 = let c = at-end-support in search
+  at-if1 = let c = at-end-data in search
 
   abbrev at-vertex-len : tie.After-vertex-len Inv-loop μ-loop
   at-vertex-len = let c = at-if1 in search
@@ -98,11 +83,11 @@ add-j c =
 loop-again : tie.Need-loop-again Inv-loop μ-loop
 loop-again c = (
   omega arith,
-  pushing-more (at-loop c .loop .inv .1) (start c .pre .0 .0) (start c .pre .0 .1 .0)
+  pushing-more (at-loop c .loop .inv .1) (at-end-data c .end-data .result) (start c .pre .0 .0) (start c .pre .0 .1 .0)
       (at-vertex-len c .vertex-len .ensures) (at-if1 c .if1 .taken)
       (start c .pre .0 .1 .1 .1 .entered (at-loop c .loop .i) (at-loop-test c .loop-test .taken))
       (pushing-room (at-loop c .loop .inv .1) (at-loop-test c .loop-test .taken) (at-vertex-len c .vertex-len .ensures)
-      (at-if1 c .if1 .taken) (start c .pre .1)) (at-end-support c .end-support .ensures) (at-end-flag c .end-flag .ensures)
+      (at-if1 c .if1 .taken) (start c .pre .1)) (at-end-data c .end-data .ensures)
       (at-put-mid-edge c .put-mid-edge .ensures),
 )
 
@@ -150,8 +135,7 @@ push-mid-edges-spec =
     (λ c. omega arith)
     (λ c. omega arith)
     vertex-len-requires
-    end-support-requires
-    end-flag-requires
+    end-data-requires
     put-mid-edge-requires
     add-at
     add-j

@@ -2,7 +2,7 @@
 use native.Mathlib.Omega.{arith}
 use Prim.Native.Nat.{_-_}
 use mathlib.Core.Path.{refl}
-use Rattle.refs.proofs.RefLaws.{set-yes, set-no}
+use Rattle.store.proofs.EdgeLaws.{set-is, set-not}
 use Rattle.splits.proofs.MarkLaws.{MovingMarks, moving-start, moving-yes, moving-no, moving-end}
 use Rattle.splits.proofs.move_marks.Statement.{statement}
 use Rattle.splits.proofs.move_marks.Tie as tie
@@ -23,13 +23,13 @@ loop-again c =
     (at-loop .loop .inv)
     (at-loop-test .loop-test .taken)
     (start .pre .room)
-    (set-yes _ refl (at-if1 .if1 .taken))
+    (set-is (at-if1 .if1 .taken))
 
 loop-again-2 : tie.Need-loop-again-2 Inv-loop μ-loop
 loop-again-2 c =
     let at-loop-test : tie.In-loop Inv-loop μ-loop = search in
     let at-loop : tie.At-loop Inv-loop μ-loop = search in
-    moving-no (at-loop .loop .inv) (at-loop-test .loop-test .taken) (set-no _ refl (c .if1 .left))
+    moving-no (at-loop .loop .inv) (at-loop-test .loop-test .taken) (set-not (c .if1 .left))
 
 pub move-marks-spec : {M : Type 1} → statement M
 move-marks-spec =

@@ -1,9 +1,12 @@
 -- `write_record::put_edge` meets its contract. Assumes nothing.
 use native.Mathlib.Omega.{arith}
-use mathlib.Core.Path.{ap, _∙_}
+use mathlib.Core.Path.{_∙_}
+use Prim.Native.Nat.{_+_, _*_}
 use lib.ListN.{length-set}
 use Rattle.defs.specs.Lists.{bit}
-use Rattle.store.specs.Store.{edgeIn, isSet}
+use Rattle.defs.specs.Record.{flagOf}
+use Rattle.laws.proofs.ListLaws.{bit-small}
+use Rattle.store.specs.Store.{edgeIn}
 use Rattle.write_record.proofs.WriteLaws.{edge-put}
 use borrow.Author.Needs.{needs}
 use Rattle.write_record.proofs.put_edge.Statement.{statement}
@@ -22,7 +25,17 @@ same-length c =
     at-put-u16 : tie.After-put-u16
     at-put-u16 = let c = at-put-u162 in search
 
+cast-out : tie.Need-cast-out
+cast-out c = omega (arith, c .flag-of .ensures, bit-small (at-edge-is-ref .edge-is-ref .result), bit-small (at-edge-is-capped .edge-is-capped .result))
+  where
+    at-edge-is-capped : tie.After-edge-is-capped
+    at-edge-is-capped = search
+
+    at-edge-is-ref : tie.After-edge-is-ref
+    at-edge-is-ref = let c = at-edge-is-capped in search
+
 returns : tie.Need-returns
+unfolding flagOf
 returns c =
     edge-put
     (start .args .at)
@@ -31,16 +44,22 @@ returns c =
     (at-edge-from .edge-from .ensures)
     (at-edge-to .edge-to .ensures)
     (at-edge-support .edge-support .ensures)
-    (c .flag-byte .ensures ∙ ap (λ x. bit (isSet x)) (at-edge-flag .edge-flag .ensures))
+    (at-flag-of .flag-of .ensures ∙ (λ i. bit (at-edge-is-ref .edge-is-ref .ensures i) + 2 * bit (at-edge-is-capped .edge-is-capped .ensures i)))
     (at-put-u16 .put-u16 .ensures)
     (at-put-u162 .put-u162 .ensures)
     (at-put-u32 .put-u32 .ensures)
   where
-    at-edge-flag : tie.After-edge-flag
-    at-edge-flag = search
+    at-flag-of : tie.After-flag-of
+    at-flag-of = search
+
+    at-edge-is-capped : tie.After-edge-is-capped
+    at-edge-is-capped = let c = at-flag-of in search
+
+    at-edge-is-ref : tie.After-edge-is-ref
+    at-edge-is-ref = let c = at-edge-is-capped in search
 
     at-put-u32 : tie.After-put-u32
-    at-put-u32 = let c = at-edge-flag in search
+    at-put-u32 = let c = at-edge-is-ref in search
 
     at-edge-support : tie.After-edge-support
     at-edge-support = let c = at-put-u32 in search
@@ -76,6 +95,8 @@ put-edge-spec =
     (λ c κs. search needs)
     (λ c κs. search needs)
     (λ c κs. search needs)
+    (λ c κs. search needs)
+    cast-out
     (λ c. search needs)
     (λ c. search needs)
     same-length

@@ -1,34 +1,33 @@
--- `split_and_update::mids_flag` meets its contract. Assumes nothing.
+-- `split_and_update::mids_ref` meets its contract. Assumes nothing.
 use native.Mathlib.Omega.{arith}
 use mathlib.Core.Path.{_≡_, _∙_, ap}
 use Prim.Native.Nat.{ℕ, _-_, _≤_}
 use borrow.Author.Needs.{needs}
-use Rattle.store.specs.Store.{isSet}
 use Rattle.split_and_update.specs.Pushed.{leftNodes}
 use Rattle.split_and_update.specs.Ends.{plansOf, anyRef}
 use Rattle.split_and_update.proofs.NodeLaws.{mids-enter}
-use Rattle.split_and_update.proofs.LoopLaws.{flag-start, flag-more, flag-skip}
-use Rattle.split_and_update.proofs.mids_flag.Statement.{statement}
-use Rattle.split_and_update.proofs.mids_flag.Tie as tie
+use Rattle.split_and_update.proofs.LoopLaws.{ref-start, ref-more, ref-skip}
+use Rattle.split_and_update.proofs.mids_ref.Statement.{statement}
+use Rattle.split_and_update.proofs.mids_ref.Tie as tie
 
 abbrev Inv-loop : tie.InvT-loop
-Inv-loop es m vs heads nodes c cut off flag₀ i₀ flag i = (i ≤ c) × (isSet flag ≡ anyRef off (plansOf m es heads (leftNodes vs cut nodes i)))
+Inv-loop es m vs heads nodes c cut off any₀ i₀ any i = (i ≤ c) × (any ≡ anyRef off (plansOf m es heads (leftNodes vs cut nodes i)))
 
 abbrev μ-loop : tie.MeasureT-loop
-μ-loop es m vs heads nodes c cut off flag₀ i₀ flag i = c - i
+μ-loop es m vs heads nodes c cut off any₀ i₀ any i = c - i
 
 loop-holds : tie.Need-loop-holds Inv-loop μ-loop
 loop-holds c = (
   omega arith,
-  flag-start (start .args .m) (start .args .es .now) (start .args .vs .now) (start .args .heads .now)
+  ref-start (start .args .m) (start .args .es .now) (start .args .vs .now) (start .args .heads .now)
       (start .args .nodes .now) (start .args .cut) (start .args .off),
 )
   where
     start : tie.Start Inv-loop μ-loop
     start = search
 
-end-flag-requires : tie.Need-end-flag-requires Inv-loop μ-loop
-end-flag-requires c κs =
+end-data-requires : tie.Need-end-data-requires Inv-loop μ-loop
+end-data-requires c κs =
     let at-loop-test : tie.In-loop Inv-loop μ-loop = search in
     let at-loop : tie.At-loop Inv-loop μ-loop = search in
     let start : tie.Start Inv-loop μ-loop = search in
@@ -37,17 +36,20 @@ end-flag-requires c κs =
 loop-again : tie.Need-loop-again Inv-loop μ-loop
 loop-again c = (
   omega arith,
-  flag-more (start .args .m) (start .args .es .now) (start .args .vs .now) (start .args .heads .now)
-      (start .args .nodes .now) (start .args .cut) (at-loop .loop .i) (start .args .off) (at-loop .loop .flag)
-      (start .pre .0) (at-loop .loop .inv .1) (at-vertex-len .vertex-len .ensures) (at-if1 .if1 .taken)
-      (at-end-flag .end-flag .ensures) (c .larger .ensures),
+  ref-more (start .args .m) (start .args .es .now) (start .args .vs .now) (start .args .heads .now)
+      (start .args .nodes .now) (start .args .cut) (at-loop .loop .i) (start .args .off) (at-loop .loop .any)
+      (at-end-data .end-data .result) (start .pre .0) (at-loop .loop .inv .1) (at-vertex-len .vertex-len .ensures) (at-if1 .if1 .taken)
+      (at-end-data .end-data .ensures) (at-flag-is-ref .flag-is-ref .ensures) (c .either .ensures),
 )
   where
-    at-end-flag : tie.After-end-flag Inv-loop μ-loop
-    at-end-flag = search
+    at-flag-is-ref : tie.After-flag-is-ref Inv-loop μ-loop
+    at-flag-is-ref = search
+
+    at-end-data : tie.After-end-data Inv-loop μ-loop
+    at-end-data = let c = at-flag-is-ref in search
 
     at-if1 : tie.Then1 Inv-loop μ-loop
-    at-if1 = let c = at-end-flag in search
+    at-if1 = let c = at-end-data in search
 
     at-vertex-len : tie.After-vertex-len Inv-loop μ-loop
     at-vertex-len = let c = at-if1 in search
@@ -61,8 +63,8 @@ loop-again c = (
 loop-again-2 : tie.Need-loop-again-2 Inv-loop μ-loop
 loop-again-2 c = (
   omega arith,
-  flag-skip (start .args .m) (start .args .es .now) (start .args .vs .now) (start .args .heads .now)
-      (start .args .nodes .now) (start .args .cut) (at-loop .loop .i) (start .args .off) (at-loop .loop .flag)
+  ref-skip (start .args .m) (start .args .es .now) (start .args .vs .now) (start .args .heads .now)
+      (start .args .nodes .now) (start .args .cut) (at-loop .loop .i) (start .args .off) (at-loop .loop .any)
       (at-loop .loop .inv .1) (at-vertex-len .vertex-len .ensures) (c .if1 .left),
 )
   where
@@ -95,8 +97,8 @@ vertex-len-requires c κs =
     let start : tie.Start Inv-loop μ-loop = search in
     start .pre .1 .in-vs (at-loop .loop .i) (at-loop-test .loop-test .taken)
 
-pub mids-flag-spec : {M : Type 1} → statement M
-mids-flag-spec =
+pub mids-ref-spec : {M : Type 1} → statement M
+mids-ref-spec =
     tie.close
     (tie.spec
     Inv-loop
@@ -106,7 +108,8 @@ mids-flag-spec =
     (λ c. omega arith)
     (λ c. omega arith)
     vertex-len-requires
-    end-flag-requires
+    end-data-requires
+    (λ c κs. search needs)
     (λ c κs. search needs)
     (λ c. omega arith)
     loop-again

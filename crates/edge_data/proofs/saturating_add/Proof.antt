@@ -1,9 +1,9 @@
--- `store::saturating_add` meets its contract. Assumes nothing.
+-- `edge_data::saturating_add` meets its contract. Assumes nothing.
 use borrow.Author.Needs.{needs}
 use native.Mathlib.Omega.{arith}
 use Rattle.defs.specs.SeqGraph.{saturatingAdd}
-use Rattle.store.proofs.saturating_add.Statement.{statement}
-use Rattle.store.proofs.saturating_add.Tie as tie
+use Rattle.edge_data.proofs.saturating_add.Statement.{statement}
+use Rattle.edge_data.proofs.saturating_add.Tie as tie
 
 returns : tie.Need-returns
 unfolding saturatingAdd

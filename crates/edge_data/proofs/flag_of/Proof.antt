@@ -1,0 +1,31 @@
+-- `edge_data::flag_of` meets its contract. Assumes nothing.
+use borrow.Author.Needs.{needs}
+use native.Mathlib.Omega.{arith}
+use Rattle.laws.proofs.ListLaws.{bit-small}
+use Rattle.edge_data.proofs.flag_of.Statement.{statement}
+use Rattle.edge_data.proofs.flag_of.Tie as tie
+
+add-result : tie.Need-add-result
+add-result c = omega (
+  arith,
+  at-new-flag .new-flag .ensures,
+  c .new-flag2 .ensures,
+  bit-small (start .args .reference),
+  bit-small (start .args .capped),
+)
+  where
+    at-new-flag : tie.After-new-flag
+    at-new-flag = search
+
+    start : tie.Start
+    start = let c = at-new-flag in search
+
+pub flag-of-spec : {M : Type 1} → statement M
+flag-of-spec =
+    tie.close
+    (tie.spec
+    (λ c κs. search needs)
+    (λ c κs. search needs)
+    (λ c. let start : tie.Start = search in omega (arith, c .new-flag2 .ensures, bit-small (start .args .capped)))
+    add-result
+    (λ c. search needs))
