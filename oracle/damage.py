@@ -48,6 +48,14 @@ def damaged(record):
     yield from damaged_lengths(record)
 
 
+def with_flags(record):
+    """Each of the record's edges with each flag that is taken and with some that are not."""
+    v, e = struct.unpack_from("<HH", record, 8)
+    for edge in range(e):
+        for flag in (0, 1, 2, 3, 4, 5, 6, 7, 8, 127, 128, 129, 130, 131, 254, 255):
+            yield with_number(record, HEADER + 2 * v + 9 * edge + 8, 1, flag)
+
+
 class Draft:
     """A record field by field, so that it can be wrong in one of them and right in the others."""
 
@@ -100,7 +108,7 @@ def edge_end(rng, d):
 
 def edge_flag(rng, d):
     if d.edges:
-        rng.choice(d.edges)[3] = rng.choice([2, 3, 128, 255])
+        rng.choice(d.edges)[3] = rng.choice([4, 5, 128, 255])
 
 
 def equal_vertices(rng, d):

@@ -88,6 +88,92 @@ CLEANED = [
     ([b"A", b"C", b"G", b"T", b"A", b"C"], [(0, 3, 1, 1), (2, 1, 1, 1), (1, 4, 1, 0), (4, 0, 1, 0), (4, 5, 1, 0)]),
 ]
 
+HALF = 2**31
+
+
+def bubble(into, out):
+    """Edges of a bubble whose first middle has these two edges, each as (support, flag)."""
+    return [(0, 1, *into), (1, 3, *out), (0, 2, 2, 0), (2, 3, 2, 0)]
+
+
+def merged(*supports):
+    """Equal sources of vertex 0 that follow vertex 1 by edges of these (support, flag), which a merge joins; 1 leads elsewhere, too."""
+    count = len(supports)
+    sequences = [b"G", b"T", b"C", *[b"A"] * count]
+    edges = [(1, 2, 1, 0)] + [(3 + i, 0, 1, 0) for i in range(count)]
+    return sequences, edges + [(1, 3 + i, *s) for i, s in enumerate(supports)]
+
+
+def three_middles(first, second):
+    """A diamond's edges, whose first two middles have edges of these (support, flag) each."""
+    edges = [(0, 1 + i, *into) for i, (into, _) in enumerate((first, second))]
+    edges += [(1 + i, 4, *out) for i, (_, out) in enumerate((first, second))]
+    return edges + [(0, 3, 2, 0), (3, 4, 2, 0)]
+
+
+# Flags: 1 reference, 2 capped, 3 both.
+CAPPED = [
+    # Handed in, and nothing to do; with a small support; through a zip, where the last vertex's edges move.
+    ([b"A", b"C", b"G"], [(0, 2, TOP, 3), (1, 2, TOP, 2)]),
+    ([b"A", b"C", b"G"], [(0, 2, 5, 2), (1, 2, 0, 3)]),
+    ([b"A", b"C", b"G", b"T"], [(0, 1, 7, 2), (1, 2, 6, 2), (1, 3, 5, 0)]),
+    # Through a diamond: the remaining middles keep theirs, the edges to the prefix and from the suffix have none.
+    ([b"AA", b"CTG", b"CAG", b"TT"], [(0, 1, 5, 3), (1, 3, 5, 1), (0, 2, 2, 0), (2, 3, 2, 2)]),
+    ([b"AA", b"CTG", b"CAG", b"TT"], [(a, b, TOP, r + 2) for a, b, _, r in BUBBLE]),
+    # Consumed paths with a prefix, joined once more with themselves: either edge capped, neither; below the largest sum, past it.
+    ([b"AA", b"CG", b"CTG", b"TT"], bubble((5, 2), (6, 0))),
+    ([b"AA", b"CG", b"CTG", b"TT"], bubble((5, 1), (6, 3))),
+    ([b"AA", b"CG", b"CTG", b"TT"], bubble((HALF - 2, 0), (1, 0))),
+    ([b"AA", b"CG", b"CTG", b"TT"], bubble((HALF - 1, 0), (1, 1))),
+    # Consumed paths without a prefix: either edge capped, neither; the largest sum exactly, one past it.
+    ([b"AA", b"G", b"TG", b"TT"], bubble((5, 2), (6, 0))),
+    ([b"AA", b"G", b"TG", b"TT"], bubble((5, 0), (6, 2))),
+    ([b"AA", b"G", b"TG", b"TT"], bubble((TOP - 1, 0), (1, 0))),
+    ([b"AA", b"G", b"TG", b"TT"], bubble((TOP, 1), (1, 0))),
+    # Two middles consumed: exactly the largest sum, past it by the second, past it by the first; with a prefix; the mark of one of four.
+    ([b"A", b"G", b"G", b"TG", b"C"], three_middles(((TOP - 3, 0), (1, 0)), ((1, 0), (1, 0)))),
+    ([b"A", b"G", b"G", b"TG", b"C"], three_middles(((TOP - 3, 0), (1, 0)), ((1, 0), (2, 0)))),
+    ([b"A", b"G", b"G", b"TG", b"C"], three_middles(((TOP, 0), (1, 1)), ((0, 0), (0, 0)))),
+    ([b"A", b"G", b"G", b"GT", b"C"], three_middles(((HALF - 4, 0), (1, 0)), ((1, 0), (1, 0)))),
+    ([b"A", b"G", b"G", b"GT", b"C"], three_middles(((HALF - 3, 0), (1, 0)), ((1, 0), (1, 0)))),
+    ([b"A", b"G", b"G", b"TG", b"C"], three_middles(((3, 0), (4, 1)), ((5, 2), (6, 0)))),
+    # Tails: capped edges to them; the missing edge out of a tail is not capped, consumed or not.
+    ([b"CC", b"T" + b"A" * 10, b"G" + b"A" * 10], [(0, 1, 1, 3), (0, 2, TOP, 2)]),
+    ([b"CC", b"A" * 10, b"T" + b"A" * 10], [(0, 1, 4, 2), (0, 2, 1, 1)]),
+    ([b"CC", b"A" * 10, b"T" + b"A" * 10], [(0, 1, TOP, 1), (0, 2, 1, 0)]),
+    ([b"CC", b"G" + b"A" * 10, b"GT" + b"A" * 10], [(0, 1, HALF - 1, 0), (0, 2, 1, 1)]),
+    ([b"CC", b"G" + b"A" * 10, b"GT" + b"A" * 10], [(0, 1, HALF, 0), (0, 2, 1, 3)]),
+    # Splits: the edge out goes to the suffix with its mark, the new edge from prefix to suffix has none, edges in keep theirs.
+    ([b"G", b"TA", b"CA"], [(1, 0, 4, 3), (2, 0, 3, 2)]),
+    ([b"G", b"CCA", b"CA", b"T", b"T"], [(1, 0, 4, 3), (2, 0, 3, 0), (3, 1, 2, 3), (4, 2, 1, 2), (3, 2, 6, 0)]),
+    # Merges of two and three edges: exactly the largest sum, one past it, capped by the first two, capped on one side, on both.
+    merged((TOP - 1, 0), (1, 0)),
+    merged((TOP, 0), (1, 1)),
+    merged((TOP, 0), (0, 0)),
+    merged((TOP - 2, 0), (1, 0), (1, 0)),
+    merged((TOP - 1, 0), (1, 0), (1, 0)),
+    merged((TOP, 0), (2, 1), (0, 0)),
+    merged((3, 2), (4, 0)),
+    merged((3, 0), (4, 3)),
+    merged((3, 2), (4, 3), (5, 0)),
+    (
+        [b"G", b"A", b"A", b"T", b"C", b"T"],
+        [(1, 0, 4, 1), (2, 0, 3, 2), (3, 1, 2, 3), (3, 2, 1, 2), (0, 4, 5, 3), (0, 5, 6, 2)],
+    ),
+    # A capped edge is no reference edge: for chains, sources and sinks, plain walks, the reference path.
+    ([b"A", b"C", b"G"], [(0, 1, 1, 3), (1, 2, 1, 2)]),
+    ([b"A", b"C", b"G", b"T", b"A"], [(0, 1, 1, 2), (1, 2, 1, 3), (2, 3, 1, 1), (3, 4, 1, 2)]),
+    ([b"A", b"C", b"G"], [(0, 1, 1, 2), (1, 2, 1, 2)]),
+    ([b"A", b"C", b"G", b"T"], [(0, 1, 9, 2), (0, 2, 1, 3), (1, 3, 9, 2), (2, 3, 1, 1)]),
+    ([b"A", b"C", b"G", b"T"], [(0, 3, 1, 3), (2, 1, 1, 3), (2, 3, 1, 2)]),
+    ([b"ACGT", b"A"], [(0, 1, 1, 3)]),
+]
+
+KMER_CAPPED = [
+    (3, ([b"ACG", b"CGT", b"CGA"], [(0, 1, 5, 3), (0, 2, 2, 2)])),
+    (3, ([b"CGT", b"ACG", b"CGA", b"TCG"], [(3, 0, 1, 2), (1, 0, 5, 1), (3, 2, TOP, 3), (1, 2, 2, 0)])),
+]
+
 SEQUENCE_GRAPHS = NINE + REWRITES + HIGH + CLEANED
 
 

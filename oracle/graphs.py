@@ -230,5 +230,14 @@ def scattered_kmers(rng, k, vertices):
     return renumbered(rng, found, flagged(rng, len(found), sorted(pairs)))
 
 
+def with_marks(rng, graph):
+    """The graph with some of its edges capped, and with supports whose sums come near the largest."""
+    often, high = rng.choice([0.1, 0.5, 1]), rng.random() < 0.5
+    edges = [
+        (a, b, support(rng, True) if high else s, r + 2 * (rng.random() < often)) for a, b, s, r in graph[1]
+    ]
+    return graph[0], edges
+
+
 def kmer_record(k, graph):
     return encode(KMER, 0, k, *graph)

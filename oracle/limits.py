@@ -101,7 +101,7 @@ def large_with_fault():
     yield sequences, edges + [(MAX_VERTICES - 1, MAX_VERTICES - 1, 1, 0)]
     yield sequences, edges + [(0, 1, 9, 1)]
     yield sequences, edges + [(0, MAX_VERTICES, 1, 0)]
-    yield sequences, edges[:-1] + [(MAX_VERTICES - 2, MAX_VERTICES - 1, 1, 2)]
+    yield sequences, edges[:-1] + [(MAX_VERTICES - 2, MAX_VERTICES - 1, 1, 4)]
 
 
 def equal_last_kmers():

@@ -21,15 +21,44 @@ Tally = namedtuple("Tally", "answered refused rewrites")
 Answer = namedtuple("Answer", "number length fields tally output")
 
 
-def capped(n):
+# What an edge carries.
+Carried = namedtuple("Carried", "support is_ref capped")
+
+
+def stopped(n):
     return min(n, MAX_U32)
 
 
-class Edge:
-    __slots__ = ("source", "target", "support", "is_ref")
+def carried(support, flag):
+    return Carried(support, bool(flag & 1), bool(flag & 2))
 
-    def __init__(self, source, target, support, is_ref):
-        self.source, self.target, self.support, self.is_ref = source, target, support, is_ref
+
+def fresh(is_ref):
+    """A new edge of support 1."""
+    return Carried(1, bool(is_ref), False)
+
+
+def joined(all_carried):
+    """Of several edges together: capped if one was, or if the whole sum does not fit."""
+    total = sum(c.support for c in all_carried)
+    return Carried(
+        stopped(total), any(c.is_ref for c in all_carried), total > MAX_U32 or any(c.capped for c in all_carried)
+    )
+
+
+class Edge:
+    __slots__ = ("source", "target", "carried")
+
+    def __init__(self, source, target, what):
+        self.source, self.target, self.carried = source, target, what
+
+    @property
+    def is_ref(self):
+        return self.carried.is_ref
+
+    @property
+    def flag(self):
+        return self.carried.is_ref + 2 * self.carried.capped
 
 
 class Graph:
@@ -40,8 +69,8 @@ class Graph:
         self.next_vertex = self.next_edge = 0
         for s in sequences:
             self.add_vertex(s)
-        for e in edges:
-            self.add_or_update_edge(*e)
+        for a, b, support, flag in edges:
+            self.add_or_update_edge(a, b, carried(support, flag))
 
     def add_vertex(self, sequence):
         v = self.next_vertex
@@ -49,15 +78,15 @@ class Graph:
         self.seq[v], self.out[v], self.into[v] = sequence, {}, {}
         return v
 
-    def add_or_update_edge(self, source, target, support, is_ref):
+    def add_or_update_edge(self, source, target, what):
         key = self.out[source].get(target)
         if key is not None:
             e = self.edge[key]
-            e.support, e.is_ref = capped(e.support + support), e.is_ref or bool(is_ref)
+            e.carried = joined([e.carried, what])
             return
         key = self.next_edge
         self.next_edge += 1
-        self.edge[key] = Edge(source, target, capped(support), bool(is_ref))
+        self.edge[key] = Edge(source, target, what)
         self.out[source][target] = self.into[target][source] = key
 
     def remove_edge(self, key):
@@ -104,10 +133,11 @@ class Graph:
 
     def edge_list(self):
         number = {v: i for i, v in enumerate(self.seq)}
-        return [(number[e.source], number[e.target], e.support, e.is_ref) for e in self.edge.values()]
+        return [(number[e.source], number[e.target], e.carried.support, e.flag) for e in self.edge.values()]
 
     def signature(self):
-        return list(self.seq.values()), self.edge_list()
+        """Whether a support was capped is not compared."""
+        return list(self.seq.values()), [(a, b, support, flag & 1) for a, b, support, flag in self.edge_list()]
 
 
 def encode_graph(g, status):
@@ -211,23 +241,21 @@ def try_merge_tails(g, top):
     return True
 
 
-# One middle: what is left of it, and its two edges as (support, flag).
+# One middle: what is left of it, and what its two edges carry.
 Middle = namedtuple("Middle", "rest into out")
 
 
 def read_middle(g, v, prefix, suffix):
     (into,) = g.edges_into(v)
-    out = [(e.support, e.is_ref) for e in g.edges_from(v)] or [(0, into.is_ref)]
+    out = [e.carried for e in g.edges_from(v)] or [Carried(0, into.is_ref, False)]
     rest = g.seq[v][prefix : len(g.seq[v]) - suffix]
-    return Middle(rest, (into.support, into.is_ref), out[0])
+    return Middle(rest, into.carried, out[0])
 
 
 def consumed_edge(plans):
     """The edge in place of all middles of which nothing is left; None without such a middle."""
     ends = [end for p in plans if not p.rest for end in (p.into, p.out)]
-    if not ends:
-        return None
-    return sum(support for support, _ in ends), any(is_ref for _, is_ref in ends)
+    return joined(ends) if ends else None
 
 
 def split_and_update(g, top, bottom, middles, prefix, suffix):
@@ -237,19 +265,19 @@ def split_and_update(g, top, bottom, middles, prefix, suffix):
     below = g.add_vertex(model[len(model) - suffix :]) if suffix else bottom
     left = [(g.add_vertex(p.rest), p) for p in plans if p.rest]
     consumed = consumed_edge(plans)
-    consumed_ref = consumed is not None and consumed[1]
+    consumed_ref = consumed is not None and consumed.is_ref
     if prefix:
-        g.add_or_update_edge(top, above, 1, consumed_ref or any(p.into[1] for _, p in left))
+        g.add_or_update_edge(top, above, fresh(consumed_ref or any(p.into.is_ref for _, p in left)))
     if suffix and bottom is not None:
-        g.add_or_update_edge(below, bottom, 1, consumed_ref or any(p.out[1] for _, p in left))
+        g.add_or_update_edge(below, bottom, fresh(consumed_ref or any(p.out.is_ref for _, p in left)))
     for v, p in left:
-        g.add_or_update_edge(above, v, *p.into)
+        g.add_or_update_edge(above, v, p.into)
     if consumed:
-        g.add_or_update_edge(above, below, *consumed)
+        g.add_or_update_edge(above, below, consumed)
     for v, p in left:
-        g.add_or_update_edge(v, below, *p.out)
+        g.add_or_update_edge(v, below, p.out)
     if consumed and prefix:
-        g.add_or_update_edge(above, below, *consumed)
+        g.add_or_update_edge(above, below, consumed)
     g.remove_vertices(middles)
 
 
@@ -279,10 +307,10 @@ def split_source(g, v, bottom, suffix):
     entry = below = g.add_vertex(g.seq[v][cut:])
     if cut > 0:
         entry = g.add_vertex(g.seq[v][:cut])
-        g.add_or_update_edge(entry, below, 1, out.is_ref)
-    g.add_or_update_edge(below, bottom, out.support, out.is_ref)
+        g.add_or_update_edge(entry, below, fresh(out.is_ref))
+    g.add_or_update_edge(below, bottom, out.carried)
     for e in incoming:
-        g.add_or_update_edge(e.source, entry, e.support, e.is_ref)
+        g.add_or_update_edge(e.source, entry, e.carried)
 
 
 def try_split_common_suffix(g, bottom, tried):
@@ -308,9 +336,9 @@ def try_merge_common_suffices(g, bottom):
     merged = g.add_vertex(g.seq[sources[0]] + g.seq[bottom])
     for v in sources:
         for e in g.edges_into(v):
-            g.add_or_update_edge(e.source, merged, e.support, e.is_ref)
+            g.add_or_update_edge(e.source, merged, e.carried)
     for e in g.edges_from(bottom):
-        g.add_or_update_edge(merged, e.target, e.support, e.is_ref)
+        g.add_or_update_edge(merged, e.target, e.carried)
     g.remove_vertices([*sources, bottom])
     return True
 
@@ -392,7 +420,7 @@ def cleanup(g):
     rewrites += sum(simplify(g)[0])
     if len(g.seq) == 1:
         (only,) = g.seq
-        g.add_or_update_edge(only, g.add_vertex(b""), 0, True)
+        g.add_or_update_edge(only, g.add_vertex(b""), Carried(0, True, False))
     return 2, rewrites
 
 
@@ -488,7 +516,7 @@ def vertex_sequence(data, vertex, tally):
 
 def counted(tally, refused, rewrites):
     raised = (tally.answered + (not refused), tally.refused + refused, tally.rewrites + rewrites)
-    return Tally(*map(capped, raised))
+    return Tally(*map(stopped, raised))
 
 
 def finish(outcome, room, tally):

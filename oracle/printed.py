@@ -1,4 +1,4 @@
-"""The text that sgshow writes, as document 01 states it ("Printed graph"), from the model's answer."""
+"""The text that sgshow writes, as documents 01 ("Printed graph") and 02 (change 2) state it, from the model's answer."""
 import struct
 
 from model import outcome_of
@@ -6,6 +6,7 @@ from sgr1 import HEADER, SIMPLIFY_GRAPH, layout
 
 MOST = 65536
 END = {1: "quiet", 2: "repeated", 3: "full"}
+PRINTED_FLAGS = ["-", "r", "-c", "rc"]
 LETTERS = frozenset(b"ABCDEFGHIJKLMNOPQRSTUVWXYZabcdefghijklmnopqrstuvwxyz")
 
 
@@ -26,7 +27,7 @@ def graph_lines(record):
         lines.append("v %d %s" % (i, sequence(record[at : at + n])))
         at += n
     for source, target, support, flag in struct.iter_unpack("<HHIB", record[edges_at:bytes_at]):
-        lines.append("e %d %d %d %s" % (source, target, support, "r" if flag else "-"))
+        lines.append("e %d %d %d %s" % (source, target, support, PRINTED_FLAGS[flag]))
     return "k %d vertices %d edges %d bytes %d surplus %d" % (k, v, e, b, e - v), lines
 
 

@@ -5,12 +5,14 @@ import struct
 import subprocess
 import sys
 
-from sgr1 import CLEANUP_SEQ_GRAPH, SIMPLIFY_GRAPH, VERTEX_SEQUENCE
+from sgr1 import CLEANUP_SEQ_GRAPH, CLEAN_NON_REF_PATHS, FROM_ASSEMBLY_GRAPH, SIMPLIFY_GRAPH, VERTEX_SEQUENCE, without_marks
 
 HERE = os.path.dirname(os.path.abspath(__file__))
 ANSWERED, NO_REFERENCE_PATH, NO_ROOM = 0, 10, 11
 # The driver's number for simplification by the Rust as it stands.
 UNCHANGED_SIMPLIFY_GRAPH = 255
+# The calls that answer with a record.
+RECORD_CALLS = (FROM_ASSEMBLY_GRAPH, SIMPLIFY_GRAPH, CLEANUP_SEQ_GRAPH, CLEAN_NON_REF_PATHS)
 
 
 def target_folder():
@@ -70,4 +72,5 @@ def agrees(case, output, status, rounds, end):
         return False
     if case.call == CLEANUP_SEQ_GRAPH and a.fields[0] != status:
         return False
-    return a.number == ANSWERED and a.output == output
+    known = without_marks(a.output) if a.output and case.call in RECORD_CALLS else a.output
+    return a.number == ANSWERED and known == output

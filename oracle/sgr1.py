@@ -13,7 +13,8 @@ MAX_U32 = 2**32 - 1
 MIN_K, MAX_K = 2, 128
 MAX_VERTICES, MAX_EDGES, MAX_BYTES = 2048, 4096, 8192
 
-# A record's vertices as (start, length) in its bytes, its edges as (from, to, support, flag).
+# A record's vertices as (start, length) in its bytes, its edges as (from, to, support, flag); a flag is 1 for a reference edge and 2
+# more for one whose support was capped.
 Record = namedtuple("Record", "kind k parts edges data")
 
 
@@ -42,6 +43,15 @@ def encode(kind, status, k, sequences, edges):
     head = struct.pack("<4sBBHHHIIIII", b"SGR1", kind, status, k, v, e, b, *layout(v, e, b))
     lengths = struct.pack("<%dH" % v, *map(len, sequences))
     return head + lengths + b"".join(struct.pack("<HHIB", *x) for x in edges) + sequence_bytes
+
+
+def without_marks(record):
+    """The record with the lowest bit of each flag alone: what the Rust knows of it."""
+    _, edges_at, bytes_at, _ = layout(*struct.unpack_from("<HHI", record, 8))
+    found = bytearray(record)
+    for at in range(edges_at + 8, bytes_at, 9):
+        found[at] &= 1
+    return bytes(found)
 
 
 def sequences_of(record):
@@ -97,7 +107,7 @@ def read_record(call, data):
     require(sum(lengths) == b and (kind == SEQUENCE or all(n == k for n in lengths)), 4)
     _, edges_at, bytes_at, _ = layout(v, e, b)
     edges = list(struct.iter_unpack("<HHIB", data[edges_at:bytes_at]))
-    require(all(x[0] < v and x[1] < v and x[3] <= 1 for x in edges), 5)
+    require(all(x[0] < v and x[1] < v and x[3] <= 3 for x in edges), 5)
     record = Record(kind, k, parts_of(lengths, bytes_at), edges, data)
     require(len({x[:2] for x in edges}) == e, 6)
     require(kind == SEQUENCE or len(set(sequences_of(record))) == v, 6)

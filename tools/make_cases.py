@@ -45,6 +45,8 @@ def sequence_graphs(rng):
     yield "tails", many(1000, lambda: graphs.tails(rng, pick(1, 5)))
     yield "shared suffixes", many(1500, lambda: graphs.shared_suffixes(rng, pick(1, 6)))
     yield "ladders", many(20, lambda: graphs.ladder(rng, pick(1, 20)))
+    for make in (graphs.random_graph, graphs.chain, graphs.stacked_diamonds, graphs.tails, graphs.shared_suffixes):
+        yield "capped", many(400, lambda: graphs.with_marks(rng, make(rng, pick(1, 8))))
 
 
 def kmer_graphs(rng):
@@ -58,10 +60,14 @@ def kmer_graphs(rng):
         k = rng.choice(KS)
         return k, graphs.scattered_kmers(rng, k, rng.randint(0, 20))
 
+    def capped(k, graph):
+        return k, graphs.with_marks(rng, graph)
+
     yield "k-mers of haplotypes", many(800, lambda: related(2, 5, 80))
     yield "k-mers of haplotypes, many cycles", many(200, lambda: related(0, 3, 60))
     yield "k-mers of haplotypes, larger", many(6, lambda: related(5, 7, 600))
     yield "scattered k-mers", many(600, scattered)
+    yield "capped k-mers", many(200, lambda: capped(*related(2, 5, 80)))
 
 
 def emit(label, found):
@@ -90,6 +96,10 @@ def emit_damage(rng):
         for record in damage.damaged(draft.record()):
             for call in sgr1.CALLS:
                 emit("every field, byte and length", cases.cases_of(rng, call, record, rng.randint(0, 1)))
+    for draft in small_drafts(rng):
+        for record in damage.with_flags(draft.record()):
+            for call in sgr1.CALLS:
+                emit("every flag", cases.cases_of(rng, call, record, rng.randint(0, 1)))
     for _ in range(1500):
         for draft in small_drafts(rng):
             record = damage.random_faults(rng, draft)
@@ -102,6 +112,10 @@ def emit_by_hand(rng):
         emit("by hand", cases.cases_of_graph(rng, graph, all_rooms=True))
     for k, graph in examples.KMER_GRAPHS:
         emit("by hand", cases.cases_of_kmers(rng, k, graph, all_rooms=True))
+    for graph in examples.CAPPED:
+        emit("capped by hand", cases.cases_of_graph(rng, graph, all_rooms=True))
+    for k, graph in examples.KMER_CAPPED:
+        emit("capped by hand", cases.cases_of_kmers(rng, k, graph, all_rooms=True))
     for graph in examples.SETTLING:
         emit("settling late", cases.cases_of_graph(rng, graph, all_rooms=True))
 

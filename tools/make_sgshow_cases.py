@@ -45,6 +45,8 @@ def accepted():
     yield "surplus-2", of(all_pairs(4))
     yield "surplus-9", of(all_pairs(6))
     yield "supports", of(([b"CC", b"GA", b"TA"], [(0, 1, MAX_U32, 1), (0, 2, 0, 0)]))
+    for i, graph in enumerate(examples.CAPPED):
+        yield "capped-%02d" % (i + 1), of(graph)
     yield "end-repeated", of(([b"G", b"A", b"CA"], [(1, 0, 1, 0), (2, 0, 1, 0)]))
     yield "end-full", of(graphs.ladder(random.Random("sgshow"), 102))
     yield "all-vertices", of(limits.many_vertices(MAX_VERTICES))
@@ -81,7 +83,7 @@ def refused():
     yield "refused-4-lengths", changed(lengths=[2, 3, 3, 3])
     yield "refused-4-longer", with_whole_length(good + b"A")
     yield "refused-5-end", with_edges(examples.BUBBLE + [(3, 4, 1, 0)])
-    yield "refused-5-flag", with_edges(examples.BUBBLE[:3] + [(2, 3, 2, 2)])
+    yield "refused-5-flag", with_edges(examples.BUBBLE[:3] + [(2, 3, 2, 4)])
     yield "refused-6", with_edges(examples.BUBBLE + [(0, 1, 1, 0)])
     yield "refused-7-self", with_edges(examples.BUBBLE + [(2, 2, 1, 0)])
     yield "refused-7-cycle", with_edges(examples.BUBBLE + [(3, 0, 1, 0)])

@@ -159,9 +159,30 @@ def settling(rng, call):
             yield from cases.cases_of_graph(rng, graph, [call])
 
 
+def capped(rng, call):
+    for graph in examples.CAPPED:
+        yield from cases.cases_of_graph(rng, graph, [call])
+    for k, graph in examples.KMER_CAPPED:
+        yield from cases_of_kmers(rng, call, k, graph, False)
+    for make in (graphs.random_graph, graphs.stacked_diamonds, graphs.tails, graphs.shared_suffixes):
+        for _ in range(15):
+            yield from cases.cases_of_graph(rng, graphs.with_marks(rng, make(rng, rng.randint(2, 6))), [call])
+    for _ in range(15):
+        k = rng.choice(KS[3:])
+        graph = graphs.with_marks(rng, graphs.kmer_graph(rng, k, rng.randint(k + 4, 50), rng.randint(1, 3)))
+        yield from cases_of_kmers(rng, call, k, graph, False)
+
+
+def flags(rng, call):
+    kind = sgr1.KMER if call == sgr1.FROM_ASSEMBLY_GRAPH else sgr1.SEQUENCE
+    k, graph = examples.KMER_GRAPHS[2]
+    for record in damage.with_flags(sgr1.encode(kind, 0, k, *graph)):
+        yield from cases.cases_of(rng, call, record)
+
+
 def stored(call):
     rng = random.Random("stored list, call %d" % call)
-    for part in (by_hand, by_chance, faulty, at_limits, settling):
+    for part in (by_hand, by_chance, faulty, at_limits, settling, capped, flags):
         yield from part(rng, call)
 
 

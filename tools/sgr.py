@@ -22,12 +22,14 @@ A file named - is standard input or output. docs/FORMAT.md says what a record is
 
 kind is 0 for a k-mer graph, 1 for a sequence graph; status is 0 not cleaned, 1 just reference, 2 some variation. Left out, they are 1 and 0.
 v is a vertex with its sequence: letters as they are, any other byte as \xhh, an empty sequence as a dot. Vertices are numbered from 0, in
-their order. e is an edge: from, to, support, and r for a reference edge, else -; a flag that no sound record has is a number. Lines that are
-empty or begin with # are skipped. make also takes what sgshow prints: there a v has its number before the sequence.
+their order. e is an edge: from, to, support, and r for a reference edge, else -; right behind it c, if the support was capped. A flag that
+no sound record has is a number. Lines that are empty or begin with # are skipped. make also takes what sgshow prints: there a v has its number
+before the sequence.
 
-In GFA an edge is a link, its support the tag RC, its flag the tag rf; kind, status and k are the tags kd, st and km of the header. Sequences
-do not overlap in a sequence graph; k-mers do by k - 1 bytes, and where they do not the overlap is a star. GFA has no way to write most
-bytes that are no letters. In DOT reference edges are red and thick, and a sequence of over 32 bytes is shown by its ends and its length.
+In GFA an edge is a link, its support the tag RC; the tag rf is 1 for a reference edge, and the tag cp for a capped one; kind, status and k are
+the tags kd, st and km of the header. Sequences do not overlap in a sequence graph; k-mers do by k - 1 bytes, and where they do not the overlap
+is a star. GFA has no way to write most bytes that are no letters. In DOT reference edges are red and thick, a capped edge has a c behind its
+support, and a sequence of over 32 bytes is shown by its ends and its length.
 
 This tool checks little. It reads any record whose fields can be followed, and makes any record whose numbers fit their fields: with a cycle
 or past a limit too. Whether a record is sound the proved library says: sgshow prints the number of the refusal, docs/FORMAT.md its cause.
@@ -48,7 +50,9 @@ from sgr1 import HEADER, KMER, MAX_U32, SEQUENCE, encode, layout  # noqa: E402
 MAX_U8, MAX_U16 = 2**8 - 1, 2**16 - 1
 LONGEST_LABEL, LABEL_END = 32, 12
 OFFSETS = ["offset of lengths", "offset of edges", "offset of bytes", "whole length"]
-FLAGS = {b"-": 0, b"r": 1}
+# by the flag: 1 reference, 2 more capped
+PRINTED_FLAGS = ["-", "r", "-c", "rc"]
+FLAGS = {text.encode(): flag for flag, text in enumerate(PRINTED_FLAGS)}
 HEAD_LINES = {b"kind": MAX_U8, b"status": MAX_U8, b"k": MAX_U16}
 
 # Edges are (from, to, support, flag), as in oracle/sgr1.py.
@@ -104,7 +108,7 @@ def printed(sequence):
 
 
 def printed_flag(flag):
-    return "-r"[flag] if flag <= 1 else str(flag)
+    return PRINTED_FLAGS[flag] if flag < len(PRINTED_FLAGS) else str(flag)
 
 
 def text_of(graph):
@@ -224,7 +228,8 @@ def gfa_of(graph):
     lines = ["H\tVN:Z:1.0\tkd:i:%d\tst:i:%d\tkm:i:%d" % graph[:3]]
     lines += ["S\t%d\t%s" % (i, gfa_sequence(i, s)) for i, s in enumerate(graph.sequences)]
     for a, b, support, flag in graph.edges:
-        lines.append("L\t%d\t+\t%d\t+\t%s\tRC:i:%d\trf:i:%d" % (a, b, overlap(graph, a, b), support, flag))
+        tags = "RC:i:%d\trf:i:%d\tcp:i:%d" % (support, flag % 2, flag // 2)
+        lines.append("L\t%d\t+\t%d\t+\t%s\t%s" % (a, b, overlap(graph, a, b), tags))
     return lines
 
 
@@ -241,8 +246,9 @@ def dot_of(graph):
         # in a label a backslash stands for itself if it is doubled
         lines.append('    %d [label="%d %s"];' % (i, i, label(sequence).replace("\\", "\\\\")))
     for a, b, support, flag in graph.edges:
-        marked = ", color=red, penwidth=2" if flag else ""
-        lines.append('    %d -> %d [label="%d"%s];' % (a, b, support, marked))
+        marked = ", color=red, penwidth=2" if flag % 2 else ""
+        capped = " c" if flag // 2 else ""
+        lines.append('    %d -> %d [label="%d%s"%s];' % (a, b, support, capped, marked))
     return lines + ["}"]
 
 

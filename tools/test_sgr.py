@@ -50,6 +50,7 @@ WRONG_TEXTS = [
     (b"k 2\ne 0 1 5\n", "line 2: e 0 1 5 is no line of the text form"),
     (b"k 2\ne 0 1 4294967296 r\n", "line 2: 4294967296 is no number from 0 to 4294967295"),
     (b"k 2\ne 0 1 5 R\n", "line 2: R is no number from 0 to 255"),
+    (b"k 2\ne 0 1 5 c\n", "line 2: c is no number from 0 to 255"),
     (b"k 2\n\n# a vertex\nv A*\n", "line 4: A* is no sequence: letters, \\xhh for any other byte, or a dot"),
     (b"k 2\nv A\\x4\n", "line 2: A\\x4 is no sequence: letters, \\xhh for any other byte, or a dot"),
     (b"k 2\nv ..\n", "line 2: .. is no sequence: letters, \\xhh for any other byte, or a dot"),
@@ -118,7 +119,7 @@ def stored_files():
 
 def random_record(rng):
     """Of any numbers: most are not sound."""
-    top = rng.choice([3, 255])
+    top = rng.choice([4, 255])
     sequences = [bytes(rng.choices(range(256), k=rng.choice([0, 1, 2, 40]))) for _ in range(rng.randrange(12))]
     ends = rng.choice([len(sequences) + 1, 65536])
     edges = [
@@ -156,6 +157,8 @@ def check_texts():
         assert told(lambda: sgr.record_of_graph(sgr.graph_of_text(text))) == message, (text[:80], message)
     loose = b"# case 1\r\n\r\n e 0\t1 5 1\r\nk 10\nv \\x41\\x41\nv CTG\nv CAG\nv TT\ne 1 3 5 r\ne 0 2 2 0\ne 2 3 2 -"
     assert sgr.record_of_graph(sgr.graph_of_text(loose)) == CASE_1
+    every_flag = b"k 2\nv A\nv C\n" + b"".join(b"e 0 1 5 %s\n" % flag for flag in (b"-", b"r", b"-c", b"rc", b"4", b"2"))
+    assert [edge[3] for edge in sgr.graph_of_text(every_flag).edges] == [0, 1, 2, 3, 4, 2]
     printed = sgr.graph_of_text(PRINTED_1)
     assert sgr.record_of_graph(printed) == sgr1.encode(sgr1.SEQUENCE, 0, 10, *SIMPLIFIED_1)
     # what sgshow printed is taken, all but its refusals
@@ -169,6 +172,11 @@ def check_pictures():
         assert told(sgr.SHOW[command], sgr.Graph(1, 0, 10, *graph)) == message, message
     kmers = sgr.Graph(0, 0, 3, [b"ACG", b"CGT", b"GGG"], [(0, 1, 5, 1), (0, 2, 2, 0)])
     assert [line.split("\t")[5] for line in sgr.gfa_of(kmers)[-2:]] == ["2M", "*"]
+    flags = sgr.Graph(1, 0, 10, [b"A", b"C"], [(0, 1, 5, flag) for flag in range(4)])
+    assert [line.split("\t")[-2:] for line in sgr.gfa_of(flags)[-4:]] == [["rf:i:%d" % r, "cp:i:%d" % c] for c in (0, 1) for r in (0, 1)]
+    red = ", color=red, penwidth=2"
+    wanted = ['    0 -> 1 [label="5%s"%s];' % (c, r) for c in ("", " c") for r in ("", red)]
+    assert sgr.dot_of(flags)[-5:-1] == wanted, sgr.dot_of(flags)
     odd = sgr.Graph(1, 0, 10, [b"", b'"\\', b"A" * 20 + b"C" * 13], [])
     labels = [line.split("label=")[1] for line in sgr.dot_of(odd)[3:-1]]
     assert labels == ['"0 ."];', '"1 \\\\x22\\\\x5c"];', '"2 AAAAAAAAAAAA..CCCCCCCCCCCC (33)"];'], labels

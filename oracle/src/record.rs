@@ -39,10 +39,20 @@ fn edges(record: &[u8]) -> Vec<Edge> {
             from: le16(record, at),
             to: le16(record, at + 2),
             support: le32(record, at + 4),
-            is_ref: record[at + 8] == 1,
+            is_ref: record[at + 8] & 1 == 1,
         }
     };
     (0..e).map(read).collect()
+}
+
+/// The record with the lowest bit of each flag alone: the Rust does not know whether a support was capped.
+pub fn without_marks(record: &[u8]) -> Vec<u8> {
+    let (v, e) = (le16(record, 8), le16(record, 10));
+    let mut out = record.to_vec();
+    for i in 0..e {
+        out[HEADER + 2 * v + 9 * i + 8] &= 1;
+    }
+    out
 }
 
 /// A sequence graph, built by the Rust's own functions from an empty one.

@@ -3,7 +3,7 @@
 use oracle::case::{parse, read_frame, words, Answer, Case, LABEL};
 use oracle::oracle::{self as rust, Made};
 use oracle::ours;
-use oracle::record::seq_graph;
+use oracle::record::{seq_graph, without_marks};
 use oracle::seq_graph::SeqGraph;
 use std::collections::BTreeMap;
 use std::env::var_os;
@@ -69,11 +69,19 @@ fn agrees(case: &Case, made: &Made) -> bool {
     };
     match case.expected.number {
         0 => {
-            *bytes == case.expected.output
+            *bytes == known(case)
                 && bytes.len() <= case.room
                 && fields_agree(case.call, &case.expected, made)
         }
         number => number == REFUSED_NO_ROOM && bytes.len() > case.room,
+    }
+}
+
+/// What the Rust can know of the expected output: of a record all but the marks of capped supports.
+fn known(case: &Case) -> Vec<u8> {
+    match case.call {
+        rust::FROM_ASSEMBLY_GRAPH..=rust::CLEAN_NON_REF_PATHS => without_marks(&case.expected.output),
+        _ => case.expected.output.clone(),
     }
 }
 
