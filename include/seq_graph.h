@@ -10,6 +10,9 @@
  * or sg_clean_non_ref_paths is accepted. One of sg_simplify_graph or sg_cleanup_seq_graph is accepted too, or refused with 3, if it
  * has over 2,048 vertices or over 4,096 edges.
  *
+ * An edge's flag is 1 for a reference edge, and 2 more for one whose support was capped: a sum of supports in it passed 2^32 - 1. A
+ * capped edge stays capped through every call (docs/FORMAT.md).
+ *
  * No pointer may be null, also where its length is 0, and what is lent to be written may not overlap what is read. A call keeps
  * nothing, and two may run at once on different memory. A thread of 2 MiB of stack is enough for each.
  *
@@ -19,7 +22,7 @@
  *    2  mark, kind for this call, or status
  *    3  a count or k past a limit
  *    4  offsets, whole length, lengths or byte count disagree
- *    5  an edge end not below the count of vertices, or a flag other than 0 and 1
+ *    5  an edge end not below the count of vertices, or a flag above 3
  *    6  two edges with the same ends, or in a k-mer graph two equal k-mers
  *    7  a cycle, a self edge included
  *    8  conversion would give over 8,192 bytes

@@ -60,6 +60,40 @@ static void test_simplify_graph(void) {
     check_output(0);
 }
 
+/* Equal sources of G behind T, which a merge joins: so are the two edges from T to them. */
+static size_t joined(uint8_t *at, edge first, edge second) {
+    const char *sequences[] = {"G", "T", "C", "A", "A"};
+    const edge edges[] = {{1, 2, 1, 0}, {3, 0, 1, 0}, {4, 0, 1, 0}, first, second};
+    return write_record(at, SEQUENCES, 10, 5, sequences, 5, edges);
+}
+
+/* A sum of exactly 2^32 - 1 is not capped, one past it is, a capped edge stays so, and a flag above 3 is refused with 5. */
+static void test_capped(void) {
+    const struct {
+        edge first, second;
+        unsigned support, flag;
+    } cases[] = {
+        {{1, 3, UINT32_MAX - 1, 0}, {1, 4, 1, 0}, UINT32_MAX, 0},
+        {{1, 3, UINT32_MAX, 0}, {1, 4, 1, 1}, UINT32_MAX, 3},
+        {{1, 3, 3, 2}, {1, 4, 4, 0}, 7, 2},
+    };
+    const char *sequences[] = {"T", "C", "AG"};
+    sg_tally t = {0, 0, 0};
+    for (int i = 0; i < 3; i++) {
+        size_t length = joined(rec, cases[i].first, cases[i].second);
+        const edge edges[] = {{0, 1, 1, 0}, {0, 2, cases[i].support, cases[i].flag}};
+        size_t n = write_record(want, SEQUENCES, 10, 3, sequences, 2, edges);
+        fill();
+        sg_simplify_answer a = sg_simplify_graph(rec, length, out, ROOM, t);
+        assert(a.number == 0 && a.length == n);
+        check_output(n);
+    }
+    size_t length = joined(rec, (edge){1, 3, 1, 4}, (edge){1, 4, 1, 0});
+    fill();
+    assert(sg_simplify_graph(rec, length, out, ROOM, t).number == 5);
+    check_output(0);
+}
+
 /* An answer can have more vertices than input may have: handed in again, it is refused with 3. */
 static void test_answer_past_the_limits(void) {
     static const char *sequences[2048] = {"CC", "TAAAAAAAAAA", "GAAAAAAAAAA"};
@@ -184,6 +218,7 @@ int main(void) {
     test_vertex_sequence();
     test_from_assembly_graph();
     test_simplify_graph();
+    test_capped();
     test_answer_past_the_limits();
     test_cleanup_seq_graph();
     test_clean_non_ref_paths();

@@ -29,7 +29,7 @@ const KNOWN: [(Refusal, u32, &str); 11] = [
     (Refusal::Mark, 2, "mark, kind for this call, or status"),
     (Refusal::Limit, 3, "a count or k past a limit"),
     (Refusal::Layout, 4, "offsets, whole length, lengths or byte count disagree"),
-    (Refusal::Edge, 5, "an edge end not below the count of vertices, or a flag other than 0 and 1"),
+    (Refusal::Edge, 5, "an edge end not below the count of vertices, or a flag above 3"),
     (Refusal::Doubled, 6, "two edges with the same ends, or in a k-mer graph two equal k-mers"),
     (Refusal::Cycle, 7, "a cycle, a self edge included"),
     (Refusal::Bytes, 8, "conversion would give over 8,192 bytes"),

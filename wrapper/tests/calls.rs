@@ -50,6 +50,20 @@ fn finds_a_sequence() {
     assert_eq!(vertex_sequence(&record[1..], 0), Err(Refusal::Length));
 }
 
+/// A sum past 2^32 - 1 caps the joined edge; a flag above 3 is refused.
+#[test]
+fn marks_a_capped_support() {
+    let of = |flag| {
+        let edges = [(1, 2, 1, 0), (3, 0, 1, 0), (4, 0, 1, 0), (1, 3, u32::MAX, 0), (1, 4, 1, flag)];
+        sequence_graph(&[b"G", b"T", b"C", b"A", b"A"], &edges)
+    };
+    let want = sequence_graph(&[b"T", b"C", b"AG"], &[(0, 1, 1, 0), (0, 2, u32::MAX, 3)]);
+    let (mut out, mut tally) = (vec![FILL; 200], Tally::default());
+    let made = simplify_graph(&of(1), &mut out, &mut tally).unwrap();
+    assert_eq!(out[..made.length], want);
+    assert_eq!(simplify_graph(&of(4), &mut out, &mut tally).unwrap_err(), Refusal::Edge);
+}
+
 #[test]
 fn simplifies() {
     let want = sequence_graph(
