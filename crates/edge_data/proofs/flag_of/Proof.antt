@@ -5,6 +5,13 @@ use Rattle.laws.proofs.ListLaws.{bit-small}
 use Rattle.edge_data.proofs.flag_of.Statement.{statement}
 use Rattle.edge_data.proofs.flag_of.Tie as tie
 
+-- both numbers are 0 or 1
+mul-result : tie.Need-mul-result
+mul-result c = omega (arith, c .new-flag2 .ensures, bit-small (start .args .reference), bit-small (start .args .capped))
+  where
+    start : tie.Start
+    start = search
+
 add-result : tie.Need-add-result
 add-result c = omega (
   arith,
@@ -26,6 +33,6 @@ flag-of-spec =
     (tie.spec
     (λ c κs. search needs)
     (λ c κs. search needs)
-    (λ c. let start : tie.Start = search in omega (arith, c .new-flag2 .ensures, bit-small (start .args .capped)))
+    mul-result
     add-result
     (λ c. search needs))
