@@ -1,14 +1,13 @@
 -- The parts of a well formed record, written again from what is read.
 -- Assumes nothing.
-use Prim.Native.Nat.{ℕ, zero, suc, _+_, _*_, _≤_, _<_}
-use mathlib.Core.Path.{_≡_, refl, sym, ap, _∙_}
+use Prim.Native.Nat.{ℕ, _+_, _*_, _≤_, _<_}
+use mathlib.Core.Path.{_≡_, sym, ap, _∙_}
 use mathlib.Core.List.{List, [], _∷_, _++_, map}
 use native.Mathlib.Nat.{add-zero, add-assoc}
 use native.Mathlib.Omega.{arith}
-use lib.Dec.{eqb}
 use lib.ListN.{length, getD, take, drop, length-drop, take-append-drop}
 use lib.Seq.{getD-drop, getD-take, take-add, take-all}
-use Rattle.defs.specs.Lists.{bit, concat, tabFrom, tab, sum}
+use Rattle.defs.specs.Lists.{concat, tabFrom, tab, sum}
 use Rattle.defs.specs.Simplify.{sequenceBytes}
 use Rattle.defs.specs.Record.{mark, kindOf, statusOf, le16, le32, u16At, u32At, kOf, verticesOf, edgesOf, bytesOf, bytesAt, wholeLength}
 use Rattle.defs.specs.Record.{flagOf, encodeEdge, encodeHeader, lengthAt, sequenceAt, edgeStart, flagAt, edgeAt}

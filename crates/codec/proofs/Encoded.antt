@@ -2,14 +2,12 @@
 -- Assumes nothing.
 use Prim.Native.Nat.{ℕ, _+_, _*_, _<_}
 use mathlib.Core.Path.{_≡_, refl, sym, ap, _∙_}
-use mathlib.Core.Bool.{Bool, true, false}
 use mathlib.Core.List.{List, [], _++_, map, append-assoc}
 use native.Mathlib.Nat.{add-zero, add-assoc}
 use native.Mathlib.Omega.{arith}
-use lib.Dec.{eqb}
 use lib.ListN.{length, getD, take, drop, length-append}
 use lib.Seq.{drop-append-add}
-use Rattle.defs.specs.Lists.{bit, concat, tab, sum}
+use Rattle.defs.specs.Lists.{concat, tab, sum}
 use Rattle.defs.specs.SeqGraph.{Edge, Graph, nodeCount}
 use Rattle.defs.specs.Simplify.{sequenceBytes}
 use Rattle.defs.specs.Record.{RecordKind, recordKindNumber, le16, le32, u16At, u32At, kOf, verticesOf, edgesOf, encodeEdge, encodeHeader}

@@ -70,6 +70,7 @@ wholeLength v e b = bytesAt v e + b
 unfoldable pub flagOf : Edge → ℕ
 flagOf e = bit (e .isRef) + 2 * bit (e .capped)
 
+-- what a flag says
 abbrev pub flagIsRef : ℕ → Bool
 flagIsRef f = eqb (f % 2) 1
 

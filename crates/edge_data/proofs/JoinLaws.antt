@@ -1,12 +1,12 @@
 -- Support and flag as the code joins them are the definition's. Assumes nothing.
 use mathlib.Core.Path.{_≡_, sym, ap, _∙_}
-use mathlib.Core.Bool.{Bool, true, false, _||_}
+use mathlib.Core.Bool.{Bool, _||_}
 use Prim.Native.Nat.{ℕ, _+_, _*_, _-_, _≤_}
 use native.Mathlib.Omega.{arith}
 use lib.Dec.{ltb}
 use borrow.Author.Tests.{ltb-true, ltb-false, lt-ltb, le-ltb}
 use Rattle.defs.specs.Lists.{bit}
-use Rattle.defs.specs.SeqGraph.{EdgeData, saturatingAdd, joinedData}
+use Rattle.defs.specs.SeqGraph.{saturatingAdd, joinedData}
 use Rattle.defs.specs.Record.{flagIsRef, flagIsCapped}
 use Rattle.laws.proofs.Walks.{byTest}
 use Rattle.laws.proofs.Flags.{flag-says-ref, flag-says-capped}

@@ -7,7 +7,6 @@ use native.Mathlib.Nat.{add-zero}
 use native.Mathlib.Omega.{arith}
 use lib.Dec.{eqb}
 use lib.ListN.{length, getD}
-use borrow.Author.Tests.{eq-eqb, ne-eqb}
 use Rattle.defs.specs.Lists.{keepIf}
 use Rattle.laws.proofs.ListLaws.{of-keepIf, not-not}
 use Rattle.tabs.proofs.Tabs.{tab-zero}

@@ -3,14 +3,13 @@ use mathlib.Core.Path.{_≡_, refl, sym, ap, _∙_}
 use mathlib.Core.Logic.{_⊎_, ⊎-elim}
 use mathlib.Core.Bool.{Bool, true, false, not}
 use mathlib.Core.List.{List}
-use Prim.Native.Nat.{ℕ, zero, suc, _+_, _*_, _-_, _≤_, _<_}
+use Prim.Native.Nat.{ℕ, zero, suc, _-_, _≤_, _<_}
 use native.Mathlib.Omega.{arith}
 use lib.Dec.{eqb}
-use lib.ListN.{getD}
 use borrow.Author.Tests.{eqb-true, eq-eqb}
 use Rattle.defs.specs.SeqGraph.{Edge}
 use Rattle.defs.specs.Cleanup.{forward, backward, either}
-use Rattle.laws.proofs.ListLaws.{and-split, and-true, or-cases, not-not, or-left, or-right}
+use Rattle.laws.proofs.ListLaws.{and-split, and-true, or-cases, or-left, or-right}
 use Rattle.laws.proofs.Reach.{Hop}
 use Rattle.tabs.proofs.ListTabs.{mem-tab, of-mem-tab}
 use Rattle.store.specs.Store.{edgeIn}

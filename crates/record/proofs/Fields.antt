@@ -3,7 +3,6 @@
 use Prim.Native.Nat.{ℕ, _+_, _*_}
 use mathlib.Core.Path.{_≡_, refl}
 use mathlib.Core.List.{List}
-use lib.Dec.{eqb}
 use lib.ListN.{getD, take, drop}
 use Rattle.defs.specs.Lists.{tab, sum}
 use Rattle.defs.specs.Record.{u16At, u32At, verticesOf, edgesOf, edgesAt, bytesAt, wholeLength, lengthAt, sequenceStart, sequenceAt, edgeStart, edgeAt}

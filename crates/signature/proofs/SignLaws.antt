@@ -9,7 +9,7 @@ use native.Mathlib.Omega.{arith}
 use lib.ListN.{length, getD, set, take, drop, length-append, List·getD-append}
 use lib.Seq.{getD-set-same, getD-set-other, ext-getD, take-suc, getD-append-add, length-take-le, take-all}
 use lib.Dec.{eqb, ltb}
-use borrow.Author.Tests.{lt-ltb, eq-eqb, ne-eqb, eqb-true}
+use borrow.Author.Tests.{lt-ltb, eq-eqb, eqb-true}
 use Rattle.defs.specs.Lists.{bit, sameList, sum, tab, concat}
 use Rattle.defs.specs.SeqGraph.{nodeCount}
 use Rattle.laws.proofs.Walks.{byTest}

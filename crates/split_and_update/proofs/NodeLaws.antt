@@ -19,7 +19,6 @@ use Rattle.laws.proofs.SplitCounts.{length-toMiddles, length-fromMiddles}
 use Rattle.tabs.proofs.Tabs.{length-tab}
 use Rattle.tabs.proofs.ListTabs.{tab-append, keepIf-append, keepIf-tab-yes, keepIf-tab-no, of-mem-tab}
 use Rattle.edge_data.specs.EdgeData.{carriedData}
-use Rattle.edge_data.specs.declared.Carried.{Carried}
 use Rattle.store.specs.Store.{numsIn}
 use Rattle.index.specs.Index.{pairAt}
 use Rattle.split_and_update.specs.Pushed.{lenOf, leaves, leftNodes}

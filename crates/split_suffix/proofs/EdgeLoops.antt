@@ -19,7 +19,6 @@ use Rattle.tabs.proofs.Tabs.{tab-snoc, tab-zero, length-tab, getD-tab}
 use Rattle.tabs.proofs.ListTabs.{tab-append, raiseAll-none, mem-tab}
 use Rattle.tabs.proofs.SumTabs.{concat-append, concat-snoc}
 use Rattle.edge_data.specs.EdgeData.{carries}
-use Rattle.edge_data.specs.declared.Carried.{Carried}
 use Rattle.store.specs.Store.{edge, edgeIn, edgesIn, putEdge, EndsBelow}
 use Rattle.store.proofs.EdgeLaws.{no-edge, length-put, put-other, packed-miss}
 use Rattle.compact.proofs.CompactLaws.{ends-mem, mem-ends}

@@ -1,14 +1,13 @@
 -- A store of an edge, and the model's `raise` at an index. After these nothing looks into the slice. Assumes nothing.
 use mathlib.Core.Path.{_≡_, refl, sym, ap, _∙_}
-use mathlib.Core.Bool.{Bool, true, false, cond, not, _&&_, _||_}
+use mathlib.Core.Bool.{true, false, cond, not, _&&_}
 use mathlib.Core.List.{List, [], _∷_, _++_}
 use mathlib.Core.Logic.{_≢_}
 use Prim.Native.Nat.{ℕ, zero, _+_, _*_, _≤_, _<_}
 use native.Mathlib.Omega.{arith}
 use lib.ListN.{length, getD, set, length-set}
 use lib.Seq.{getD-set-same, getD-set-other}
-use lib.Dec.{eqb}
-use borrow.Author.Tests.{eq-eqb, ne-eqb, eqb-true, eqb-false}
+use borrow.Author.Tests.{eq-eqb, ne-eqb}
 use Rattle.defs.specs.Lists.{tab}
 use Rattle.tabs.proofs.Tabs.{tab-snoc, tab-ext, tab-set, length-tab, getD-tab, firstIx-yes, firstIx-no}
 use Rattle.defs.specs.SeqGraph.{Edge, EdgeData, edgeData, newEdge, joinedData, hasEnds, addOrUpdateEdge}

@@ -13,7 +13,7 @@ use lib.Dec.{eqb}
 use Rattle.defs.specs.Lists.{tab, tabFrom}
 use Rattle.tabs.proofs.Tabs.{tab-snoc, tab-zero, length-tab}
 use Rattle.defs.specs.Lists.{keepIf, keepAt, headOr, elemOf}
-use Rattle.defs.specs.SeqGraph.{Edge, edgeData, addOrUpdateEdges}
+use Rattle.defs.specs.SeqGraph.{Edge, addOrUpdateEdges}
 use Rattle.laws.proofs.Walks.{byTest}
 use Rattle.laws.proofs.ListLaws.{keepIf-yes, keepIf-no, keepAt-yes, keepAt-no}
 

@@ -7,8 +7,7 @@ use native.Mathlib.Numerals.{add-one}
 use native.Mathlib.Omega.{arith}
 use lib.ListN.{length, getD, set, take, drop, length-append, length-drop}
 use lib.Seq.{sets, sets-eq, length-sets, take-suc, getD-drop}
-use borrow.Author.Tests.{eq-eqb, ne-eqb}
-use Rattle.defs.specs.Lists.{bit, concat, tab, tabFrom, sum}
+use Rattle.defs.specs.Lists.{concat, tab, tabFrom, sum}
 use Rattle.defs.specs.SeqGraph.{Edge, nodeCount}
 use Rattle.defs.specs.Simplify.{sequenceBytes}
 use Rattle.defs.specs.Record.{flagOf, mark, le16, le32, edgesAt, bytesAt, wholeLength, encodeEdge, encodeHeader, sequenceGraph, recordKindNumber, encode}

@@ -1,7 +1,6 @@
 -- `splits::move_marks` meets its contract. Assumes nothing.
 use native.Mathlib.Omega.{arith}
 use Prim.Native.Nat.{_-_}
-use mathlib.Core.Path.{refl}
 use Rattle.store.proofs.EdgeLaws.{set-is, set-not}
 use Rattle.splits.proofs.MarkLaws.{MovingMarks, moving-start, moving-yes, moving-no, moving-end}
 use Rattle.splits.proofs.move_marks.Statement.{statement}
