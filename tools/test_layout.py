@@ -11,13 +11,11 @@ import sys
 
 ROOT = os.path.dirname(os.path.dirname(os.path.abspath(__file__)))
 LONGEST = 200
-# Tables that are computed, a row to a line.
-TABLES = {"crates/examples/proofs/Table.antt", "crates/examples/specs/Cases.antt"}
 
 
 def faults(path, text):
     for number, line in enumerate(text.split("\n"), 1):
-        if len(line) > LONGEST and path not in TABLES:
+        if len(line) > LONGEST:
             yield "%s:%d: %d characters" % (path, number, len(line))
         if re.search(r"\.before \.before", line):
             yield "%s:%d: a path of `.before`: tools/bind.py names its place" % (path, number)

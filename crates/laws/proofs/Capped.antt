@@ -16,7 +16,7 @@ use Rattle.defs.specs.SeqGraph.{Edge, Graph, EdgeData, saturatingAdd, joinedDat
 use Rattle.defs.specs.Simplify.{graphTopologySignature}
 use Rattle.defs.specs.Joined.{joinedFrom, trueSum, IsJoinOf, Reordered, keep, swap, then}
 use Rattle.laws.proofs.Walks.{byTest}
-use Rattle.laws.proofs.ListLaws.{or-cases, or-left, or-right, any-yes, any-no}
+use Rattle.laws.proofs.ListLaws.{or-none, or-cases, or-left, or-right, any-yes, any-no}
 use Rattle.laws.proofs.Cycles.{anyOf-true, anyOf-mem}
 
 -- ---- tests
@@ -30,10 +30,6 @@ or-comm false false = refl
 or-assoc : (p q r : Bool) → ((p || q) || r) ≡ (p || (q || r))
 or-assoc true q r = refl
 or-assoc false q r = refl
-
-or-none : (p : Bool) → p ≡ (p || false)
-or-none true = refl
-or-none false = refl
 
 -- past 2^32 - 1
 abbrev over : ℕ → Bool
@@ -224,13 +220,14 @@ marked c e = record { from = e .from; to = e .to; support = e .support; isRef = 
 abbrev withMarks : (Edge → Bool) → Graph → Graph
 withMarks c g = record { k = g .k; verts = g .verts; edges = map (marked c) (g .edges) }
 
-abbrev numbers : Edge → List ℕ
-numbers e = e .from ∷ e .to ∷ e .support ∷ bit (e .isRef) ∷ []
+-- the numbers of an edge in the signature
+abbrev pub edgeNumbers : Edge → List ℕ
+edgeNumbers e = e .from ∷ e .to ∷ e .support ∷ bit (e .isRef) ∷ []
 
-numbers-same : (c : Edge → Bool) (es : List Edge) → concat (map numbers (map (marked c) es)) ≡ concat (map numbers es)
+numbers-same : (c : Edge → Bool) (es : List Edge) → concat (map edgeNumbers (map (marked c) es)) ≡ concat (map edgeNumbers es)
 unfolding concat
 numbers-same c [] = refl
-numbers-same c (e ∷ es) = ap (λ l. numbers e ++ l) (numbers-same c es)
+numbers-same c (e ∷ es) = ap (λ l. edgeNumbers e ++ l) (numbers-same c es)
 
 -- WHETHER A SUPPORT WAS CAPPED IS NOT COMPARED
 pub signature-without-marks : (c : Edge → Bool) (g : Graph) → graphTopologySignature (withMarks c g) ≡ graphTopologySignature g

@@ -5,13 +5,14 @@ use mathlib.Core.List.{List, [], _∷_, List·Memᴰ}
 use Prim.Native.Nat.{ℕ, zero, suc, _≤_, _<_}
 use native.Mathlib.Omega.{arith}
 use lib.ListN.{length, getD}
-use Rattle.defs.specs.SeqGraph.{Edge, EdgeData, edgeData, newEdge, joinedData, hasEnds, addOrUpdateEdge, addOrUpdateEdges}
+use Rattle.defs.specs.SeqGraph.{Edge, EdgeData, edgeData, newEdge, hasEnds, addOrUpdateEdge, addOrUpdateEdges}
 use Rattle.laws.proofs.Walks.{byTest}
 use Rattle.laws.proofs.Edges.{raise-yes, raise-no, joins-ends, of-raiseAll}
 use Rattle.laws.proofs.Counts.{ends-join}
 use Rattle.tabs.specs.First.{firstIx}
 use Rattle.tabs.proofs.Tabs.{firstIx-yes, firstIx-no}
 use Rattle.store.specs.Store.{findEdge}
+use Rattle.store.proofs.EdgeLaws.{raised}
 
 pub first-most : {A : Type 0} (p : A → Bool) (xs : List A) → firstIx p xs ≤ length xs
 unfolding firstIx
@@ -30,10 +31,6 @@ unfolding hasEnds
 ends-same a b e f p q = rw (p, q)
 
 module _ (a b : ℕ) (w : EdgeData) where
-  -- the edge joined with w
-  abbrev raised : Edge → Edge
-  raised e = newEdge (e .from) (e .to) (joinedData (edgeData e) w)
-
   -- the edge from a to b stands where it stood, or at the end
   pub find-raised : (es : List Edge) → findEdge a b (addOrUpdateEdge a b w es) ≡ findEdge a b es
   unfolding addOrUpdateEdge newEdge
@@ -46,7 +43,7 @@ module _ (a b : ℕ) (w : EdgeData) where
   unfolding addOrUpdateEdge newEdge
   find-added [] = omega (arith, firstIx-yes (hasEnds a b) (newEdge a b w) [] (ends-join a b _ refl refl))
   find-added (e ∷ es) = byTest (hasEnds a b e)
-      (λ t. rw (raise-yes a b w e es t) (omega (arith, firstIx-yes (hasEnds a b) _ es (ends-same a b e (raised e) refl refl ∙ t))))
+      (λ t. rw (raise-yes a b w e es t) (omega (arith, firstIx-yes (hasEnds a b) _ es (ends-same a b e (raised w e) refl refl ∙ t))))
       (λ t. rw (raise-no a b w e es t) (omega (arith, firstIx-no (hasEnds a b) e (addOrUpdateEdge a b w es) t, find-added es)))
 
   -- another edge that is there stands where it stood
@@ -57,7 +54,7 @@ module _ (a b : ℕ) (w : EdgeData) where
       (λ t. rw (raise-yes a b w e es t) (head t))
       (λ t. rw (raise-no a b w e es t) (tail (find-other c d es)))
     where
-      head : hasEnds a b e ≡ true → firstIx (hasEnds c d) (raised e ∷ es) ≡ findEdge c d (e ∷ es)
+      head : hasEnds a b e ≡ true → firstIx (hasEnds c d) (raised w e ∷ es) ≡ findEdge c d (e ∷ es)
       head t = byTest (hasEnds c d e)
           (λ u. firstIx-yes (hasEnds c d) _ es (ends-same c d e _ refl refl ∙ u) ∙ sym (firstIx-yes (hasEnds c d) e es u))
           (λ u. firstIx-no (hasEnds c d) _ es (ends-same c d e _ refl refl ∙ u) ∙ sym (firstIx-no (hasEnds c d) e es u))

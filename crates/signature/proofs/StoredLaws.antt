@@ -8,12 +8,9 @@ use Rattle.defs.specs.Lists.{bit, concat, sameList}
 use Rattle.defs.specs.SeqGraph.{Edge, Graph, nodeCount}
 use Rattle.defs.specs.Simplify.{graphTopologySignature, sequenceBytes}
 use Rattle.laws.proofs.Walks.{byTest}
+use Rattle.laws.proofs.Capped.{edgeNumbers}
 use Rattle.laws.proofs.ListLaws.{clash, bit-small, sameList-eq, sameList-refl}
 use Rattle.signature.specs.Signature.{storedVertex, storedEdge, storedSignature}
-
--- the four numbers of an edge in the definition
-abbrev edgeNumbers : Edge → List ℕ
-edgeNumbers e = e .from ∷ e .to ∷ e .support ∷ bit (e .isRef) ∷ []
 
 -- the signature, with the numbers that f gives for an edge
 abbrev signatureBy : (Edge → List ℕ) → Graph → List ℕ

@@ -14,7 +14,7 @@ use Rattle.defs.specs.SeqGraph.{Edge, hasEnds, addOrUpdateEdge, addOrUpdateEdge
 use Rattle.defs.specs.Rewrites.{MidPlan, supportOne, newEdgeIf, onlyIf, orElse, isNone, isRefIf, edgesToMiddles}
 use Rattle.defs.specs.Rewrites.{edgesFromMiddles, prefixToSuffix, prefixToSuffixFrom, splitAndUpdateWith}
 use Rattle.laws.proofs.Walks.{byTest}
-use Rattle.laws.proofs.ListLaws.{and-split, bit-yes}
+use Rattle.laws.proofs.ListLaws.{and-split, or-none, bit-yes}
 use Rattle.laws.proofs.Edges.{Linked, linked-tail, raise-yes, raise-no, joins-ends}
 use Rattle.laws.proofs.Counts.{Single, ends-join}
 use Rattle.laws.proofs.SplitCounts.{raiseAll-append}
@@ -98,7 +98,7 @@ join-last true (some d) u v x y h =
 
 joined-nothing : (a b : EdgeData) → joinedData nothing (joinedData a b) ≡ joinedData a b
 unfolding joinedData saturatingAdd
-joined-nothing a b = λ i. record { support = least i; isRef = a .isRef || b .isRef; capped = (ap (λ (x : Bool). mark || x) fits ∙ or-false mark) i }
+joined-nothing a b = λ i. record { support = least i; isRef = a .isRef || b .isRef; capped = (ap (λ (x : Bool). mark || x) fits ∙ sym (or-none mark)) i }
   where
     least : min (0 + min (a .support + b .support) 4294967295) 4294967295 ≡ min (a .support + b .support) 4294967295
     least = omega arith
@@ -108,10 +108,6 @@ joined-nothing a b = λ i. record { support = least i; isRef = a .isRef || b .is
 
     fits : ltb 4294967295 (0 + min (a .support + b .support) 4294967295) ≡ false
     fits = le-ltb 4294967295 (0 + min (a .support + b .support) 4294967295) (omega arith)
-
-    or-false : (x : Bool) → (x || false) ≡ x
-    or-false true = refl
-    or-false false = refl
 
 gathered-ref : (l : List MidPlan) → isRefIf (prefixToSuffix l) ≡ (prefixToSuffixFrom nothing l) .isRef
 unfolding isRefIf prefixToSuffix prefixToSuffixFrom
