@@ -1,35 +1,21 @@
 -- Whole k-mers and last bytes. Assumes nothing.
 use mathlib.Core.Path.{_≡_, refl, sym, ap, _∙_}
 use mathlib.Core.Bool.{Bool, true, false, cond}
-use mathlib.Core.List.{List, [], _++_}
-use Prim.Native.Nat.{ℕ, suc, _+_, _*_, _-_, _≤_, _<_}
+use mathlib.Core.List.{List, []}
+use Prim.Native.Nat.{ℕ, _+_, _*_, _-_, _≤_, _<_}
 use native.Mathlib.Omega.{arith}
 use native.Mathlib.Decide.{ℕ-discrete}
-use lib.ListN.{length, getD, take, drop, length-drop}
-use lib.Seq.{take-add, drop-drop, drop-at, length-take-le}
+use lib.ListN.{length, getD, drop}
 use lib.Dec.{eqb}
 use borrow.Author.Tests.{eq-eqb, ne-eqb}
-use Rattle.defs.specs.Lists.{tab}
-use Rattle.defs.specs.SeqGraph.{Graph, vertexSequence, inDegree}
+use Rattle.defs.specs.SeqGraph.{vertexSequence}
 use Rattle.defs.specs.Assembly.{additionalSequence}
 use Rattle.tabs.proofs.Tabs.{tab-ext, getD-tab}
-use Rattle.store.specs.Store.{part, seqIn, seqsIn, graphIn, putVertex, Within}
-use Rattle.store.proofs.VertexLaws.{part-long, put-start, put-len, put-rest, length-put-vertex}
-use Rattle.index.specs.Index.{edgeEnd, incidentEdges, atFrom, pairAt, Indexed}
+use Rattle.store.specs.Store.{part, seqIn, graphIn, putVertex}
+use Rattle.store.proofs.VertexLaws.{last-part, put-start, put-len, put-rest, length-put-vertex}
+use Rattle.index.specs.Index.{edgeEnd, incidentEdges, Indexed}
 use Rattle.index.proofs.IndexLaws.{in-degree-is, at-none, at-first}
 use Rattle.convert.specs.Convert.{Trimmable, Trimmed}
-
--- ---- a part's last byte
-
-last-part : (p : List ℕ) (a l : ℕ) → a + l ≤ length p → 1 ≤ l → part p (a + (l - 1)) 1 ≡ drop (length (part p a l) - 1) (part p a l)
-last-part p a l h b = sym (ap (λ (x : ℕ). drop (x - 1) (part p a l)) (part-long p a l h) ∙ ap (drop (l - 1)) split
-    ∙ drop-at (take (l - 1) (drop a p)) (take 1 (drop (l - 1) (drop a p))) (l - 1) long ∙ ap (take 1) (drop-drop (l - 1) a p))
-  where
-    long : length (take (l - 1) (drop a p)) ≡ l - 1
-    long = length-take-le (l - 1) (drop a p) (omega (arith, length-drop a p))
-
-    split : take l (drop a p) ≡ take (l - 1) (drop a p) ++ take 1 (drop (l - 1) (drop a p))
-    split = let z : l ≡ (l - 1) + 1 = omega arith in ap (λ (x : ℕ). take x (drop a p)) z ∙ take-add (l - 1) 1 (drop a p)
 
 -- ---- the loop: the vertices before v are done
 
@@ -108,7 +94,7 @@ placed-seq : (b : Bool) (vs₀ vs p : List ℕ) (u : ℕ) → getD vs₀ (2 * u)
     ≡ cond b (getD vs₀ (2 * u + 1) 0) 1
     → seqIn vs p u ≡ cond b (seqIn vs₀ p u) (drop (length (seqIn vs₀ p u) - 1) (seqIn vs₀ p u))
 placed-seq true vs₀ vs p u w o a b = λ i. part p (a i) (b i)
-placed-seq false vs₀ vs p u w o a b = (λ i. part p (a i) (b i)) ∙ last-part p (getD vs₀ (2 * u) 0) (getD vs₀ (2 * u + 1) 0) w o
+placed-seq false vs₀ vs p u w o a b = (λ i. part p (a i) (b i)) ∙ last-part p (getD vs₀ (2 * u) 0) (getD vs₀ (2 * u + 1) 0) 1 w o
 
 placed-within : (b : Bool) (s l s′ l′ used : ℕ) → s + l ≤ used → 1 ≤ l → s′ ≡ cond b s (s + (l - 1)) → l′ ≡ cond b l 1 → s′ + l′ ≤ used
 placed-within true s l s′ l′ used w o a b = omega arith

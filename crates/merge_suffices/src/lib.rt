@@ -5,7 +5,7 @@ ghost use Prim.Native.Nat.{_+_, _*_, _<_, _≤_};
 ghost use lib.ListN.{length, getD};
 ghost use Rattle.defs.specs.Lists.{allOf, sameList};
 ghost use Rattle.defs.specs.Rewrites.{tryMergeCommonSuffices};
-ghost use Rattle.store.specs.Store.{part, seqIn, numsIn};
+ghost use Rattle.store.specs.Store.{seqIn, numsIn};
 ghost use Rattle.compact.specs.Compact.{Below, Compactable, Removed};
 ghost use Rattle.index.specs.Index.{Indexed};
 ghost use Rattle.memory.specs.Memory.{Room, Holds, Left, graphOf};
@@ -13,21 +13,6 @@ ghost use Rattle.merge_suffices.specs.Merge.{Comparable, isPrev, MergeTe
 use compact::Counts;
 use memory::Held;
 use memory::Tried;
-
-// Whether n bytes from a on are those from b on.
-fn same_part(p: &[u8], a: usize, b: usize, n: usize) -> bool
-    requires { ⌜ (a + n ≤ length (now p)) × (b + n ≤ length (now p)) ⌝ }
-    ensures { λ r. ⌜ r ≡ sameList (part (now (p .entry)) a n) (part (now (p .entry)) b n) ⌝ }
-{
-    let mut i = 0;
-    while i < n {
-        if p[a + i] != p[b + i] {
-            return false;
-        }
-        i += 1;
-    }
-    true
-}
 
 // Whether u and v have the same sequence.
 fn same_sequence(vs: &[u32], p: &[u8], u: u32, v: u32) -> bool
@@ -38,7 +23,7 @@ fn same_sequence(vs: &[u32], p: &[u8], u: u32, v: u32) -> bool
     if n != store::vertex_len(vs, v) {
         return false;
     }
-    same_part(p, store::vertex_start(vs, u), store::vertex_start(vs, v), n)
+    pool::same_part(p, store::vertex_start(vs, u), store::vertex_start(vs, v), n)
 }
 
 // Whether v has the bytes of `first`, one follower and a predecessor.

@@ -1,7 +1,25 @@
-// The bytes of the sequences: copying within the pool, and packing it.
+// The bytes of the sequences: comparing and copying within the pool, and packing it.
+ghost use mathlib.Core.Path.{_≡_};
 ghost use Prim.Native.Nat.{ℕ, _+_, _*_, _<_, _≤_};
 ghost use lib.ListN.{length, getD};
+ghost use Rattle.defs.specs.Lists.{sameList};
+ghost use Rattle.store.specs.Store.{part};
 ghost use Rattle.pool.specs.Pool.{Apart, Moved, Packable, Packed};
+
+// Whether n bytes from a on are those from b on.
+pub fn same_part(p: &[u8], a: usize, b: usize, n: usize) -> bool
+    requires { ⌜ (a + n ≤ length (now p)) × (b + n ≤ length (now p)) ⌝ }
+    ensures { λ r. ⌜ r ≡ sameList (part (now (p .entry)) a n) (part (now (p .entry)) b n) ⌝ }
+{
+    let mut i = 0;
+    while i < n {
+        if p[a + i] != p[b + i] {
+            return false;
+        }
+        i += 1;
+    }
+    true
+}
 
 // Copies n bytes from `from` on to `to` on. The two parts do not overlap.
 pub fn copy_within(p: &mut [u8], to: usize, from: usize, n: usize)

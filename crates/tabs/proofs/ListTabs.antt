@@ -1,21 +1,19 @@
 -- The model's list functions along lists by index: one more at the end. Assumes nothing.
 use mathlib.Core.Path.{_≡_, refl, sym, ap, _∙_}
-use mathlib.Core.Bool.{Bool, true, false, cond, not, _&&_, _||_}
-use mathlib.Core.List.{List, [], _∷_, _++_, map, map-append, append-assoc, append-nil, List·Memᴰ, List·Memᴰ·head, List·Memᴰ·tail}
+use mathlib.Core.Bool.{Bool, true, false, _||_}
+use mathlib.Core.List.{List, [], _∷_, _++_, append-assoc, append-nil, List·Memᴰ, List·Memᴰ·head, List·Memᴰ·tail}
 use mathlib.Core.List.{List·Memᴰ·not-nil, List·Memᴰ·cases-cons}
 use mathlib.Core.Logic.{⊎-elim}
-use Prim.Native.Nat.{ℕ, zero, suc, _+_, _*_, _-_, _≤_, _<_}
-use native.Mathlib.Nat.{add-zero, zero-add, add-suc, suc-add}
-use native.Mathlib.Numerals.{add-one}
+use Prim.Native.Nat.{ℕ, zero, suc, _+_, _<_}
+use native.Mathlib.Nat.{add-zero, zero-add}
 use native.Mathlib.Omega.{arith}
-use lib.ListN.{length, getD}
+use lib.ListN.{length}
 use lib.Dec.{eqb}
 use Rattle.defs.specs.Lists.{tab, tabFrom}
 use Rattle.tabs.proofs.Tabs.{tab-snoc, tab-zero, length-tab}
-use Rattle.defs.specs.Lists.{keepIf, keepAt, headOr, elemOf}
+use Rattle.defs.specs.Lists.{keepIf, anyOf, keepAt, headOr, elemOf, upFrom}
 use Rattle.defs.specs.SeqGraph.{Edge, addOrUpdateEdges}
 use Rattle.laws.proofs.Walks.{byTest}
-use Rattle.laws.proofs.ListLaws.{keepIf-yes, keepIf-no, keepAt-yes, keepAt-no}
 
 module _ {A : Type 0} where
   pub tab-append : (n c : ℕ) (f : ℕ → A) → tab (n + c) f ≡ tab n f ++ tab c (λ (i : ℕ). f (n + i))
@@ -62,6 +60,15 @@ module _ {A : Type 0} where
     pub keepAt-tab-no : (n : ℕ) (f : ℕ → A) → p n ≡ false → keepAt p 0 (tab (n + 1) f) ≡ keepAt p 0 (tab n f)
     unfolding keepAt
     keepAt-tab-no n f t = ap (keepAt p 0) (tab-snoc n f) ∙ keepAt-append 0 (tab n f) (f n ∷ []) ∙ rw (at-length n f, t, append-nil)
+
+  any-tab-from : (p : A → Bool) (s n : ℕ) (f : ℕ → A) → anyOf p (tabFrom s n f) ≡ anyOf (λ (i : ℕ). p (f i)) (upFrom s n)
+  unfolding anyOf tabFrom upFrom
+  any-tab-from p s zero f = refl
+  any-tab-from p s (suc n) f = byTest (p (f s)) (λ t. rw (t, anyOf)) (λ t. rw (t, anyOf) (any-tab-from p (suc s) n f))
+
+  -- a test of some member, by index
+  pub any-tab : (p : A → Bool) (n : ℕ) (f : ℕ → A) → anyOf p (tab n f) ≡ anyOf (λ (i : ℕ). p (f i)) (upFrom 0 n)
+  any-tab p n f = any-tab-from p 0 n f
 
   mem-tab-from : (s n : ℕ) (f : ℕ → A) (k : ℕ) → k < n → List·Memᴰ (f (s + k)) (tabFrom s n f)
   unfolding tabFrom

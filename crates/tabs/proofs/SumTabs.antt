@@ -1,7 +1,8 @@
 -- Sums, concatenations and maps along lists by index. Assumes nothing.
 use mathlib.Core.Path.{_≡_, refl, sym, ap, _∙_}
 use mathlib.Core.List.{List, [], _∷_, _++_, map, append-assoc, append-nil}
-use Prim.Native.Nat.{ℕ, zero, suc, _+_, _≤_, _<_}
+use Prim.Native.Nat.{ℕ, zero, suc, _+_, _*_, _≤_, _<_}
+use native.Mathlib.Nat.{mul-zero, mul-suc}
 use native.Mathlib.Numerals.{add-one}
 use native.Mathlib.Omega.{arith}
 use native.Mathlib.Decide.{ℕ-discrete}
@@ -33,6 +34,18 @@ sum-below (suc n) i f h = elim (ℕ-discrete i n) [
   | yes q ↦ rw q (omega (arith, sum-suc n f))
   | no ne ↦ omega (arith, sum-suc n f, sum-below n i f (omega arith))
 ]
+
+-- n numbers of at most w, of at least w, and of w
+pub sum-most : (w n : ℕ) (f : ℕ → ℕ) → ((i : ℕ) → i < n → f i ≤ w) → sum (tab n f) ≤ w * n
+sum-most w zero f h = omega (arith, sum-none f)
+sum-most w (suc n) f h = omega (arith, sum-suc n f, h n (omega arith), sum-most w n f (λ i b. h i (omega arith)), mul-suc w n)
+
+pub sum-least : (w n : ℕ) (f : ℕ → ℕ) → ((i : ℕ) → i < n → w ≤ f i) → w * n ≤ sum (tab n f)
+sum-least w zero f h = omega (arith, mul-zero w)
+sum-least w (suc n) f h = omega (arith, sum-suc n f, h n (omega arith), sum-least w n f (λ i b. h i (omega arith)), mul-suc w n)
+
+pub sum-equal : (w n : ℕ) (f : ℕ → ℕ) → ((i : ℕ) → i < n → f i ≡ w) → sum (tab n f) ≡ w * n
+sum-equal w n f h = omega (arith, sum-most w n f (λ i b. omega (arith, h i b)), sum-least w n f (λ i b. omega (arith, h i b)))
 
 -- the bytes of sequences, as a sum
 pub bytes-sum : (vs : List (List ℕ)) → sequenceBytes vs ≡ sum (map length vs)

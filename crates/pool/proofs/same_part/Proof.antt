@@ -1,10 +1,10 @@
--- `merge_suffices::same_part` meets its contract. Assumes nothing.
+-- `pool::same_part` meets its contract. Assumes nothing.
 use native.Mathlib.Omega.{arith}
 use Prim.Native.Nat.{_-_}
 use borrow.Author.Count.{below-more}
-use Rattle.merge_suffices.proofs.TestLaws.{ComparingBytes, comparing-no, comparing-end}
-use Rattle.merge_suffices.proofs.same_part.Statement.{statement}
-use Rattle.merge_suffices.proofs.same_part.Tie as tie
+use Rattle.pool.proofs.CompareLaws.{ComparingBytes, comparing-no, comparing-end}
+use Rattle.pool.proofs.same_part.Statement.{statement}
+use Rattle.pool.proofs.same_part.Tie as tie
 
 abbrev Inv-loop : tie.InvT-loop
 Inv-loop p a b n i₀ i = ComparingBytes p a b n i
