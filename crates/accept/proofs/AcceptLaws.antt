@@ -4,11 +4,11 @@ use mathlib.Core.Bool.{Bool, true, false, _&&_, _||_}
 use mathlib.Core.List.{List}
 use Prim.Native.Nat.{ℕ, _+_, _/_, _≤_, _<_}
 use native.Mathlib.Omega.{arith}
-use lib.ListN.{length, take}
+use lib.ListN.{length}
 use lib.Dec.{eqb}
 use borrow.Author.Tests.{ne-eqb}
-use Rattle.defs.specs.Record.{kindOf, kOf, verticesOf, edgesOf, bytesOf, decode}
-use Rattle.defs.specs.Refusals.{sequenceOnly, refusalOf, recordCauses, recordRefusal, doubledEdge, equalKmers, doubled, hasCycle}
+use Rattle.defs.specs.Record.{kindOf, kOf, edgesOf, bytesOf, decode}
+use Rattle.defs.specs.Refusals.{sequenceOnly, refusalOf, layoutCauses, recordRefusal, doubledEdge, equalKmers, doubled, hasCycle}
 use Rattle.laws.proofs.ListLaws.{byOrder}
 use Rattle.laws.proofs.Measures.{load}
 use Rattle.store.specs.Store.{edgesIn}
@@ -73,7 +73,7 @@ module _ (bs : List ℕ) {heads nexts : List ℕ} where
     refused = λ m e z. o (sym (number-refused refl) ∙ number-refused e ∙ z);
   }
 
-  pub read-refused : {r : Layout} {n : ℕ} {es vs p : List ℕ} → r ≡ layoutOf (refusalOf (take 5 (recordCauses (takesOf SequenceOnly) bs))) (kOf bs)
+  pub read-refused : {r : Layout} {n : ℕ} {es vs p : List ℕ} → r ≡ layoutOf (refusalOf (layoutCauses (takesOf SequenceOnly) bs)) (kOf bs)
       → r ≡ checked.Refused n → ReadAs bs heads nexts (Refused n) es vs p
   unfolding takesOf
   read-refused {n = n} e f =
@@ -81,7 +81,7 @@ module _ (bs : List ℕ) {heads nexts : List ℕ} where
       refused-as n
       (sym (refused-early sequenceOnly bs (sym (refused-number sequenceOnly bs e f)) (byOrder 1 n (λ b. b) (λ b. absurd (some (omega arith)))))) some
 
-  module _ (layout : refusalOf (take 5 (recordCauses sequenceOnly bs)) ≡ 0) {es vs p nodes mp : List ℕ} (R :
+  module _ (layout : refusalOf (layoutCauses sequenceOnly bs) ≡ 0) {es vs p nodes mp : List ℕ} (R :
       Room es vs p heads nexts nodes mp) (Y : RoomToRead bs heads nexts) where
     formed : WellFormed bs
     formed = well-formed sequenceOnly bs layout
@@ -167,8 +167,8 @@ module _ (bs : List ℕ) {heads nexts : List ℕ} where
             }
 
 -- the layout that was checked
-module _ (bs : List ℕ) {r : Layout} (e : r ≡ layoutOf (refusalOf (take 5 (recordCauses (takesOf SequenceOnly) bs))) (kOf bs)) where
-  pub layout-none : {k : KmerSize} → r ≡ Formed k → refusalOf (take 5 (recordCauses sequenceOnly bs)) ≡ 0
+module _ (bs : List ℕ) {r : Layout} (e : r ≡ layoutOf (refusalOf (layoutCauses (takesOf SequenceOnly) bs)) (kOf bs)) where
+  pub layout-none : {k : KmerSize} → r ≡ Formed k → refusalOf (layoutCauses sequenceOnly bs) ≡ 0
   unfolding takesOf
   layout-none f = formed-none sequenceOnly bs e f
 

@@ -70,10 +70,10 @@ module _ (s : Sent) {t r : Tally} where
   pub tallies-is : CountsCall (s .number) 0 t r → Tallies s t record { number = s .number; length = s .length; tally = r }
   unfolding D.answer
   tallies-is T = record {
-    is = λ causes room result q l. λ i. record {
+    is = λ causes result q l. λ i. record {
       number = q i;
       length = l i;
-      tally = (by-response causes room result (λ n e o. tally-refused T q 0 e o) (λ z m e. tally-accepted T q 0 e (λ _. refl))) i;
+      tally = (by-response causes result (λ n e o. tally-refused T q 0 e o) (λ z e. tally-accepted T q 0 e (λ _. refl))) i;
     };
   }
 
@@ -88,7 +88,7 @@ module _ (s : Sent) {t r : Tally} {rewrites : ℕ} (T : CountsCall (s .number) r
       tally = r;
     }
     simplify-refused-is rounds end = record {
-      is = λ causes room result z q l f. by-response causes room result
+      is = λ causes result z q l f. by-response causes result
           (λ n e p. λ i. record {
             number = q i;
             length = length-refused e i;
@@ -97,19 +97,19 @@ module _ (s : Sent) {t r : Tally} {rewrites : ℕ} (T : CountsCall (s .number) r
             end = field-refused (endNumber (z .end)) e i;
             tally = tally-refused T q (z .rewrites) e p i;
           })
-          (λ _ _ e. not-accepted q o e);
+          (λ _ e. not-accepted q o e);
     }
 
     pub cleanup-refused-is : (status : ℕ) → TalliesCleanup s status rewrites t record { number = s .number; length = 0; status = 0; tally = r }
     cleanup-refused-is status = record {
-      is = λ causes room result z q l f. by-response causes room result
+      is = λ causes result z q l f. by-response causes result
           (λ n e p. λ i. record {
             number = q i;
             length = length-refused e i;
             status = field-refused (statusNumber (z .status)) e i;
             tally = tally-refused T q (z .rewrites) e p i;
           })
-          (λ _ _ e. not-accepted q o e);
+          (λ _ e. not-accepted q o e);
     }
 
   module _ (zero-is : s .number ≡ 0) where
@@ -122,9 +122,9 @@ module _ (s : Sent) {t r : Tally} {rewrites : ℕ} (T : CountsCall (s .number) r
       tally = r;
     }
     simplify-answered-is rounds end = record {
-      is = λ causes room result z q l f. by-response causes room result
+      is = λ causes result z q l f. by-response causes result
           (λ n e o. not-refused q zero-is e o)
-          (λ _ _ e. λ i. record {
+          (λ _ e. λ i. record {
             number = (sym zero-is ∙ q) i;
             length = l i;
             rewrites = field-accepted (z .rewrites) e (f zero-is .0) i;
@@ -136,9 +136,9 @@ module _ (s : Sent) {t r : Tally} {rewrites : ℕ} (T : CountsCall (s .number) r
 
     pub cleanup-answered-is : (status : ℕ) → TalliesCleanup s status rewrites t record { number = 0; length = s .length; status = status; tally = r }
     cleanup-answered-is status = record {
-      is = λ causes room result z q l f. by-response causes room result
+      is = λ causes result z q l f. by-response causes result
           (λ n e o. not-refused q zero-is e o)
-          (λ _ _ e. λ i. record {
+          (λ _ e. λ i. record {
             number = (sym zero-is ∙ q) i;
             length = l i;
             status = field-accepted (statusNumber (z .status)) e (f zero-is .0) i;

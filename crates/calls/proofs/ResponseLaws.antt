@@ -1,56 +1,101 @@
 -- Which response a call gives, and what follows from it. Assumes nothing.
 use mathlib.Core.Path.{_≡_, refl, sym, ap, _∙_, subst}
-use mathlib.Core.List.{List}
+use mathlib.Core.Bool.{true, false}
+use mathlib.Core.List.{List, [], _∷_}
 use Prim.Native.Nat.{ℕ, zero, suc, _≤_, _<_}
 use native.Mathlib.Omega.{arith}
 use native.Mathlib.Decide.{ℕ-discrete}
 use lib.ListN.{length, take, drop}
 use lib.Seq.{take-append-seam}
 use borrow.Author.Tests.{lt-ltb, le-ltb}
-use Rattle.defs.specs.Calls.{Response, refused, accepted, numberOf, lengthOf, fieldOf, writtenOf, fits, respondTo, respond}
+use Rattle.defs.specs.Calls.{Response, refused, accepted, numberOf, lengthOf, fieldOf, writtenOf, outputShort, respondTo, respond}
 use Rattle.defs.specs.Refusals.{Cause, refusalOf}
 use Rattle.laws.proofs.ListLaws.{byOrder}
+use Rattle.laws.proofs.Causes.{CausesNumbered, refusal-nil, refusal-there, refusal-absent, refusal-later, refusal-earlier, refusal-without}
+use Rattle.calls.specs.Sending.{fits, withOutput}
+
+-- ---- any list of causes
+
+module _ (causes : List Cause) (result : List ℕ) where
+  refused-by : (n : ℕ) → refusalOf causes ≡ n → (n ≡ 0 → ⊥) → respond causes result ≡ refused n
+  unfolding respond respondTo
+  refused-by zero e o = absurd (o refl)
+  refused-by (suc n) e o = ap (λ (i : ℕ). respondTo i result) e
+
+  accepted-by : refusalOf causes ≡ 0 → respond causes result ≡ accepted result
+  unfolding respond respondTo
+  accepted-by e = ap (λ (i : ℕ). respondTo i result) e
+
+  -- a refusal by a number, or no cause and the result
+  pub by-response : {A : Type 0} → ((n : ℕ) → respond causes result ≡ refused n → (n ≡ 0 → ⊥) → A)
+      → (refusalOf causes ≡ 0 → respond causes result ≡ accepted result → A) → A
+  by-response f g = elim (ℕ-discrete (refusalOf causes) 0) [
+    | no ne ↦ f (refusalOf causes) (refused-by (refusalOf causes) refl ne) ne
+    | yes z ↦ g z (accepted-by z)
+  ]
+
+-- ---- 11 behind the others
+
+output-short : (room : ℕ) (result : List ℕ) → room < length result → (outputShort room result) .present ≡ true
+unfolding outputShort
+output-short room result l = lt-ltb room (length result) l
+
+output-enough : (room : ℕ) (result : List ℕ) → length result ≤ room → (outputShort room result) .present ≡ false
+unfolding outputShort
+output-enough room result l = le-ltb room (length result) l
+
+eleven : (room : ℕ) (result : List ℕ) → (outputShort room result) .number ≡ 11
+unfolding outputShort
+eleven room result = refl
 
 -- 11 only where the output is strictly shorter
 pub fits-short : (room : ℕ) (result : List ℕ) → room < length result → fits room result ≡ refused 11
 unfolding fits
-fits-short room result l = rw (lt-ltb room (length result) l, fits)
+fits-short room result l =
+    refused-by (outputShort room result ∷ []) result 11
+    (refusal-there (outputShort room result) [] (output-short room result l) ∙ eleven room result)
+    (λ z. omega arith)
 
 pub fits-enough : (room : ℕ) (result : List ℕ) → length result ≤ room → fits room result ≡ accepted result
 unfolding fits
-fits-enough room result l = rw (le-ltb room (length result) l, fits)
+fits-enough room result l =
+    accepted-by (outputShort room result ∷ []) result (refusal-absent (outputShort room result) [] (output-enough room result l) ∙ refusal-nil)
 
--- a cause that is present refuses, whatever the room
-pub respond-refused : (causes : List Cause) (room : ℕ) (result : List ℕ) (n : ℕ) → refusalOf causes ≡ n → (n ≡ 0 → ⊥) → respond causes room result ≡ refused n
-unfolding respond respondTo
-respond-refused causes room result zero e o = absurd (o refl)
-respond-refused causes room result (suc n) e o = ap (λ (i : ℕ). respondTo i room result) e
+module _ (causes : List Cause) (room : ℕ) (result : List ℕ) where
+  earlier : {n : ℕ} → refusalOf causes ≡ n → (n ≡ 0 → ⊥) → refusalOf (withOutput causes room result) ≡ n
+  earlier {n} e o = refusal-earlier causes (outputShort room result ∷ []) e (byOrder 1 n (λ b. b) (λ b. absurd (o (omega arith))))
 
-pub respond-fits : (causes : List Cause) (room : ℕ) (result : List ℕ) → refusalOf causes ≡ 0 → respond causes room result ≡ fits room result
-unfolding respond respondTo
-respond-fits causes room result e = ap (λ (i : ℕ). respondTo i room result) e
+  -- where no cause is present, none is but for 11
+  pub none-before-output : refusalOf (withOutput causes room result) ≡ 0 → refusalOf causes ≡ 0
+  none-before-output z = elim (ℕ-discrete (refusalOf causes) 0) [ yes q ↦ q | no ne ↦ absurd (ne (sym (earlier refl ne) ∙ z)) ]
 
--- a refusal by a number, or no cause, room enough, and the result
-pub by-response : (causes : List Cause) (room : ℕ) (result : List ℕ) {A : Type 0}
-    → ((n : ℕ) → respond causes room result ≡ refused n → (n ≡ 0 → ⊥) → A)
-    → (refusalOf causes ≡ 0 → length result ≤ room → respond causes room result ≡ accepted result → A) → A
-by-response causes room result f g = elim (ℕ-discrete (refusalOf causes) 0) [
-  | no ne ↦ f (refusalOf causes) (respond-refused causes room result (refusalOf causes) refl ne) ne
-  | yes z ↦ byOrder (length result) room
-      (λ l. g z l (respond-fits causes room result z ∙ fits-enough room result l))
-      (λ l. f 11 (respond-fits causes room result z ∙ fits-short room result l) (λ e. omega (arith, e)))
-]
+  -- a cause that is present refuses, whatever the room
+  pub respond-refused : (n : ℕ) → refusalOf causes ≡ n → (n ≡ 0 → ⊥) → respond (withOutput causes room result) result ≡ refused n
+  respond-refused n e o = refused-by (withOutput causes room result) result n (earlier e o) o
+
+  pub respond-accepted : refusalOf causes ≡ 0 → length result ≤ room → respond (withOutput causes room result) result ≡ accepted result
+  respond-accepted e l =
+      accepted-by (withOutput causes room result) result (refusal-without causes (outputShort room result) (output-enough room result l) ∙ e)
+
+  pub respond-fits : CausesNumbered causes → refusalOf causes ≡ 0 → respond (withOutput causes room result) result ≡ fits room result
+  unfolding respond fits
+  respond-fits N e = ap (λ (i : ℕ). respondTo i result) (refusal-later causes (outputShort room result ∷ []) N e)
+
+-- ---- what follows from the response
 
 module _ (causes : List Cause) (out result : List ℕ) where
   abbrev response : Response
-  response = respond causes (length out) result
+  response = respond (withOutput causes (length out) result) result
+
+  by-answer : {A : Type 0} → ((n : ℕ) → response ≡ refused n → (n ≡ 0 → ⊥) → A) → (refusalOf causes ≡ 0 → response ≡ accepted result → A) → A
+  by-answer f g = by-response (withOutput causes (length out) result) result f (λ z e. g (none-before-output causes (length out) result z) e)
 
   -- number 0: there is no cause, and the result stands at the front of the output
   pub answered : numberOf response ≡ 0 → (refusalOf causes ≡ 0) × (take (lengthOf response) (writtenOf response out) ≡ result)
   unfolding numberOf lengthOf writtenOf
-  answered i = by-response causes (length out) result
+  answered i = by-answer
       (λ n e o. absurd (o (sym (ap numberOf e) ∙ i)))
-      (λ z l e. (z, ap (λ (x : Response). take (lengthOf x) (writtenOf x out)) e ∙ take-append-seam result (drop (length result) out)))
+      (λ z e. (z, ap (λ (x : Response). take (lengthOf x) (writtenOf x out)) e ∙ take-append-seam result (drop (length result) out)))
 
   -- what holds of the result where there is no cause holds of what was written where the number is 0
   pub answered-holds : (P : List ℕ → Type 0) → (refusalOf causes ≡ 0 → P result) → {n len : ℕ} {out′ : List ℕ} → n ≡ numberOf response
@@ -64,7 +109,7 @@ module _ (causes : List Cause) (out result : List ℕ) where
   room-enough most other few l i = elim (ℕ-discrete (refusalOf causes) 0) [
     | no ne ↦ other (sym (ap numberOf (respond-refused causes (length out) result (refusalOf causes) refl ne)) ∙ i)
     | yes z ↦ (
-        let e = respond-fits causes (length out) result z ∙ fits-enough (length out) result (omega (arith, few z, l)) in
+        let e = respond-accepted causes (length out) result z (omega (arith, few z, l)) in
         let n : _≡_ {A = ℕ} 0 11 = sym (ap numberOf e) ∙ i in
         omega (arith, n))
   ]
@@ -72,12 +117,12 @@ module _ (causes : List Cause) (out result : List ℕ) where
   -- a field is bounded by what bounds it where there is no cause
   pub field-most : (v b : ℕ) → (refusalOf causes ≡ 0 → v ≤ b) → fieldOf response v ≤ b
   unfolding fieldOf
-  field-most v b f = by-response causes (length out) result
+  field-most v b f = by-answer
       (λ n e o. omega (arith, ap (λ (x : Response). fieldOf x v) e))
-      (λ z l e. omega (arith, ap (λ (x : Response). fieldOf x v) e, f z))
+      (λ z e. omega (arith, ap (λ (x : Response). fieldOf x v) e, f z))
 
   pub field-answered : (v : ℕ) → numberOf response ≡ 0 → fieldOf response v ≡ v
   unfolding numberOf fieldOf
-  field-answered v i = by-response causes (length out) result
+  field-answered v i = by-answer
       (λ n e o. absurd (o (sym (ap numberOf e) ∙ i)))
-      (λ z l e. ap (λ (x : Response). fieldOf x v) e)
+      (λ z e. ap (λ (x : Response). fieldOf x v) e)

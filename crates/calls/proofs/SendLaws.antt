@@ -4,7 +4,7 @@ use mathlib.Core.List.{List, _++_}
 use Prim.Native.Nat.{ℕ, _+_, _*_, _≤_, _<_}
 use native.Mathlib.Omega.{arith}
 use lib.ListN.{length, drop}
-use Rattle.defs.specs.Calls.{Response, refused, accepted, numberOf, lengthOf, writtenOf, fits}
+use Rattle.defs.specs.Calls.{Response, refused, accepted, numberOf, lengthOf, writtenOf}
 use Rattle.defs.specs.Record.{sequenceGraph, encode}
 use Rattle.memory.specs.Memory.{graphOf, vertexRoom, edgeRoom, Room, Holds}
 use Rattle.memory.specs.declared.Held.{Held}
@@ -14,7 +14,7 @@ use Rattle.accept.specs.declared.Read.{Read}
 use Rattle.accept.specs.declared.Read.the-variants as read
 use Rattle.accept.proofs.AcceptLaws.{number-graph, number-refused}
 use Rattle.write_record.specs.Written.{Measured, RecordWritable, RecordWritten}
-use Rattle.calls.specs.Sending.{Sendable, Responds, SendsGraph}
+use Rattle.calls.specs.Sending.{fits, Sendable, Responds, SendsGraph}
 use Rattle.calls.proofs.ResponseLaws.{fits-short, fits-enough, respond-refused, respond-fits}
 use Rattle.store.specs.Store.{Within}
 use Rattle.write_record.proofs.WriteLaws.{bytes-are, encode-length}
@@ -106,5 +106,5 @@ module _ {r : Read} {es vs p : List ℕ} where
       → Responds (fits (length out) (encode sequenceGraph status (graphOf h es vs p))) out s out′ → SendsGraph status r es vs p out s out′
   sends-graph {h} ok {status} {out} S = record {
     is = λ causes result M.
-        responds-as (respond-fits causes (length out) result (sym (M .number) ∙ number-graph ok) ∙ ap (fits (length out)) (sym (M .is h ok))) S;
+        responds-as (respond-fits causes (length out) result (M .numbered) (sym (M .number) ∙ number-graph ok) ∙ ap (fits (length out)) (sym (M .is h ok))) S;
   }

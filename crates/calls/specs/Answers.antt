@@ -34,18 +34,18 @@ pub record CountsCall (number rewrites : ℕ) (t r : Tally) : Type 0 where
 -- The whole answer is the definition's if number and length are those of the call's response and, in an answered call, the other numbers are
 -- the definition's.
 pub record Tallies (s : Sent) (t : Tally) (r : Answer) : Type 0 where
-  pub is : (causes : List Cause) (room : ℕ) (result : List ℕ) → s .number ≡ numberOf (respond causes room result)
-      → s .length ≡ lengthOf (respond causes room result)
-      → answerOf r ≡ D.answer (respond causes room result) (tallyOf t)
+  pub is : (causes : List Cause) (result : List ℕ) → s .number ≡ numberOf (respond causes result)
+      → s .length ≡ lengthOf (respond causes result)
+      → answerOf r ≡ D.answer (respond causes result) (tallyOf t)
 
 pub record TalliesSimplify (s : Sent) (rewrites rounds end : ℕ) (t : Tally) (r : SimplifyAnswer) : Type 0 where
-  pub is : (causes : List Cause) (room : ℕ) (result : List ℕ) (z : Simplified) → s .number ≡ numberOf (respond causes room result)
-      → s .length ≡ lengthOf (respond causes room result)
+  pub is : (causes : List Cause) (result : List ℕ) (z : Simplified) → s .number ≡ numberOf (respond causes result)
+      → s .length ≡ lengthOf (respond causes result)
       → (s .number ≡ 0 → (rewrites ≡ z .rewrites) × ((rounds ≡ z .rounds) × (end ≡ endNumber (z .end))))
-      → simplifyAnswerOf r ≡ D.simplifyAnswer (respond causes room result) z (tallyOf t)
+      → simplifyAnswerOf r ≡ D.simplifyAnswer (respond causes result) z (tallyOf t)
 
 pub record TalliesCleanup (s : Sent) (status rewrites : ℕ) (t : Tally) (r : CleanupAnswer) : Type 0 where
-  pub is : (causes : List Cause) (room : ℕ) (result : List ℕ) (z : Cleaned) → s .number ≡ numberOf (respond causes room result)
-      → s .length ≡ lengthOf (respond causes room result)
+  pub is : (causes : List Cause) (result : List ℕ) (z : Cleaned) → s .number ≡ numberOf (respond causes result)
+      → s .length ≡ lengthOf (respond causes result)
       → (s .number ≡ 0 → (status ≡ statusNumber (z .status)) × (rewrites ≡ z .rewrites))
-      → cleanupAnswerOf r ≡ D.cleanupAnswer (respond causes room result) z (tallyOf t)
+      → cleanupAnswerOf r ≡ D.cleanupAnswer (respond causes result) z (tallyOf t)

@@ -1,11 +1,12 @@
 -- A record that is written where it fits. Assumes nothing.
 use mathlib.Core.Path.{_≡_}
-use mathlib.Core.List.{List}
+use mathlib.Core.List.{List, [], _∷_, _++_}
 use Prim.Native.Nat.{ℕ, _+_, _*_, _≤_}
 use lib.ListN.{length}
 use Rattle.defs.specs.Record.{sequenceGraph, encode}
 use Rattle.defs.specs.Refusals.{Cause, refusalOf}
-use Rattle.defs.specs.Calls.{Response, respond, numberOf, lengthOf, writtenOf}
+use Rattle.defs.specs.Calls.{Response, outputShort, respond, numberOf, lengthOf, writtenOf}
+use Rattle.laws.proofs.Causes.{CausesNumbered}
 use Rattle.store.specs.Store.{Within}
 use Rattle.pool.specs.Pool.{bytesIn}
 use Rattle.memory.specs.Memory.{graphOf}
@@ -22,15 +23,23 @@ pub record Sendable (status : ℕ) (h : Held) (es vs p : List ℕ) : Type 0 wher
   pub within : Within (length p) (h .n) vs
   pub writable : (out : List ℕ) → 32 + 2 * h .n + 9 * h .m + bytesIn (h .n) vs ≤ length out → RecordWritable status h es vs p out
 
+-- causes with 11 behind them, and the response where 11 alone can be present
+abbrev pub withOutput : List Cause → ℕ → List ℕ → List Cause
+withOutput causes room result = causes ++ (outputShort room result ∷ [])
+
+unfoldable pub fits : ℕ → List ℕ → Response
+fits room result = respond (outputShort room result ∷ []) result
+
 -- The promise of what a call sends: number, length and the output at exit are those of its response.
 pub record Responds (x : Response) (out : List ℕ) (s : Sent) (out′ : List ℕ) : Type 0 where
   pub number : s .number ≡ numberOf x
   pub size : s .length ≡ lengthOf x
   pub written : out′ ≡ writtenOf x out
 
--- What was made of a record, by its causes of a refusal: a number other than 0, or a graph in the slices whose record, with this status, is the
+-- What was made of a record, by the causes but for 11: a number other than 0, or a graph in the slices whose record, with this status, is the
 -- result.
 pub record Makes (causes : List Cause) (status : ℕ) (result : List ℕ) (r : Read) (es vs p : List ℕ) : Type 0 where
+  pub numbered : CausesNumbered causes
   pub number : readNumber r ≡ refusalOf causes
   pub is : (h : Held) → r ≡ read.Graph h → encode sequenceGraph status (graphOf h es vs p) ≡ result
   pub refused : (n : ℕ) → r ≡ read.Refused n → n ≡ 0 → ⊥
@@ -38,6 +47,7 @@ pub record Makes (causes : List Cause) (status : ℕ) (result : List ℕ) (r : R
 pub record GraphSendable (status : ℕ) (r : Read) (es vs p : List ℕ) : Type 0 where
   pub sendable : (h : Held) → r ≡ read.Graph h → Sendable status h es vs p
 
--- what is sent responds to the causes of a refusal, whatever they are, with that record
+-- what is sent responds to the causes, whatever they are, and 11 behind them, with that record
 pub record SendsGraph (status : ℕ) (r : Read) (es vs p out : List ℕ) (s : Sent) (out′ : List ℕ) : Type 0 where
-  pub is : (causes : List Cause) (result : List ℕ) → Makes causes status result r es vs p → Responds (respond causes (length out) result) out s out′
+  pub is : (causes : List Cause) (result : List ℕ) → Makes causes status result r es vs p
+      → Responds (respond (withOutput causes (length out) result) result) out s out′

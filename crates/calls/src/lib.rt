@@ -3,10 +3,9 @@
 ghost use mathlib.Core.Path.{_≡_};
 ghost use lib.ListN.{length};
 ghost use Rattle.defs.specs.Record.{sequenceGraph, encode};
-ghost use Rattle.defs.specs.Calls.{fits};
 ghost use Rattle.memory.specs.Memory.{graphOf};
 ghost use Rattle.calls.specs.Answers.{CountsCall, Tallies, TalliesSimplify, TalliesCleanup};
-ghost use Rattle.calls.specs.Sending.{Sendable, Responds, GraphSendable, SendsGraph};
+ghost use Rattle.calls.specs.Sending.{fits, Sendable, Responds, GraphSendable, SendsGraph};
 use accept::Read;
 use memory::Held;
 

@@ -8,13 +8,13 @@ use Rattle.defs.specs.Cleanup.{cleanNonRefPaths}
 use Rattle.defs.specs.Record.{sequenceGraph, encode, decode}
 use Rattle.defs.specs.Refusals.{Cause, sequenceOnly, recordCauses, recordRefusal}
 use Rattle.defs.specs.Calls as D
-use Rattle.defs.specs.Calls.{numberOf, cleanNonRefPathsResponse, cleanNonRefPathsAnswer}
+use Rattle.defs.specs.Calls.{numberOf, cleanNonRefPathsCauses, cleanNonRefPathsResponse, cleanNonRefPathsAnswer}
 use Rattle.reread.specs.Reread.{ReacceptedAs}
 use Rattle.reread.proofs.Graphs.{input-reaccepted}
 use Rattle.reread.proofs.Read.{Bytes, record-most, sequence-input}
 use Rattle.cleanup_room.proofs.CleanInput.{clean-input}
 use Rattle.calls.specs.Answers.{tallyOf, answerOf, Tallies}
-use Rattle.calls.specs.Sending.{Responds}
+use Rattle.calls.specs.Sending.{withOutput, Responds}
 use Rattle.calls.specs.declared.Tally.{Tally}
 use Rattle.calls.specs.declared.Sent.{Sent}
 use Rattle.calls.specs.declared.Answer.{Answer}
@@ -32,14 +32,14 @@ module _ (bs list : List ℕ) {out : List ℕ} {t : Tally} {s : Sent} {a : Answe
   result = encode sequenceGraph 0 (cleanNonRefPaths (decode bs))
 
   answer-is : answerOf a ≡ cleanNonRefPathsAnswer bs (length out) (tallyOf t)
-  unfolding cleanNonRefPathsAnswer cleanNonRefPathsResponse readingResponse
-  answer-is = T .is causes (length out) result (S .number) (S .size)
+  unfolding cleanNonRefPathsAnswer cleanNonRefPathsResponse cleanNonRefPathsCauses readingResponse
+  answer-is = T .is (withOutput causes (length out) result) result (S .number) (S .size)
 
   again : recordRefusal sequenceOnly bs ≡ 0 → ReacceptedAs (cleanNonRefPaths (decode bs)) result
   again ok = input-reaccepted (cleanNonRefPaths (decode bs)) (clean-input (decode bs) (sequence-input bs small ok)) 0 (omega arith)
 
   pub cleans-paths : CleansPaths bs out t a out′
-  unfolding cleanNonRefPathsAnswer cleanNonRefPathsResponse readingResponse recordRefusal D.answer
+  unfolding cleanNonRefPathsAnswer cleanNonRefPathsResponse cleanNonRefPathsCauses readingResponse recordRefusal D.answer
   cleans-paths = record {
     answer = answer-is;
     written = S .written;

@@ -8,7 +8,8 @@ use Rattle.defs.specs.Cleanup.{Status, justReference, someVariation, Cleaned, s
 use Rattle.defs.specs.Record.{sequenceGraph, encode, decode}
 use Rattle.defs.specs.Refusals.{Cause, sequenceOnly, recordCauses, recordRefusal}
 use Rattle.defs.specs.Calls as D
-use Rattle.defs.specs.Calls.{numberOf, cleanupSeqGraphResponse, cleanupSeqGraphAnswer}
+use Rattle.defs.specs.Calls.{numberOf, cleanupSeqGraphCauses, cleanupSeqGraphResponse, cleanupSeqGraphAnswer}
+use Rattle.calls.specs.Sending.{withOutput}
 use Rattle.laws.proofs.Cleaned.{cleanup-varies, cleanup-plain}
 use Rattle.sound.proofs.Accepted.{accepted-good}
 use Rattle.reread.specs.Reread.{RereadAs}
@@ -47,11 +48,11 @@ module _ {bs out : List ℕ} {t : Tally} {r : RewritingAnswer} {a : CleanupAnswe
   result = encode sequenceGraph (statusNumber (z .status)) (z .graph)
 
   answer-is : cleanupAnswerOf a ≡ cleanupSeqGraphAnswer bs (length out) (tallyOf t)
-  unfolding cleanupSeqGraphAnswer cleanupSeqGraphResponse resultOf
-  answer-is = T .is causes (length out) result z (A .sent .number) (A .sent .size) (λ i. let c = A .counted i in (c .status, c .rewrites))
+  unfolding cleanupSeqGraphAnswer cleanupSeqGraphResponse cleanupSeqGraphCauses resultOf
+  answer-is = T .is (withOutput causes (length out) result) result z (A .sent .number) (A .sent .size) (λ i. let c = A .counted i in (c .status, c .rewrites))
 
   pub cleans : Cleans bs out t a out′
-  unfolding cleanupSeqGraphAnswer cleanupSeqGraphResponse resultOf recordRefusal
+  unfolding cleanupSeqGraphAnswer cleanupSeqGraphResponse cleanupSeqGraphCauses resultOf recordRefusal
   cleans = record {
     answer = answer-is;
     written = A .sent .written;

@@ -7,13 +7,13 @@ use mathlib.Core.List.{List, [], _∷_, _++_, map, List·Memᴰ, List·Memᴰ·h
 use mathlib.Core.Logic.{⊎-elim}
 use native.Mathlib.Nat.{add-suc, suc-add}
 use native.Mathlib.Omega.{arith}
-use lib.ListN.{length, getD, take}
+use lib.ListN.{length, getD}
 use Rattle.defs.specs.Lists.{concat, tabFrom, tab}
 use Rattle.defs.specs.SeqGraph.{Edge, Graph, nodeCount}
 use Rattle.defs.specs.Simplify.{sequenceBytes}
 use Rattle.defs.specs.Record.{RecordKind, recordKindNumber, kindOf, statusOf, kOf, verticesOf, edgesOf, bytesOf, u32At, le16, encodeEdge}
 use Rattle.defs.specs.Record.{encodeHeader, encode, lengthAt, sequenceAt, edgeStart, edgeAt, decode}
-use Rattle.defs.specs.Refusals.{Takes, refusalOf, recordCauses}
+use Rattle.defs.specs.Refusals.{Takes, refusalOf, layoutCauses}
 use Rattle.tabs.proofs.Tabs.{tab-ext, length-tab, tab-getD}
 use Rattle.tabs.proofs.SumTabs.{sum-below}
 use Rattle.record.specs.Layout.{WellFormed}
@@ -67,7 +67,7 @@ module _ (bs : List ℕ) (small : (i : ℕ) → getD bs i 0 < 256) (ok : WellFor
       ∙ written-back
 
 -- the same for a list of bytes that none of the refusals 1 to 5 meets, whichever kinds the call takes
-pub encode-decode-accepted : (t : Takes) (bs : List ℕ) → ((i : ℕ) → getD bs i 0 < 256) → refusalOf (take 5 (recordCauses t bs)) ≡ 0
+pub encode-decode-accepted : (t : Takes) (bs : List ℕ) → ((i : ℕ) → getD bs i 0 < 256) → refusalOf (layoutCauses t bs) ≡ 0
     → (kind : RecordKind) → recordKindNumber kind ≡ kindOf bs → encode kind (statusOf bs) (decode bs) ≡ bs
 encode-decode-accepted t bs small h = encode-decode bs small (well-formed t bs h)
 

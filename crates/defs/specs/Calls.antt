@@ -1,4 +1,5 @@
--- The public calls: of each its whole answer and the lent output at exit, from the record, the arguments, the room and the tally.
+-- The public calls: of each the list of its causes of a refusal, its whole answer and the lent output at exit, from the record, the arguments,
+-- the room and the tally.
 -- Assumes nothing.
 use Prim.Native.Nat.{ℕ, zero, suc}
 use mathlib.Core.Bool.{Bool, true, false, cond, not}
@@ -6,11 +7,12 @@ use mathlib.Core.Option.{Option, none, some}
 use mathlib.Core.List.{List, [], _∷_, _++_}
 use lib.Dec.{eqb, ltb, leb}
 use lib.ListN.{length, drop}
-use Rattle.defs.specs.SeqGraph.{Graph, vertexSequence, saturatingAdd}
+use Rattle.defs.specs.SeqGraph.{vertexSequence, saturatingAdd}
 use Rattle.defs.specs.Simplify.{Simplified, sequenceBytes, simplifyGraphFull, minTailSuffixLen, endNumber}
 use Rattle.defs.specs.Cleanup.{Cleaned, statusNumber, cleanupSeqGraph, cleanNonRefPaths}
 use Rattle.defs.specs.Record.{sequenceGraph, verticesOf, encode, decode}
-use Rattle.defs.specs.Refusals.{Cause, refusalOf, Takes, kmerOnly, sequenceOnly, bothKinds, recordCauses}
+use Rattle.defs.specs.Refusals.{Cause, refusalOf, kmerOnly, sequenceOnly, bothKinds}
+use Rattle.defs.specs.Refusals.{layoutCauses, doubledCause, overlapCause, cycleCause, recordCauses}
 use Rattle.defs.specs.Assembly.{fromAssemblyGraph}
 use Rattle.defs.specs.Paths.{isPathOf, pathBasesBytes, referencePathBytes}
 
@@ -47,17 +49,18 @@ unfoldable pub tallied : Response → ℕ → Tally → Tally
 tallied (refused n) rewrites t = record { answered = t .answered; refused = saturatingAdd (t .refused) 1; rewrites = t .rewrites }
 tallied (accepted r) rewrites t = record { answered = saturatingAdd (t .answered) 1; refused = t .refused; rewrites = saturatingAdd (t .rewrites) rewrites }
 
--- The first cause present refuses, by its number; then 11, the output is shorter than the result.
-unfoldable pub fits : ℕ → List ℕ → Response
-fits room result = elim (ltb room (length result)) [ true ↦ refused 11 | false ↦ accepted result ]
+-- 11: the output is shorter than the result
+unfoldable pub outputShort : ℕ → List ℕ → Cause
+outputShort room result = record { number = 11; present = ltb room (length result) }
 
 -- a number other than 0 refuses
-unfoldable pub respondTo : ℕ → ℕ → List ℕ → Response
-respondTo zero room result = fits room result
-respondTo (suc n) room result = refused (suc n)
+unfoldable pub respondTo : ℕ → List ℕ → Response
+respondTo zero result = accepted result
+respondTo (suc n) result = refused (suc n)
 
-unfoldable pub respond : List Cause → ℕ → List ℕ → Response
-respond causes room result = respondTo (refusalOf causes) room result
+-- the first of the call's causes that is present refuses, by its number; where none is, the result is the answer
+unfoldable pub respond : List Cause → List ℕ → Response
+respond causes result = respondTo (refusalOf causes) result
 
 -- number, length and tally: the answer of conversion, of clean_non_ref_paths and of the two string calls
 pub record Answer : Type 0 where
@@ -68,27 +71,43 @@ pub record Answer : Type 0 where
 unfoldable pub answer : Response → Tally → Answer
 answer r t = record { number = numberOf r; length = lengthOf r; tally = tallied r 0 t }
 
--- vertex_sequence: the number for the lent cell, and the part handed back
+-- vertex_sequence: 1 to 7, 9; the number for the lent cell, and the part handed back
+unfoldable pub vertexSequenceCauses : List ℕ → ℕ → List Cause
+vertexSequenceCauses bs v = recordCauses bothKinds bs ++ (record { number = 9; present = leb (verticesOf bs) v } ∷ [])
+
 unfoldable pub vertexSequenceNumber : List ℕ → ℕ → ℕ
-vertexSequenceNumber bs v = refusalOf (recordCauses bothKinds bs ++ (record { number = 9; present = leb (verticesOf bs) v } ∷ []))
+vertexSequenceNumber bs v = refusalOf (vertexSequenceCauses bs v)
 
 unfoldable pub vertexSequencePart : List ℕ → ℕ → List ℕ
 vertexSequencePart bs v = cond (eqb (vertexSequenceNumber bs v) 0) (vertexSequence (decode bs) v) []
 
--- from_assembly_graph: 8 where the converted graph has over 8,192 bytes
+-- from_assembly_graph: 1 to 6, 15, 7, 8, 11; 8 where the converted graph has over 8,192 bytes
 unfoldable pub conversionCauses : List ℕ → List Cause
-conversionCauses bs = recordCauses kmerOnly bs ++ (record { number = 8; present = ltb 8192 (sequenceBytes ((fromAssemblyGraph (decode bs)) .verts)) } ∷ [])
+conversionCauses bs =
+    layoutCauses kmerOnly bs ++ (doubledCause bs ∷ overlapCause bs ∷ cycleCause bs
+    ∷ record { number = 8; present = ltb 8192 (sequenceBytes ((fromAssemblyGraph (decode bs)) .verts)) } ∷ [])
+
+abbrev pub convertedRecord : List ℕ → List ℕ
+convertedRecord bs = encode sequenceGraph 0 (fromAssemblyGraph (decode bs))
+
+unfoldable pub fromAssemblyGraphCauses : List ℕ → ℕ → List Cause
+fromAssemblyGraphCauses bs room = conversionCauses bs ++ (outputShort room (convertedRecord bs) ∷ [])
 
 unfoldable pub fromAssemblyGraphResponse : List ℕ → ℕ → Response
-fromAssemblyGraphResponse bs room = respond (conversionCauses bs) room (encode sequenceGraph 0 (fromAssemblyGraph (decode bs)))
+fromAssemblyGraphResponse bs room = respond (fromAssemblyGraphCauses bs room) (convertedRecord bs)
 
 unfoldable pub fromAssemblyGraphAnswer : List ℕ → ℕ → Tally → Answer
 fromAssemblyGraphAnswer bs room t = answer (fromAssemblyGraphResponse bs room) t
 
--- simplify_graph
+-- simplify_graph: 1 to 7, 11
+abbrev pub simplifiedRecord : List ℕ → List ℕ
+simplifiedRecord bs = encode sequenceGraph 0 ((simplifyGraphFull minTailSuffixLen (decode bs)) .graph)
+
+unfoldable pub simplifyGraphCauses : List ℕ → ℕ → List Cause
+simplifyGraphCauses bs room = recordCauses sequenceOnly bs ++ (outputShort room (simplifiedRecord bs) ∷ [])
+
 unfoldable pub simplifyGraphResponse : List ℕ → ℕ → Response
-simplifyGraphResponse bs room =
-    respond (recordCauses sequenceOnly bs) room (encode sequenceGraph 0 ((simplifyGraphFull minTailSuffixLen (decode bs)) .graph))
+simplifyGraphResponse bs room = respond (simplifyGraphCauses bs room) (simplifiedRecord bs)
 
 pub record SimplifyAnswer : Type 0 where
   pub number : ℕ
@@ -111,11 +130,15 @@ simplifyAnswer r s t = record {
 unfoldable pub simplifyGraphAnswer : List ℕ → ℕ → Tally → SimplifyAnswer
 simplifyGraphAnswer bs room t = simplifyAnswer (simplifyGraphResponse bs room) (simplifyGraphFull minTailSuffixLen (decode bs)) t
 
--- cleanup_seq_graph
+-- cleanup_seq_graph: 1 to 7, 11
+abbrev pub cleanedRecord : List ℕ → List ℕ
+cleanedRecord bs = let c = cleanupSeqGraph (decode bs) in encode sequenceGraph (statusNumber (c .status)) (c .graph)
+
+unfoldable pub cleanupSeqGraphCauses : List ℕ → ℕ → List Cause
+cleanupSeqGraphCauses bs room = recordCauses sequenceOnly bs ++ (outputShort room (cleanedRecord bs) ∷ [])
+
 unfoldable pub cleanupSeqGraphResponse : List ℕ → ℕ → Response
-cleanupSeqGraphResponse bs room =
-    let c = cleanupSeqGraph (decode bs) in
-    respond (recordCauses sequenceOnly bs) room (encode sequenceGraph (statusNumber (c .status)) (c .graph))
+cleanupSeqGraphResponse bs room = respond (cleanupSeqGraphCauses bs room) (cleanedRecord bs)
 
 pub record CleanupAnswer : Type 0 where
   pub number : ℕ
@@ -129,14 +152,20 @@ cleanupAnswer r c t = record { number = numberOf r; length = lengthOf r; status 
 unfoldable pub cleanupSeqGraphAnswer : List ℕ → ℕ → Tally → CleanupAnswer
 cleanupSeqGraphAnswer bs room t = cleanupAnswer (cleanupSeqGraphResponse bs room) (cleanupSeqGraph (decode bs)) t
 
--- clean_non_ref_paths
+-- clean_non_ref_paths: 1 to 7, 11
+abbrev pub reducedRecord : List ℕ → List ℕ
+reducedRecord bs = encode sequenceGraph 0 (cleanNonRefPaths (decode bs))
+
+unfoldable pub cleanNonRefPathsCauses : List ℕ → ℕ → List Cause
+cleanNonRefPathsCauses bs room = recordCauses sequenceOnly bs ++ (outputShort room (reducedRecord bs) ∷ [])
+
 unfoldable pub cleanNonRefPathsResponse : List ℕ → ℕ → Response
-cleanNonRefPathsResponse bs room = respond (recordCauses sequenceOnly bs) room (encode sequenceGraph 0 (cleanNonRefPaths (decode bs)))
+cleanNonRefPathsResponse bs room = respond (cleanNonRefPathsCauses bs room) (reducedRecord bs)
 
 unfoldable pub cleanNonRefPathsAnswer : List ℕ → ℕ → Tally → Answer
 cleanNonRefPathsAnswer bs room t = answer (cleanNonRefPathsResponse bs room) t
 
--- reference_path_bytes: 10 where there is no reference path
+-- reference_path_bytes: 1 to 7, 10, 11; 10 where there is no reference path
 unfoldable pub isNothing : Option (List ℕ) → Bool
 isNothing none = true
 isNothing (some s) = false
@@ -145,13 +174,19 @@ unfoldable pub bytesOrNone : Option (List ℕ) → List ℕ
 bytesOrNone none = []
 bytesOrNone (some s) = s
 
-unfoldable pub referencePathBytesResponse : List ℕ → ℕ → Response
-referencePathBytesResponse bs room =
+unfoldable pub referencePathBytesCauses : List ℕ → ℕ → List Cause
+referencePathBytesCauses bs room =
     let p = referencePathBytes (decode bs) in
-    respond (recordCauses sequenceOnly bs ++ (record { number = 10; present = isNothing p } ∷ [])) room (bytesOrNone p)
+    recordCauses sequenceOnly bs ++ (record { number = 10; present = isNothing p } ∷ outputShort room (bytesOrNone p) ∷ [])
 
--- path_bases_bytes: 9 where the start or the list of edges is no path
-unfoldable pub pathBasesBytesResponse : List ℕ → ℕ → List ℕ → ℕ → Response
-pathBasesBytesResponse bs start edges room =
+unfoldable pub referencePathBytesResponse : List ℕ → ℕ → Response
+referencePathBytesResponse bs room = respond (referencePathBytesCauses bs room) (bytesOrNone (referencePathBytes (decode bs)))
+
+-- path_bases_bytes: 1 to 7, 9, 11; 9 where the start or the list of edges is no path
+unfoldable pub pathBasesBytesCauses : List ℕ → ℕ → List ℕ → ℕ → List Cause
+pathBasesBytesCauses bs start edges room =
     let g = decode bs in
-    respond (recordCauses sequenceOnly bs ++ (record { number = 9; present = not (isPathOf g start edges) } ∷ [])) room (pathBasesBytes g start edges)
+    recordCauses sequenceOnly bs ++ (record { number = 9; present = not (isPathOf g start edges) } ∷ outputShort room (pathBasesBytes g start edges) ∷ [])
+
+unfoldable pub pathBasesBytesResponse : List ℕ → ℕ → List ℕ → ℕ → Response
+pathBasesBytesResponse bs start edges room = respond (pathBasesBytesCauses bs start edges room) (pathBasesBytes (decode bs) start edges)

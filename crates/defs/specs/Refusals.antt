@@ -1,12 +1,15 @@
--- The refusals that lie in the record, 1 to 7. A number is given when its cause is present and no lower one's is.
+-- Causes of a refusal, and those that lie in the record: 1 to 7, and 15. A call has a list of causes; a number is given when its cause is
+-- present and no earlier one of the list is.
 -- Assumes nothing.
-use Prim.Native.Nat.{ℕ, _+_, _*_}
+use Prim.Native.Nat.{ℕ, _+_}
+use mathlib.Core.Path.{_≡_}
 use mathlib.Core.Bool.{Bool, true, false, _&&_, _||_, not}
-use mathlib.Core.List.{List, [], _∷_}
+use mathlib.Core.List.{List, [], _∷_, _++_, List·Memᴰ}
 use lib.Dec.{eqb, ltb, leb}
 use lib.ListN.{length, take}
 use Rattle.defs.specs.Lists.{anyOf, elemOf, sameList, upFrom, tab, sum}
 use Rattle.defs.specs.SeqGraph.{Edge, Graph, nodeCount, outgoingNodes, hasEnds}
+use Rattle.defs.specs.Assembly.{overlaps}
 use Rattle.defs.specs.Cleanup.{forward, reached}
 use Rattle.defs.specs.Record.{mark, kindOf, statusOf, kOf, verticesOf, edgesOf, bytesOf, u32At, lengthsAt, edgesAt, bytesAt}
 use Rattle.defs.specs.Record.{wholeLength, lengthAt, edgeAt, flagAt, decode}
@@ -19,6 +22,27 @@ pub record Cause : Type 0 where
 unfoldable pub refusalOf : List Cause → ℕ
 refusalOf [] = 0
 refusalOf (c ∷ cs) = elim (c .present) [ true ↦ c .number | false ↦ refusalOf cs ]
+
+-- The same in words. Of a list of causes none is present;
+pub record NonePresent (cs : List Cause) : Type 0 where
+  pub absent : (c : Cause) → List·Memᴰ c cs → c .present ≡ false
+
+-- or one is, with the number n, and none before it.
+pub record FirstPresent (cs : List Cause) (n : ℕ) : Type 0 where
+  pub before : List Cause
+  pub cause : Cause
+  pub behind : List Cause
+  pub place : cs ≡ before ++ (cause ∷ behind)
+  pub none-before : NonePresent before
+  pub present : cause .present ≡ true
+  pub number : cause .number ≡ n
+
+-- n is the number of these causes, both ways
+pub record IsNumberOf (cs : List Cause) (n : ℕ) : Type 0 where
+  pub accepts : n ≡ 0 → NonePresent cs
+  pub accepted : NonePresent cs → n ≡ 0
+  pub refuses : (n ≡ 0 → ⊥) → FirstPresent cs n
+  pub refused : (m : ℕ) → FirstPresent cs m → n ≡ m
 
 -- 1: under 32 bytes, or not the length it states
 unfoldable pub otherLength : List ℕ → Bool
@@ -77,17 +101,33 @@ doubled bs = doubledEdge (decode bs .edges) || (eqb (kindOf bs) 0 && equalKmers 
 unfoldable pub hasCycle : Graph → Bool
 hasCycle g = anyOf (λ v. anyOf (λ w. elemOf v (reached forward g w)) (outgoingNodes g v)) (upFrom 0 (nodeCount g))
 
--- the causes that lie in the record, in rising order
-unfoldable pub recordCauses : Takes → List ℕ → List Cause
-recordCauses t bs =
+-- 15: an edge between k-mers that do not follow one another; conversion alone asks this
+unfoldable pub edgeWithoutOverlap : Graph → Bool
+edgeWithoutOverlap g = anyOf (λ e. not (overlaps g e)) (g .edges)
+
+-- The causes, in the order in which they are asked. 1 to 5 lie in the layout of the record,
+unfoldable pub layoutCauses : Takes → List ℕ → List Cause
+layoutCauses t bs =
     record { number = 1; present = otherLength bs }
     ∷ record { number = 2; present = wrongMark t bs }
     ∷ record { number = 3; present = pastLimit bs }
     ∷ record { number = 4; present = layoutDisagrees bs }
     ∷ record { number = 5; present = anyBadEdge bs }
-    ∷ record { number = 6; present = doubled bs }
-    ∷ record { number = 7; present = hasCycle (decode bs) }
     ∷ []
+
+-- 6, 15 and 7 in its graph.
+abbrev pub doubledCause : List ℕ → Cause
+doubledCause bs = record { number = 6; present = doubled bs }
+
+abbrev pub overlapCause : List ℕ → Cause
+overlapCause bs = record { number = 15; present = edgeWithoutOverlap (decode bs) }
+
+abbrev pub cycleCause : List ℕ → Cause
+cycleCause bs = record { number = 7; present = hasCycle (decode bs) }
+
+-- 1 to 7
+unfoldable pub recordCauses : Takes → List ℕ → List Cause
+recordCauses t bs = layoutCauses t bs ++ (doubledCause bs ∷ cycleCause bs ∷ [])
 
 unfoldable pub recordRefusal : Takes → List ℕ → ℕ
 recordRefusal t bs = refusalOf (recordCauses t bs)

@@ -33,3 +33,4 @@ pub mod Room
 pub mod SplitForms
 pub mod Flags
 pub mod Capped
+pub mod Causes

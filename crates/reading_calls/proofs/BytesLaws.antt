@@ -2,7 +2,7 @@
 use mathlib.Core.Path.{_≡_, refl, ap, _∙_, subst}
 use mathlib.Core.Bool.{not}
 use mathlib.Core.Option.{Option, none, some}
-use mathlib.Core.List.{List}
+use mathlib.Core.List.{List, [], _∷_, _++_}
 use Prim.Native.Nat.{ℕ, _≤_, _<_}
 use native.Mathlib.Omega.{arith}
 use lib.ListN.{length}
@@ -11,9 +11,9 @@ use Rattle.defs.specs.SeqGraph.{Graph}
 use Rattle.defs.specs.Simplify.{sequenceBytes}
 use Rattle.defs.specs.Paths.{isPathOf, pathBasesBytes, referencePathBytes}
 use Rattle.defs.specs.Record.{decode}
-use Rattle.defs.specs.Refusals.{sequenceOnly, recordRefusal}
-use Rattle.defs.specs.Calls.{Response, refused, fits, isNothing, bytesOrNone}
-use Rattle.defs.specs.Calls.{referencePathBytesResponse, pathBasesBytesResponse}
+use Rattle.defs.specs.Refusals.{Cause, sequenceOnly, layoutCauses, recordCauses, recordRefusal}
+use Rattle.defs.specs.Calls.{Response, refused, respond, isNothing, bytesOrNone}
+use Rattle.defs.specs.Calls.{referencePathBytesCauses, referencePathBytesResponse, pathBasesBytesCauses, pathBasesBytesResponse}
 use Rattle.laws.proofs.Walks.{byTest}
 use Rattle.laws.proofs.ListLaws.{given-some, byOrder, given-yes}
 use Rattle.laws.proofs.Whole.{no-some}
@@ -23,9 +23,9 @@ use Rattle.spell.specs.Spell.{Told}
 use Rattle.spell.specs.declared.OptionBytes.{OptionBytes}
 use Rattle.spell.specs.declared.OptionBytes.the-variants.{Some, None}
 use Rattle.spell.proofs.SpellLaws.{none-told, some-told}
-use Rattle.calls.specs.Sending.{Responds}
+use Rattle.calls.specs.Sending.{withOutput, fits, Responds}
 use Rattle.calls.specs.declared.Sent.{Sent}
-use Rattle.calls.proofs.CauseLaws.{behind-refused, behind-present, behind-absent}
+use Rattle.calls.proofs.CauseLaws.{behind-numbered, behind-refused, behind-present, behind-absent}
 use Rattle.calls.proofs.SendLaws.{responds-refused, responds-accepted}
 use Rattle.calls.proofs.ResponseLaws.{fits-short, fits-enough, respond-refused, respond-fits}
 use Rattle.reading_calls.specs.Reading.{pathResponse, Tells, Tellable, GraphAnswered}
@@ -75,40 +75,59 @@ module _ {o : Option (List ℕ)} {out out′ : List ℕ} {b : OptionBytes} (T : 
 -- ---- the responses
 
 module _ (bs : List ℕ) (room : ℕ) where
+  abbrev referenceResult : List ℕ
+  referenceResult = bytesOrNone (referencePathBytes (decode bs))
+
+  -- 1 to 7, 10
+  abbrev referenceCauses : List Cause
+  referenceCauses = recordCauses sequenceOnly bs ++ (record { number = 10; present = isNothing (referencePathBytes (decode bs)) } ∷ [])
+
+  reference-is : referencePathBytesResponse bs room ≡ respond (withOutput referenceCauses room referenceResult) referenceResult
+  unfolding referencePathBytesResponse referencePathBytesCauses recordCauses layoutCauses
+  reference-is = refl
+
   pub reference-refused : {n : ℕ} → recordRefusal sequenceOnly bs ≡ n → (n ≡ 0 → ⊥) → referencePathBytesResponse bs room ≡ refused n
-  unfolding referencePathBytesResponse
-  reference-refused {n} e o = respond-refused _ room _ n (behind-refused sequenceOnly bs 10 _ e o) o
+  reference-refused {n} e o = reference-is ∙ respond-refused referenceCauses room referenceResult n (behind-refused sequenceOnly bs 10 _ e o) o
 
   module _ (z : recordRefusal sequenceOnly bs ≡ 0) where
     pub reference-none : referencePathBytes (decode bs) ≡ none → referencePathBytesResponse bs room ≡ refused 10
-    unfolding referencePathBytesResponse isNothing
-    reference-none e = respond-refused _ room _ 10 (behind-present sequenceOnly bs 10 _ z (ap isNothing e)) (λ q. omega arith)
+    unfolding isNothing
+    reference-none e = reference-is
+        ∙ respond-refused referenceCauses room referenceResult 10 (behind-present sequenceOnly bs 10 _ z (ap isNothing e)) (λ q. omega arith)
 
     pub reference-some : (s : List ℕ) → referencePathBytes (decode bs) ≡ some s → referencePathBytesResponse bs room ≡ fits room s
-    unfolding referencePathBytesResponse isNothing bytesOrNone
-    reference-some s e = respond-fits _ room _ (behind-absent sequenceOnly bs 10 _ z (ap isNothing e))
+    unfolding isNothing bytesOrNone
+    reference-some s e = reference-is
+        ∙ respond-fits referenceCauses room referenceResult (behind-numbered sequenceOnly bs 10 _ (omega arith)) (behind-absent sequenceOnly bs 10 _ z (ap isNothing e))
         ∙ ap (λ (p : Option (List ℕ)). fits room (bytesOrNone p)) e
 
 module _ (bs : List ℕ) (start : ℕ) (list : List ℕ) (room : ℕ) where
   abbrev told : Option (List ℕ)
   told = given (isPathOf (decode bs) start list) (pathBasesBytes (decode bs) start list)
 
+  -- 1 to 7, 9
+  abbrev pathCauses : List Cause
+  pathCauses = recordCauses sequenceOnly bs ++ (record { number = 9; present = not (isPathOf (decode bs) start list) } ∷ [])
+
+  path-is : pathBasesBytesResponse bs start list room
+      ≡ respond (withOutput pathCauses room (pathBasesBytes (decode bs) start list)) (pathBasesBytes (decode bs) start list)
+  unfolding pathBasesBytesResponse pathBasesBytesCauses recordCauses layoutCauses
+  path-is = refl
+
   pub path-refused : {n : ℕ} → recordRefusal sequenceOnly bs ≡ n → (n ≡ 0 → ⊥) → pathBasesBytesResponse bs start list room ≡ refused n
-  unfolding pathBasesBytesResponse
-  path-refused {n} e o = respond-refused _ room _ n (behind-refused sequenceOnly bs 9 _ e o) o
+  path-refused {n} e o = path-is ∙ respond-refused pathCauses room _ n (behind-refused sequenceOnly bs 9 _ e o) o
 
   module _ (z : recordRefusal sequenceOnly bs ≡ 0) where
     pub path-none : told ≡ none → pathBasesBytesResponse bs start list room ≡ refused 9
-    unfolding pathBasesBytesResponse
     path-none e = byTest (isPathOf (decode bs) start list)
         (λ t. no-some e (given-yes _ (pathBasesBytes (decode bs) start list) t))
-        (λ t. respond-refused _ room _ 9 (behind-present sequenceOnly bs 9 _ z (ap not t)) (λ q. omega arith))
+        (λ t. path-is ∙ respond-refused pathCauses room _ 9 (behind-present sequenceOnly bs 9 _ z (ap not t)) (λ q. omega arith))
 
     pub path-some : (s : List ℕ) → told ≡ some s → pathBasesBytesResponse bs start list room ≡ fits room s
-    unfolding pathBasesBytesResponse
     path-some s e =
         let y = given-some (isPathOf (decode bs) start list) (pathBasesBytes (decode bs) start list) s e in
-        respond-fits _ room _ (behind-absent sequenceOnly bs 9 _ z (ap not (y .0))) ∙ ap (fits room) (y .1)
+        path-is ∙ respond-fits pathCauses room _ (behind-numbered sequenceOnly bs 9 _ (omega arith)) (behind-absent sequenceOnly bs 9 _ z (ap not (y .0)))
+        ∙ ap (fits room) (y .1)
 
 -- ---- the two calls
 

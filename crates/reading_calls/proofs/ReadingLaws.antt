@@ -7,7 +7,7 @@ use lib.ListN.{length}
 use Rattle.defs.specs.Cleanup.{cleanNonRefPaths}
 use Rattle.defs.specs.Record.{sequenceGraph, encode, decode}
 use Rattle.defs.specs.Refusals.{sequenceOnly, recordCauses, recordRefusal}
-use Rattle.defs.specs.Calls.{refused, cleanNonRefPathsResponse, referencePathBytesResponse}
+use Rattle.defs.specs.Calls.{refused, cleanNonRefPathsCauses, cleanNonRefPathsResponse, referencePathBytesResponse}
 use Rattle.compact.specs.Compact.{Compactable}
 use Rattle.index.specs.Index.{Indexable}
 use Rattle.memory.specs.Memory.{graphOf, Holds}
@@ -28,6 +28,7 @@ use Rattle.calls.specs.Sending.{Sendable, Responds, GraphSendable, SendsGraph}
 use Rattle.calls.specs.declared.Sent.{Sent}
 use Rattle.calls.proofs.SendLaws.{held-sendable, responds-refused}
 use Rattle.calls.proofs.ResponseLaws.{respond-refused}
+use Rattle.calls.proofs.CauseLaws.{record-numbered}
 use Rattle.reading_calls.specs.Reading.{readingResponse, pathResponse, Answerable, Tellable, GraphAnswered, ReadAnswerable, ReadAnswered}
 use Rattle.reading_calls.specs.declared.ReadingCall.{ReadingCall}
 use Rattle.reading_calls.specs.declared.ReadingCall.the-variants.{CleanNonRefPaths, ReferencePathBytes, PathBasesBytes}
@@ -76,9 +77,10 @@ module _ {h : Held} {es vs p heads nexts nodes mp tried : List ℕ} (Q : Answera
 
 pub cleaned-answered : {h : Held} {es vs p : List ℕ} {c : Held} {es′ vs′ out out′ : List ℕ} {s : Sent} → Reduced cleanNonRefPaths h es vs c es′ vs′
     → SendsGraph 0 (read.Graph c) es′ vs′ p out s out′ → GraphAnswered cleanNonRefPathsResponse h es vs p out s out′
-unfolding cleanNonRefPathsResponse recordRefusal
+unfolding cleanNonRefPathsResponse cleanNonRefPathsCauses recordRefusal
 cleaned-answered {p = p} {es′ = es′} {vs′ = vs′} R S = record {
   is = λ bs z e. S .is (recordCauses sequenceOnly bs) (encode sequenceGraph 0 (cleanNonRefPaths (decode bs))) record {
+    numbered = record-numbered sequenceOnly bs;
     number = number-graph refl ∙ sym z;
     is = λ x q. ap (encode sequenceGraph 0)
         (subst (λ (y : Held). graphOf y es′ vs′ p ≡ cleanNonRefPaths (decode bs)) (same-held q) (R .is p ∙ ap cleanNonRefPaths e));
@@ -88,7 +90,7 @@ cleaned-answered {p = p} {es′ = es′} {vs′ = vs′} R S = record {
 
 -- a record that is refused is refused by every call
 clean-refused : (bs : List ℕ) (room : ℕ) {n : ℕ} → recordRefusal sequenceOnly bs ≡ n → (n ≡ 0 → ⊥) → cleanNonRefPathsResponse bs room ≡ refused n
-unfolding cleanNonRefPathsResponse recordRefusal
+unfolding cleanNonRefPathsResponse cleanNonRefPathsCauses recordRefusal
 clean-refused bs room {n} e o = respond-refused (recordCauses sequenceOnly bs) room _ n e o
 
 call-refused : (call : ReadingCall) (list bs : List ℕ) (room : ℕ) {n : ℕ} → recordRefusal sequenceOnly bs ≡ n → (n ≡ 0 → ⊥)

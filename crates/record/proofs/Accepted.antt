@@ -10,7 +10,7 @@ use lib.ListN.{length, take}
 use borrow.Author.Tests.{ltb-false, leb-true, leb-false, eqb-true, eq-eqb, not-false}
 use Rattle.defs.specs.Lists.{sameList}
 use Rattle.defs.specs.Record.{mark, kindOf, statusOf, kOf, verticesOf, edgesOf, bytesOf, u32At, edgeAt, flagAt}
-use Rattle.defs.specs.Refusals.{Takes, kmerOnly, sequenceOnly, bothKinds, refusalOf, recordCauses, takesKind, otherLength, wrongMark, pastLimit, badEdge}
+use Rattle.defs.specs.Refusals.{Takes, kmerOnly, sequenceOnly, bothKinds, refusalOf, layoutCauses, takesKind, otherLength, wrongMark, pastLimit, badEdge}
 use Rattle.laws.proofs.ListLaws.{or-false, sameList-eq}
 use Rattle.kmer.specs.declared.KmerSize.{KmerSize}
 use Rattle.record.specs.Layout.{otherKmerLength, GoodEdge, WellFormed, layoutOf}
@@ -74,16 +74,16 @@ unfolding otherLength
 stated-is bs h = eqb-true _ _ (not-false _ (or-false (ltb (length bs) 32) _ h .1))
 
 -- the kind is one that the call takes
-kind-taken : (t : Takes) (bs : List ℕ) → refusalOf (take 5 (recordCauses t bs)) ≡ 0 → takesKind t (kindOf bs) ≡ true
+kind-taken : (t : Takes) (bs : List ℕ) → refusalOf (layoutCauses t bs) ≡ 0 → takesKind t (kindOf bs) ≡ true
 kind-taken t bs h = not-false _ (mark-parts t bs (no-cause t bs h .1) .1)
 
-pub kmer-kind : (bs : List ℕ) → refusalOf (take 5 (recordCauses kmerOnly bs)) ≡ 0 → kindOf bs ≡ 0
+pub kmer-kind : (bs : List ℕ) → refusalOf (layoutCauses kmerOnly bs) ≡ 0 → kindOf bs ≡ 0
 kmer-kind bs h = eqb-true (kindOf bs) 0 (unfold takesKind in (kind-taken kmerOnly bs h))
 
-pub sequence-kind : (bs : List ℕ) → refusalOf (take 5 (recordCauses sequenceOnly bs)) ≡ 0 → kindOf bs ≡ 1
+pub sequence-kind : (bs : List ℕ) → refusalOf (layoutCauses sequenceOnly bs) ≡ 0 → kindOf bs ≡ 1
 sequence-kind bs h = eqb-true (kindOf bs) 1 (unfold takesKind in (kind-taken sequenceOnly bs h))
 
-pub well-formed : (t : Takes) (bs : List ℕ) → refusalOf (take 5 (recordCauses t bs)) ≡ 0 → WellFormed bs
+pub well-formed : (t : Takes) (bs : List ℕ) → refusalOf (layoutCauses t bs) ≡ 0 → WellFormed bs
 well-formed t bs h =
     let n = no-cause t bs h in
     record {
@@ -130,16 +130,16 @@ unfolding layoutOf number-in
 refused-n zero k e = let z : _≡_ {A = ℕ} 0 1 = cc in absurd (omega arith)
 refused-n (suc n) k {m} e = let q : m ≡ suc n = sym (ap number-in e) in (q, λ z. omega arith)
 
-module _ (t : Takes) (bs : List ℕ) {r : Layout} (e : r ≡ layoutOf (refusalOf (take 5 (recordCauses t bs))) (kOf bs)) where
+module _ (t : Takes) (bs : List ℕ) {r : Layout} (e : r ≡ layoutOf (refusalOf (layoutCauses t bs)) (kOf bs)) where
   -- a well formed record has none of the causes, and its k is the size that was made
-  pub formed-none : {k : KmerSize} → r ≡ Formed k → refusalOf (take 5 (recordCauses t bs)) ≡ 0
+  pub formed-none : {k : KmerSize} → r ≡ Formed k → refusalOf (layoutCauses t bs) ≡ 0
   formed-none f = formed-zero _ (kOf bs) (sym e ∙ f)
 
   pub formed-size : {k : KmerSize} → r ≡ Formed k → k .0 ≡ kOf bs
-  formed-size f = formed-k (refusalOf (take 5 (recordCauses t bs))) _ (sym e ∙ f)
+  formed-size f = formed-k (refusalOf (layoutCauses t bs)) _ (sym e ∙ f)
 
-  pub refused-number : {n : ℕ} → r ≡ Refused n → n ≡ refusalOf (take 5 (recordCauses t bs))
+  pub refused-number : {n : ℕ} → r ≡ Refused n → n ≡ refusalOf (layoutCauses t bs)
   refused-number f = refused-n _ (kOf bs) (sym e ∙ f) .0
 
   pub refused-some : {n : ℕ} → r ≡ Refused n → n ≡ 0 → ⊥
-  refused-some f = refused-n (refusalOf (take 5 (recordCauses t bs))) (kOf bs) (sym e ∙ f) .1
+  refused-some f = refused-n (refusalOf (layoutCauses t bs)) (kOf bs) (sym e ∙ f) .1

@@ -11,7 +11,7 @@ use borrow.Author.Tests.{lt-ltb, le-ltb, le-leb, lt-leb, eq-eqb, ne-eqb, ltb-fal
 use Rattle.defs.specs.Lists.{tabFrom, tab, sum, sameList, anyOf, upFrom}
 use Rattle.defs.specs.Record.{mark, kindOf, statusOf, kOf, verticesOf, edgesOf, bytesOf, u32At, lengthsAt, edgesAt, bytesAt, wholeLength}
 use Rattle.defs.specs.Record.{lengthAt, edgeAt, flagAt}
-use Rattle.defs.specs.Refusals.{Cause, Takes, refusalOf, recordCauses, takesKind, otherLength, wrongMark, pastLimit, layoutDisagrees, badEdge, anyBadEdge}
+use Rattle.defs.specs.Refusals.{Cause, Takes, refusalOf, layoutCauses, takesKind, otherLength, wrongMark, pastLimit, layoutDisagrees, badEdge, anyBadEdge}
 use Rattle.laws.proofs.ListLaws.{clash, or-false}
 use Rattle.tabs.proofs.Tabs.{take-tab}
 use Rattle.kmer.specs.Size.{kPastLimit}
@@ -291,40 +291,40 @@ unfolding refusalOf
 refusal-nil = refl
 
 module _ (t : Takes) (bs : List ℕ) where
-  first-five : refusalOf (take 5 (recordCauses t bs))
+  first-five : refusalOf (layoutCauses t bs)
       ≡ cond (otherLength bs) 1 (cond (wrongMark t bs) 2 (cond (pastLimit bs) 3 (cond (layoutDisagrees bs) 4 (cond (anyBadEdge bs) 5 0))))
-  unfolding recordCauses
+  unfolding layoutCauses
   first-five = simp (refusal-cons, refusal-nil)
 
   -- what the check gives for the number m
-  layout-as : (m : ℕ) → m ≡ refusalOf (take 5 (recordCauses t bs)) → layoutOf m (kOf bs) ≡ layoutOf (refusalOf (take 5 (recordCauses t bs))) (kOf bs)
+  layout-as : (m : ℕ) → m ≡ refusalOf (layoutCauses t bs) → layoutOf m (kOf bs) ≡ layoutOf (refusalOf (layoutCauses t bs)) (kOf bs)
   layout-as m e = ap (λ (n : ℕ). layoutOf n (kOf bs)) e
 
-  pub refusal-1 : otherLength bs ≡ true → Refused 1 ≡ layoutOf (refusalOf (take 5 (recordCauses t bs))) (kOf bs)
+  pub refusal-1 : otherLength bs ≡ true → Refused 1 ≡ layoutOf (refusalOf (layoutCauses t bs)) (kOf bs)
   unfolding layoutOf
   refusal-1 a = layout-as 1 (simp (first-five, a))
 
   module _ (a : otherLength bs ≡ false) where
-    pub refusal-2 : wrongMark t bs ≡ true → Refused 2 ≡ layoutOf (refusalOf (take 5 (recordCauses t bs))) (kOf bs)
+    pub refusal-2 : wrongMark t bs ≡ true → Refused 2 ≡ layoutOf (refusalOf (layoutCauses t bs)) (kOf bs)
     unfolding layoutOf
     refusal-2 b = layout-as 2 (simp (first-five, a, b))
 
     module _ (b : wrongMark t bs ≡ false) where
-      pub refusal-3 : pastLimit bs ≡ true → Refused 3 ≡ layoutOf (refusalOf (take 5 (recordCauses t bs))) (kOf bs)
+      pub refusal-3 : pastLimit bs ≡ true → Refused 3 ≡ layoutOf (refusalOf (layoutCauses t bs)) (kOf bs)
       unfolding layoutOf
       refusal-3 c = layout-as 3 (simp (first-five, a, b, c))
 
       module _ (c : pastLimit bs ≡ false) where
-        pub refusal-4 : layoutDisagrees bs ≡ true → Refused 4 ≡ layoutOf (refusalOf (take 5 (recordCauses t bs))) (kOf bs)
+        pub refusal-4 : layoutDisagrees bs ≡ true → Refused 4 ≡ layoutOf (refusalOf (layoutCauses t bs)) (kOf bs)
         unfolding layoutOf
         refusal-4 d = layout-as 4 (simp (first-five, a, b, c, d))
 
         module _ (d : layoutDisagrees bs ≡ false) where
-          pub refusal-5 : anyBadEdge bs ≡ true → Refused 5 ≡ layoutOf (refusalOf (take 5 (recordCauses t bs))) (kOf bs)
+          pub refusal-5 : anyBadEdge bs ≡ true → Refused 5 ≡ layoutOf (refusalOf (layoutCauses t bs)) (kOf bs)
           unfolding layoutOf
           refusal-5 e = layout-as 5 (simp (first-five, a, b, c, d, e))
 
-          pub accepted : {k : KmerSize} → k .0 ≡ kOf bs → anyBadEdge bs ≡ false → Formed k ≡ layoutOf (refusalOf (take 5 (recordCauses t bs))) (kOf bs)
+          pub accepted : {k : KmerSize} → k .0 ≡ kOf bs → anyBadEdge bs ≡ false → Formed k ≡ layoutOf (refusalOf (layoutCauses t bs)) (kOf bs)
           unfolding layoutOf
           accepted q e = (λ i. Formed record { 0 = q i }) ∙ layout-as 0 (simp (first-five, a, b, c, d, e))
 
@@ -333,7 +333,7 @@ module _ (t : Takes) (bs : List ℕ) where
   not-there false m n h e = (refl, e)
 
   -- an accepted record has none of the five causes
-  pub no-cause : refusalOf (take 5 (recordCauses t bs)) ≡ 0
+  pub no-cause : refusalOf (layoutCauses t bs) ≡ 0
       → (otherLength bs ≡ false) × (wrongMark t bs ≡ false) × (pastLimit bs ≡ false) × (layoutDisagrees bs ≡ false) × (anyBadEdge bs ≡ false)
   no-cause h =
       let a = not-there (otherLength bs) 1 _ (omega arith) (sym first-five ∙ h) in

@@ -4,7 +4,7 @@ ghost use Prim.Native.Nat.{_+_, _*_, _<_, _≤_};
 ghost use lib.ListN.{length, take};
 ghost use Rattle.defs.specs.Lists.{anyOf, upFrom, tab, sum, sameList};
 ghost use Rattle.defs.specs.Record.{mark, kOf, verticesOf, edgesOf, bytesOf, bytesAt, lengthAt, edgeStart, edgeAt, flagAt};
-ghost use Rattle.defs.specs.Refusals.{refusalOf, recordCauses, takesKind, otherLength, wrongMark, layoutDisagrees, badEdge, anyBadEdge};
+ghost use Rattle.defs.specs.Refusals.{refusalOf, layoutCauses, takesKind, otherLength, wrongMark, layoutDisagrees, badEdge, anyBadEdge};
 ghost use Rattle.kmer.specs.Size.{sizeOf};
 ghost use Rattle.record.specs.Kinds.{takesOf};
 ghost use Rattle.record.specs.Layout.{countPastLimit, otherKmerLength, offsetsDisagree, layoutOf};
@@ -287,7 +287,7 @@ fn any_bad_edge(rec: &[u8]) -> bool
 
 // The first of the refusals 1 to 5 whose cause the record has; where there is none, its k-mer size.
 pub fn check_layout(rec: &[u8], takes: Takes) -> Layout
-    ensures { λ r. ⌜ r ≡ layoutOf (refusalOf (take 5 (recordCauses (takesOf takes) (now (rec .entry))))) (kOf (now (rec .entry))) ⌝ }
+    ensures { λ r. ⌜ r ≡ layoutOf (refusalOf (layoutCauses (takesOf takes) (now (rec .entry)))) (kOf (now (rec .entry))) ⌝ }
 {
     if other_length(rec) {
         return Layout::Refused(1);

@@ -16,11 +16,11 @@ use Rattle.rewriting.specs.declared.RewritingCall.{RewritingCall}
 use Rattle.rewriting.specs.declared.RewritingCall.the-variants.{SimplifyGraph, CleanupSeqGraph}
 use Rattle.arrays.specs.Sized.{Lent}
 use Rattle.arrays.proofs.SizedLaws.{lent-sendable}
-use Rattle.defs.specs.Calls.{respond}
 use Rattle.calls.specs.Sending.{Responds, Makes, GraphSendable, SendsGraph}
 use Rattle.calls.specs.declared.Sent.{Sent}
 use Rattle.calls.proofs.ResponseLaws as response
-use Rattle.rewriting_calls.specs.Answered.{recordOf, CountedAs, RewritingAnswered}
+use Rattle.calls.proofs.CauseLaws.{record-numbered}
+use Rattle.rewriting_calls.specs.Answered.{recordOf, rewritingResponse, CountedAs, RewritingAnswered}
 
 status-small : (s : Status) → statusNumber s < 256
 unfolding statusNumber
@@ -45,6 +45,7 @@ module _ {call : RewritingCall} {bs heads nexts : List ℕ} {r : Rewritten} {es 
   makes : Makes (recordCauses sequenceOnly bs) (r .status) (recordOf (resultOf call (decode bs))) (r .read) es vs p
   unfolding recordRefusal
   makes = record {
+    numbered = record-numbered sequenceOnly bs;
     number = A .number;
     is = λ h ok. ap recordOf (A .is h ok);
     refused = A .refused;
@@ -54,7 +55,7 @@ module _ {call : RewritingCall} {bs heads nexts : List ℕ} {r : Rewritten} {es 
       → RewritingAnswered call bs out record { sent = s; status = r .status; rewrites = r .rewrites; rounds = r .rounds; end = r .end } out′
   rewritten-answered {out} {out′} {s} S = record { sent = sends; counted = λ z. byRead (r .read) (λ h ok. counts (A .is h ok)) (λ n f. absurd (none z f)) }
     where
-      sends : Responds (respond (recordCauses sequenceOnly bs) (length out) (recordOf (resultOf call (decode bs)))) out s out′
+      sends : Responds (rewritingResponse call bs (length out)) out s out′
       sends = S .is (recordCauses sequenceOnly bs) (recordOf (resultOf call (decode bs))) makes
 
       counts : {z z′ : Result} → z ≡ z′ → CountedAs z′ record { sent = s; status = z .status; rewrites = z .rewrites; rounds = z .rounds; end = z .end }

@@ -8,7 +8,7 @@ use Rattle.defs.specs.Calls.{Response, respond}
 use lib.ListN.{length}
 use Rattle.rewriting.specs.Rewriting.{Result, resultOf}
 use Rattle.rewriting.specs.declared.RewritingCall.{RewritingCall}
-use Rattle.calls.specs.Sending.{Responds}
+use Rattle.calls.specs.Sending.{withOutput, Responds}
 use Rattle.rewriting_calls.specs.declared.RewritingAnswer.{RewritingAnswer}
 
 -- the record of what the call makes of a record's graph, and the response with it
@@ -16,7 +16,8 @@ abbrev pub recordOf : Result → List ℕ
 recordOf z = encode sequenceGraph (z .status) (z .graph)
 
 abbrev pub rewritingResponse : RewritingCall → List ℕ → ℕ → Response
-rewritingResponse call bs room = respond (recordCauses sequenceOnly bs) room (recordOf (resultOf call (decode bs)))
+rewritingResponse call bs room =
+    respond (withOutput (recordCauses sequenceOnly bs) room (recordOf (resultOf call (decode bs)))) (recordOf (resultOf call (decode bs)))
 
 -- the numbers that the call counted are the result's
 pub record CountedAs (z : Result) (r : RewritingAnswer) : Type 0 where

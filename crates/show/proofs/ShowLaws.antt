@@ -10,8 +10,11 @@ use Rattle.defs.specs.SeqGraph as G
 use Rattle.defs.specs.Simplify as S
 use Rattle.defs.specs.Simplify.{simplifyGraphFull, minTailSuffixLen}
 use Rattle.defs.specs.Record.{sequenceGraph, encode, decode}
-use Rattle.defs.specs.Refusals.{refusalOf, sequenceOnly, recordRefusal}
-use Rattle.defs.specs.Calls.{Response, refused, accepted, fits}
+use Rattle.defs.specs.Lists.{allOf}
+use Rattle.defs.specs.Refusals.{refusalOf, sequenceOnly, layoutCauses, recordCauses, recordRefusal}
+use Rattle.laws.proofs.Causes.{CausesNumbered, numbers-above}
+use Rattle.defs.specs.Calls.{Response, refused, accepted}
+use Rattle.calls.specs.Sending.{fits}
 use Rattle.store.specs.Store.{Within}
 use Rattle.pool.specs.Pool.{bytesIn}
 use Rattle.memory.specs.Memory.{graphOf, Holds}
@@ -44,6 +47,10 @@ causes-long bs h = rw (lt-ltb 65536 (length bs) h, refusalOf)
 causes-record : (bs : List ℕ) → length bs ≤ 65536 → recordRefusal sequenceOnly bs ≡ refusalOf (inputCauses bs)
 unfolding inputCauses refusalOf recordRefusal
 causes-record bs h = rw (le-ltb 65536 (length bs) h, refusalOf)
+
+input-numbered : (bs : List ℕ) → CausesNumbered (inputCauses bs)
+unfolding inputCauses recordCauses layoutCauses allOf
+input-numbered bs = numbers-above (inputCauses bs) refl
 
 -- ---- the answer's text
 
@@ -156,7 +163,7 @@ shown-fitting : (bs : List ℕ) → refusalOf (inputCauses bs) ≡ 0
 unfolding shown
 shown-fitting bs q =
     sym (ap (λ (a : Response). printedAnswer a (answerFor bs))
-    (respond-fits (inputCauses bs) 65536 (encode sequenceGraph 0 (answerFor bs .graph)) q))
+    (respond-fits (inputCauses bs) 65536 (encode sequenceGraph 0 (answerFor bs .graph)) (input-numbered bs) q))
 
 put-shown : {bs text text′ : List ℕ} {r m : ℕ} {s : List ℕ} → s ≡ shown bs → m ≤ 344000 → 344000 ≤ length text → TextPut m s text 0 r text′
     → Shown bs text r text′

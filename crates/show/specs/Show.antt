@@ -4,13 +4,13 @@ use mathlib.Core.List.{List, _++_}
 use Prim.Native.Nat.{ℕ, _*_, _≤_}
 use lib.ListN.{length, drop}
 use Rattle.defs.specs.Record.{sequenceGraph, encode}
-use Rattle.defs.specs.Calls.{fits}
 use Rattle.store.specs.Store.{Within}
 use Rattle.pool.specs.Pool.{bytesIn}
 use Rattle.memory.specs.Memory.{graphOf}
 use Rattle.memory.specs.declared.Held.{Held}
 use Rattle.accept.specs.declared.Read.{Read}
 use Rattle.accept.specs.declared.Read.the-variants.{Graph, Refused}
+use Rattle.calls.specs.Sending.{fits}
 use Rattle.rewriting.specs.declared.Rewritten.{Rewritten}
 use Rattle.text.specs.Printed.{printedRefusal, printedAnswer, shown}
 use Rattle.graph_text.specs.GraphText.{simplifiedIn}

@@ -12,7 +12,8 @@ use Rattle.defs.specs.Strings.{Spells}
 use Rattle.defs.specs.Record.{sequenceGraph, encode, decode}
 use Rattle.defs.specs.Refusals.{Cause, sequenceOnly, recordCauses, recordRefusal}
 use Rattle.defs.specs.Calls as D
-use Rattle.defs.specs.Calls.{numberOf, simplifyGraphResponse, simplifyGraphAnswer}
+use Rattle.defs.specs.Calls.{numberOf, simplifyGraphCauses, simplifyGraphResponse, simplifyGraphAnswer}
+use Rattle.calls.specs.Sending.{withOutput}
 use Rattle.laws.proofs.Fuel.{Good}
 use Rattle.laws.proofs.Measures.{weight}
 use Rattle.laws.proofs.Bound.{simplify-bound}
@@ -43,11 +44,11 @@ module _ {bs out : List ℕ} {t : Tally} {r : RewritingAnswer} {a : SimplifyAnsw
   result = encode sequenceGraph 0 (z .graph)
 
   answer-is : simplifyAnswerOf a ≡ simplifyGraphAnswer bs (length out) (tallyOf t)
-  unfolding simplifyGraphAnswer simplifyGraphResponse resultOf
-  answer-is = T .is causes (length out) result z (A .sent .number) (A .sent .size) (λ i. let c = A .counted i in (c .rewrites, (c .rounds, c .end)))
+  unfolding simplifyGraphAnswer simplifyGraphResponse simplifyGraphCauses resultOf
+  answer-is = T .is (withOutput causes (length out) result) result z (A .sent .number) (A .sent .size) (λ i. let c = A .counted i in (c .rewrites, (c .rounds, c .end)))
 
   pub simplifies : Simplifies bs out t a out′
-  unfolding simplifyGraphAnswer simplifyGraphResponse resultOf recordRefusal weight
+  unfolding simplifyGraphAnswer simplifyGraphResponse simplifyGraphCauses resultOf recordRefusal weight
   simplifies = record {
     answer = answer-is;
     written = A .sent .written;

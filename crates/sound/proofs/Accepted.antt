@@ -3,18 +3,19 @@
 use mathlib.Core.Path.{_≡_, refl, sym, ap, _∙_}
 use mathlib.Core.Logic.{_⊎_, inl, inr, ⊎-elim}
 use mathlib.Core.Bool.{Bool, true, false, cond, _||_}
-use mathlib.Core.List.{List, [], _∷_, _++_, List·Memᴰ, List·Memᴰ·not-nil, List·Memᴰ·cases-cons}
+use mathlib.Core.List.{List, [], _∷_, _++_}
 use Prim.Native.Nat.{ℕ, zero, suc, _+_, _≤_, _<_}
 use native.Mathlib.Omega.{arith}
 use native.Mathlib.Decide.{ℕ-discrete}
 use lib.Dec.{eqb}
-use lib.ListN.{length, getD, take}
+use lib.ListN.{length, getD}
 use borrow.Author.Tests.{eqb-true, eq-eqb}
-use Rattle.defs.specs.Lists.{anyOf, sameList, tab, sum}
+use Rattle.defs.specs.Lists.{anyOf, allOf, sameList, tab, sum}
 use Rattle.defs.specs.SeqGraph.{Edge, Graph, nodeCount, vertexSequence, hasEnds}
 use Rattle.defs.specs.Simplify.{sequenceBytes}
 use Rattle.defs.specs.Record.{kindOf, verticesOf, edgesOf, bytesOf, lengthAt, sequenceAt, edgeAt, decode}
-use Rattle.defs.specs.Refusals.{Cause, refusalOf, Takes, doubledEdge, equalKmers, doubled, hasCycle, recordCauses, recordRefusal}
+use Rattle.defs.specs.Refusals.{Cause, refusalOf, Takes, doubledEdge, equalKmers, doubled, hasCycle}
+use Rattle.defs.specs.Refusals.{layoutCauses, doubledCause, cycleCause, recordCauses, recordRefusal}
 use Rattle.laws.proofs.Walks.{byTest}
 use Rattle.laws.proofs.ListLaws.{clash, and-split, and-true, or-cases, sameList-eq, sameList-refl, or-false, or-right}
 use Rattle.laws.proofs.Edges.{joins-ends}
@@ -23,6 +24,7 @@ use Rattle.laws.proofs.Nets.{Bounded}
 use Rattle.laws.proofs.Cycles.{Closed, anyOf-mem, rounds}
 use Rattle.laws.proofs.Fuel.{Good}
 use Rattle.laws.proofs.Room.{Limits}
+use Rattle.laws.proofs.Causes.{CausesNumbered, numbers-above, numbers-within, refusal-later, refusal-earlier}
 use Rattle.tabs.proofs.Tabs.{length-tab, tab-ext}
 use Rattle.tabs.proofs.ListTabs.{of-mem-tab}
 use Rattle.tabs.proofs.SumTabs.{map-tab, bytes-sum}
@@ -31,49 +33,28 @@ use Rattle.record.proofs.Accepted.{well-formed}
 use Rattle.record.proofs.Sequences.{length-sequence}
 use Rattle.cycle.proofs.CycleLaws.{cycle-closed, closed-cycle, no-cycle-ranked}
 use Rattle.sound.specs.Alike.{noEdge, SameEnds, SameKmers}
-use Rattle.sound.proofs.Causes.{CausesNumbered, refusal-later, refusal-earlier, refusal-most}
 use Rattle.sound.proofs.Pairs.{pair-of, of-pair}
 
 -- ---- the causes 6 and 7 behind the five of the layout
 
 module _ (t : Takes) (bs : List ℕ) where
   abbrev layout : List Cause
-  layout = take 5 (recordCauses t bs)
+  layout = layoutCauses t bs
 
   abbrev rest : List Cause
-  rest = record { number = 6; present = doubled bs } ∷ record { number = 7; present = hasCycle (decode bs) } ∷ []
+  rest = doubledCause bs ∷ cycleCause bs ∷ []
 
   refusal-is : recordRefusal t bs ≡ refusalOf (layout ++ rest)
   unfolding recordRefusal recordCauses
   refusal-is = refl
 
-  layout-numbers : (c : Cause) → List·Memᴰ c layout → (0 < c .number) × (c .number ≤ 5)
-  unfolding recordCauses
-  layout-numbers x m = five _ _ _ _ _ m
-    where
-      here : {d : Cause} (n : ℕ) → d .number ≡ n → 0 < n → n ≤ 5 → x ≡ d → (0 < x .number) × (x .number ≤ 5)
-      here n p l u q = let e = ap (λ (c : Cause). c .number) q in (omega arith, omega arith)
-
-      five : (a b c d e : Bool)
-          → List·Memᴰ x (record { number = 1; present = a } ∷ record { number = 2; present = b } ∷ record { number = 3; present = c }
-          ∷ record { number = 4; present = d } ∷ record { number = 5; present = e } ∷ [])
-          → (0 < x .number) × (x .number ≤ 5)
-      five a b c d e m0 =
-          ⊎-elim (here 1 refl (omega arith) (omega arith)) (λ m1.
-          ⊎-elim (here 2 refl (omega arith) (omega arith)) (λ m2.
-          ⊎-elim (here 3 refl (omega arith) (omega arith)) (λ m3.
-          ⊎-elim (here 4 refl (omega arith) (omega arith)) (λ m4.
-          ⊎-elim (here 5 refl (omega arith) (omega arith)) (λ m5. absurd (List·Memᴰ·not-nil m5)) (List·Memᴰ·cases-cons m4))
-          (List·Memᴰ·cases-cons m3))
-          (List·Memᴰ·cases-cons m2))
-          (List·Memᴰ·cases-cons m1))
-          (List·Memᴰ·cases-cons m0)
-
-  layout-numbered : CausesNumbered layout
-  layout-numbered = record { at = λ c m. layout-numbers c m .0 }
+  pub layout-numbered : CausesNumbered layout
+  unfolding layoutCauses allOf
+  layout-numbered = numbers-above layout refl
 
   layout-most : refusalOf layout ≤ 5
-  layout-most = refusal-most 5 layout (λ c m. layout-numbers c m .1)
+  unfolding layoutCauses allOf
+  layout-most = numbers-within 5 layout refl
 
   rest-is : refusalOf rest ≡ cond (doubled bs) 6 (cond (hasCycle (decode bs)) 7 0)
   unfolding refusalOf
@@ -224,7 +205,7 @@ module _ (t : Takes) (bs : List ℕ) where
   number-clash p q ne = absurd (ne (sym p ∙ q))
 
   -- of the causes 1 to 5 none is present
-  pub accepted-early : recordRefusal t bs ≡ 0 → refusalOf (take 5 (recordCauses t bs)) ≡ 0
+  pub accepted-early : recordRefusal t bs ≡ 0 → refusalOf (layoutCauses t bs) ≡ 0
   accepted-early z = by-refusal t bs (λ l u r. absurd (omega arith)) (λ a d r. a) (λ a d c r. a) (λ a d c r. a)
 
   pub accepted-layout : recordRefusal t bs ≡ 0 → WellFormed bs
@@ -248,7 +229,7 @@ module _ (t : Takes) (bs : List ℕ) where
       (λ a d c r. number-clash z r (λ q. omega arith))
       (λ a d c r. number-clash z r (λ q. omega arith))
 
-  pub means-six : refusalOf (take 5 (recordCauses t bs)) ≡ 0 → SameEnds (decode bs) ⊎ ((kindOf bs ≡ 0) × SameKmers (decode bs)) → recordRefusal t bs ≡ 6
+  pub means-six : refusalOf (layoutCauses t bs) ≡ 0 → SameEnds (decode bs) ⊎ ((kindOf bs ≡ 0) × SameKmers (decode bs)) → recordRefusal t bs ≡ 6
   means-six z s = refused-6 t bs z (means-doubled bs s)
 
   pub seven-means : recordRefusal t bs ≡ 7 → Closed (decode bs)
@@ -258,7 +239,7 @@ module _ (t : Takes) (bs : List ℕ) where
       (λ a d c r. cycle-closed (decode bs) c)
       (λ a d c r. number-clash z r (λ q. omega arith))
 
-  pub means-seven : refusalOf (take 5 (recordCauses t bs)) ≡ 0 → (SameEnds (decode bs) ⊎ ((kindOf bs ≡ 0) × SameKmers (decode bs)) → ⊥)
+  pub means-seven : refusalOf (layoutCauses t bs) ≡ 0 → (SameEnds (decode bs) ⊎ ((kindOf bs ≡ 0) × SameKmers (decode bs)) → ⊥)
       → Closed (decode bs) → recordRefusal t bs ≡ 7
   means-seven z none c =
       refused-7 t bs z

@@ -1,4 +1,3 @@
 pub mod Pairs
-pub mod Causes
 pub mod Accepted
 pub mod Measured

@@ -11,7 +11,7 @@ use Rattle.defs.specs.Simplify.{sequenceBytes}
 use Rattle.defs.specs.Paths.{isPathOf, pathBasesBytes, referencePathBytes}
 use Rattle.defs.specs.Record.{decode}
 use Rattle.defs.specs.Refusals.{sequenceOnly, recordRefusal}
-use Rattle.defs.specs.Calls.{Response, refused, numberOf, fits, referencePathBytesResponse, pathBasesBytesResponse}
+use Rattle.defs.specs.Calls.{Response, refused, numberOf, referencePathBytesResponse, pathBasesBytesResponse}
 use Rattle.laws.proofs.ListLaws.{given-some}
 use Rattle.laws.proofs.Whole.{byOption}
 use Rattle.record.proofs.Accepted.{sequence-kind}
@@ -19,7 +19,7 @@ use Rattle.sound.proofs.Accepted.{accepted-early, accepted-good, accepted-limit
 use Rattle.reread.proofs.Read.{record-most}
 use Rattle.defs.specs.Calls as D
 use Rattle.calls.specs.Answers.{tallyOf, answerOf, Tallies}
-use Rattle.calls.specs.Sending.{Responds}
+use Rattle.calls.specs.Sending.{fits, Responds}
 use Rattle.calls.specs.declared.Sent.{Sent}
 use Rattle.calls.specs.declared.Tally.{Tally}
 use Rattle.calls.specs.declared.Answer.{Answer}
@@ -71,9 +71,9 @@ module _ (bs list : List ℕ) {out : List ℕ} {t : Tally} {s : Sent} {a : Answe
   pub reference-tells : Responds (readingResponse ReferencePathBytes list bs (length out)) out s out′
       → TellsBytes (referencePathBytesResponse bs (length out)) out t a out′
   unfolding readingResponse referencePathBytesResponse
-  reference-tells S = tells-bytes (T .is _ (length out) _ (S .number) (S .size)) S (reference-room bs (length out))
+  reference-tells S = tells-bytes (T .is _ _ (S .number) (S .size)) S (reference-room bs (length out))
 
   pub path-tells : (start : ℕ) → Responds (readingResponse (PathBasesBytes start) list bs (length out)) out s out′
       → TellsBytes (pathBasesBytesResponse bs start list (length out)) out t a out′
   unfolding readingResponse pathResponse pathBasesBytesResponse
-  path-tells start S = tells-bytes (T .is _ (length out) _ (S .number) (S .size)) S (path-room bs start list (length out))
+  path-tells start S = tells-bytes (T .is _ _ (S .number) (S .size)) S (path-room bs start list (length out))

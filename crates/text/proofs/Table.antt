@@ -17,9 +17,9 @@ use Rattle.text.specs.Examples.{inputs, texts}
 -- every definition that the program's text is computed with is opened
 pub shown-examples : map shown inputs ≡ texts
 unfolding P.ascii P.digit P.decimalBy P.decimal P.signed P.field P.isLetter P.printedByte P.printedSequence P.surplus P.firstLine P.endName
-    P.secondLine P.vertexLine P.edgeLine P.printedGraph P.printedRefusal P.printedAnswer P.inputCauses P.shown A.fits A.respondTo A.respond F.refusalOf
+    P.secondLine P.vertexLine P.edgeLine P.printedGraph P.printedRefusal P.printedAnswer P.inputCauses P.shown A.outputShort A.respondTo A.respond F.refusalOf
     F.otherLength F.takesKind F.wrongMark F.pastLimit F.layoutDisagrees F.badEdge F.anyBadEdge F.doubledEdge F.equalKmers F.doubled
-    F.hasCycle F.recordCauses F.recordRefusal R.le16 R.le32 R.u16At R.u32At R.recordKindNumber R.edgesAt R.bytesAt R.wholeLength
+    F.hasCycle F.layoutCauses F.recordCauses F.recordRefusal R.le16 R.le32 R.u16At R.u32At R.recordKindNumber R.edgesAt R.bytesAt R.wholeLength
     R.flagOf R.encodeEdge R.encodeHeader R.encode R.lengthAt R.sequenceStart R.sequenceAt R.edgeStart R.flagAt R.edgeAt R.decode C.forward C.grow
     C.reached L.tabFrom L.sum L.keepIf L.anyOf L.allOf L.headOr L.concat L.keepAt L.given L.bit L.rank L.elemOf L.upFrom L.firstOf
     L.sameList L.commonPrefix₂ L.commonPrefixBy L.commonPrefix L.commonSuffix G.nodeCount G.vertexSequence G.edgesFrom G.edgesInto

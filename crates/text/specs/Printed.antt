@@ -11,9 +11,9 @@ use lib.ListN.{length}
 use Rattle.defs.specs.Lists.{concat, tab}
 use Rattle.defs.specs.SeqGraph.{Edge, nodeCount, vertexSequence}
 use Rattle.defs.specs.Simplify.{sequenceBytes, End, quiet, repeated, full, Simplified, simplifyGraphFull, minTailSuffixLen}
-use Rattle.defs.specs.Record.{sequenceGraph, encode, decode}
+use Rattle.defs.specs.Record.{decode}
 use Rattle.defs.specs.Refusals.{Cause, sequenceOnly, recordCauses}
-use Rattle.defs.specs.Calls.{Response, refused, accepted, respond}
+use Rattle.defs.specs.Calls.{Response, refused, accepted, outputShort, respond, simplifiedRecord}
 
 -- the bytes of an ASCII text
 unfoldable pub ascii : String → List ℕ
@@ -98,5 +98,4 @@ inputCauses bs = record { number = 1; present = ltb 65536 (length bs) } ∷ reco
 -- What the program writes of its standard input. An answer record over 65,536 bytes counts as 11.
 unfoldable pub shown : List ℕ → List ℕ
 shown bs =
-    let s = simplifyGraphFull minTailSuffixLen (decode bs) in
-    printedAnswer (respond (inputCauses bs) 65536 (encode sequenceGraph 0 (s .graph))) s
+    printedAnswer (respond (inputCauses bs ++ (outputShort 65536 (simplifiedRecord bs) ∷ [])) (simplifiedRecord bs)) (simplifyGraphFull minTailSuffixLen (decode bs))

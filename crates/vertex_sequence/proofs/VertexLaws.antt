@@ -1,17 +1,17 @@
 -- A record of either kind is checked; a vertex's part of it is handed back. Assumes nothing.
-use mathlib.Core.Path.{_≡_, refl, sym, ap, _∙_}
+use mathlib.Core.Path.{_≡_, refl, sym, _∙_}
 use mathlib.Core.Bool.{Bool, true, false, cond, _&&_, _||_}
 use mathlib.Core.List.{List, []}
-use Prim.Native.Nat.{ℕ, zero, suc, _+_, _*_, _≤_, _<_}
+use Prim.Native.Nat.{ℕ, zero, suc, _+_, _≤_, _<_}
 use native.Mathlib.Omega.{arith}
 use native.Mathlib.Decide.{ℕ-discrete}
-use lib.ListN.{length, getD, take, drop}
-use lib.Dec.{eqb, leb}
-use borrow.Author.Tests.{eq-eqb, ne-eqb, eqb-true, le-leb, lt-leb}
-use Rattle.defs.specs.SeqGraph.{Graph, vertexSequence}
-use Rattle.defs.specs.Record.{kindOf, kOf, verticesOf, edgesOf, bytesOf, lengthAt, sequenceStart, sequenceAt, decode}
-use Rattle.defs.specs.Refusals.{bothKinds, refusalOf, recordCauses, recordRefusal, doubledEdge, equalKmers, doubled, hasCycle}
-use Rattle.defs.specs.Calls.{vertexSequenceNumber, vertexSequencePart}
+use lib.ListN.{length, take, drop}
+use lib.Dec.{eqb}
+use borrow.Author.Tests.{eq-eqb, ne-eqb, le-leb, lt-leb}
+use Rattle.defs.specs.SeqGraph.{vertexSequence}
+use Rattle.defs.specs.Record.{kindOf, kOf, verticesOf, bytesOf, lengthAt, sequenceStart, decode}
+use Rattle.defs.specs.Refusals.{bothKinds, refusalOf, layoutCauses, recordRefusal, doubledEdge, equalKmers, doubled, hasCycle}
+use Rattle.defs.specs.Calls.{vertexSequenceCauses, vertexSequenceNumber, vertexSequencePart}
 use Rattle.laws.proofs.Walks.{byTest}
 use Rattle.laws.proofs.ListLaws.{byOrder}
 use Rattle.record.specs.Kinds.{takesOf}
@@ -23,10 +23,9 @@ use Rattle.record.specs.declared.Layout.the-variants.{Formed, Refused}
 use Rattle.record.proofs.Accepted.{well-formed, formed-none, formed-size, refused-number, refused-some}
 use Rattle.record.proofs.Fields.{sequenceAt-is}
 use Rattle.record.proofs.Sequences.{vertex-is, sequence-inside, length-is}
-use Rattle.store.specs.Store.{edgesIn, seqsIn, graphIn}
+use Rattle.store.specs.Store.{edgesIn, seqsIn}
 use Rattle.index.specs.Index.{Indexed, Indexable}
-use Rattle.doubled.specs.Doubled.{Markable}
-use Rattle.cycle.specs.Peel.{Peelable, HasCycle}
+use Rattle.cycle.specs.Peel.{HasCycle}
 use Rattle.memory.specs.declared.Held.{Held}
 use Rattle.load.specs.Loaded.{Loadable, Loaded}
 use Rattle.sound.proofs.Accepted.{refused-early, refused-6, refused-7, accepted, accepted-layout}
@@ -36,7 +35,6 @@ use Rattle.read_kmers.proofs.KmerLaws.{kmer-bytes-most}
 use Rattle.calls.proofs.CauseLaws.{behind-refused, behind-present, behind-absent}
 use Rattle.vertex_sequence.specs.Checks.{RoomToReadEither, Checkable, Checks}
 use Rattle.vertex_sequence.specs.Handed.{Handed, Placed}
-use Rattle.vertex_sequence.specs.declared.SequencePlace.{SequencePlace}
 
 -- ---- the checks behind the layout
 
@@ -97,26 +95,26 @@ module _ (bs : List ℕ) where
       nexts-room = omega (arith, Z .nexts-is, W .edges);
       order-room = omega (arith, Z .order-is, W .vertices);
       scratch-room = omega (arith, Z .scratch-is, W .vertices);
-      place-room = omega (arith, Z .place-is, W .vertices);
     };
+    place-room = λ W. omega (arith, Z .place-is, W .vertices);
   }
 
   -- the layout that was checked
-  module _ {r : Layout} (e : r ≡ layoutOf (refusalOf (take 5 (recordCauses (takesOf BothKinds) bs))) (kOf bs)) where
+  module _ {r : Layout} (e : r ≡ layoutOf (refusalOf (layoutCauses (takesOf BothKinds) bs)) (kOf bs)) where
     pub number-early : {n : ℕ} → r ≡ Refused n → n ≡ recordRefusal bothKinds bs
     unfolding takesOf
     number-early {n} f =
         sym (refused-early bothKinds bs (sym (refused-number bothKinds bs e f))
         (byOrder 1 n (λ b. b) (λ b. absurd (refused-some bothKinds bs e f (omega arith)))))
 
-    pub layout-none : {k : KmerSize} → r ≡ Formed k → refusalOf (take 5 (recordCauses bothKinds bs)) ≡ 0
+    pub layout-none : {k : KmerSize} → r ≡ Formed k → refusalOf (layoutCauses bothKinds bs) ≡ 0
     unfolding takesOf
     layout-none f = formed-none bothKinds bs e f
 
     pub layout-size : {k : KmerSize} → r ≡ Formed k → k .0 ≡ kOf bs
     layout-size f = formed-size (takesOf BothKinds) bs e f
 
-  module _ (layout : refusalOf (take 5 (recordCauses bothKinds bs)) ≡ 0) where
+  module _ (layout : refusalOf (layoutCauses bothKinds bs) ≡ 0) where
     formed : WellFormed bs
     formed = well-formed bothKinds bs layout
 
@@ -124,7 +122,7 @@ module _ (bs : List ℕ) where
     long-enough = omega (arith, length-is bs formed)
 
     module _ {es vs p heads nexts order scratch place : List ℕ} (Y : RoomToReadEither bs es vs p heads nexts order scratch place) where
-      R : KmerRoom bs es vs p heads nexts order scratch place
+      R : KmerRoom bs es vs p heads nexts order scratch
       R = Y .room formed
 
       pub number-loadable : Loadable bs es vs p
@@ -153,7 +151,7 @@ module _ (bs : List ℕ) where
           };
           peelable = record {
             degrees-room = omega (arith, L .n, R .scratch-room);
-            queue-room = omega (arith, L .n, R .place-room);
+            queue-room = omega (arith, L .n, Y .place-room formed);
             small =
                 omega (arith, L .n, formed .vertices);
           };
@@ -180,16 +178,16 @@ module _ (bs : List ℕ) where
 
 module _ (bs : List ℕ) (v : ℕ) where
   pub vertex-refused : {r : ℕ} → r ≡ recordRefusal bothKinds bs → (r ≡ 0 → ⊥) → r ≡ vertexSequenceNumber bs v
-  unfolding vertexSequenceNumber
+  unfolding vertexSequenceNumber vertexSequenceCauses
   vertex-refused e o = sym (behind-refused bothKinds bs 9 _ (sym e) o)
 
   module _ (z : recordRefusal bothKinds bs ≡ 0) where
     pub vertex-9 : verticesOf bs ≤ v → 9 ≡ vertexSequenceNumber bs v
-    unfolding vertexSequenceNumber
+    unfolding vertexSequenceNumber vertexSequenceCauses
     vertex-9 l = sym (behind-present bothKinds bs 9 _ z (le-leb (verticesOf bs) v l))
 
     pub vertex-0 : v < verticesOf bs → 0 ≡ vertexSequenceNumber bs v
-    unfolding vertexSequenceNumber
+    unfolding vertexSequenceNumber vertexSequenceCauses
     vertex-0 l = sym (behind-absent bothKinds bs 9 _ z (lt-leb (verticesOf bs) v l))
 
   -- an accepted call's record and vertex
