@@ -1,57 +1,50 @@
 -- The promise of from_assembly_graph. Assumes nothing.
-use mathlib.Core.Path.{_≡_, refl, sym, ap, _∙_}
-use mathlib.Core.Bool.{Bool}
+use mathlib.Core.Path.{_≡_, refl, sym, ap, _∙_, subst}
 use mathlib.Core.List.{List}
 use Prim.Native.Nat.{ℕ, _≤_}
 use native.Mathlib.Omega.{arith}
-use native.Mathlib.Decide.{ℕ-discrete}
-use lib.Dec.{ltb}
-use lib.ListN.{length}
-use Rattle.defs.specs.SeqGraph.{Graph, nodeCount}
+use lib.ListN.{length, take}
+use Rattle.defs.specs.Lists.{allOf}
+use Rattle.defs.specs.SeqGraph.{Graph}
 use Rattle.defs.specs.Calls as D
 use Rattle.defs.specs.Calls.{numberOf, conversionCauses}
-use Rattle.defs.specs.Calls.{fromAssemblyGraphResponse, fromAssemblyGraphAnswer}
+use Rattle.defs.specs.Calls.{fromAssemblyGraphCauses, fromAssemblyGraphResponse, fromAssemblyGraphAnswer}
 use Rattle.defs.specs.Record.{kindOf, verticesOf, edgesOf, bytesOf, sequenceGraph, encode, decode}
-use Rattle.defs.specs.Refusals.{kmerOnly, refusalOf, recordRefusal}
-use Rattle.defs.specs.Assembly.{additionalSequence, edgesSorted, fromAssemblyGraph}
+use Rattle.defs.specs.Refusals.{refusalOf, layoutCauses}
+use Rattle.defs.specs.Assembly.{edgesSorted, fromAssemblyGraph, SourcesHoldKmers, RunsAreKmers}
 use Rattle.defs.specs.Simplify.{sequenceBytes}
-use Rattle.laws.proofs.Walks.{byTest}
 use Rattle.laws.proofs.Fuel.{Good}
-use Rattle.tabs.proofs.Tabs.{length-tab}
+use Rattle.laws.proofs.Causes.{numbers-other}
 use Rattle.record.specs.Layout.{WellFormed}
 use Rattle.record.proofs.Sequences.{length-is}
 use Rattle.reread.specs.Reread.{ReacceptedAs}
 use Rattle.reread.specs.Recordable.{SequenceInput, KmerInput}
 use Rattle.reread.proofs.Graphs.{input-reaccepted}
-use Rattle.reread.proofs.Read.{Bytes, record-most, kmer-input}
+use Rattle.reread.proofs.Read.{Bytes, kmer-input}
 use Rattle.convert.proofs.SortLaws.{of-sort, length-sort, single-sort}
 use Rattle.calls.specs.Answers.{tallyOf, answerOf, Tallies}
-use Rattle.calls.specs.Sending.{Responds, GraphSendable, SendsGraph}
+use Rattle.calls.specs.Sending.{withOutput, Responds, GraphSendable, SendsGraph}
 use Rattle.calls.specs.declared.Tally.{Tally}
 use Rattle.calls.specs.declared.Answer.{Answer}
 use Rattle.calls.specs.declared.Sent.{Sent}
 use Rattle.calls.proofs.ResponseLaws.{answered-holds, room-enough}
-use Rattle.calls.proofs.CauseLaws.{behind-refused, behind-present, behind-absent}
+use Rattle.overlap.proofs.Runs.{order-converted, sources-hold-kmers, runs-are-kmers}
 use Rattle.read_kmers.proofs.KmerLaws.{kmer-bytes-least, kmer-bytes-most}
 use Rattle.from_kmers.specs.Conversion.{RoomToConvert, ConvertedAs}
 use Rattle.accept.specs.declared.Read.{Read}
-use Rattle.from_kmers.proofs.ConversionLaws.{none-early, none-late}
+use Rattle.from_kmers.proofs.ConversionLaws.{conversion-numbered, none-early, none-late, all-overlap}
 use Rattle.from_assembly_graph.specs.Converts.{Converts, SizedToConvert}
 
 -- ---- the converted graph is within the limits of input
 
 module _ (g : Graph) where
-  same-vertices : nodeCount (fromAssemblyGraph g) ≡ nodeCount g
-  unfolding fromAssemblyGraph nodeCount
-  same-vertices = length-tab (nodeCount g) (additionalSequence g)
-
   converted-good : Good g → Good (fromAssemblyGraph g)
   unfolding fromAssemblyGraph edgesSorted
   converted-good (s, o) = (
     record {
       bounded = λ e m.
           let b = s .bounded e (of-sort g (g .edges) e m) in
-          (omega (arith, same-vertices, b .0), omega (arith, same-vertices, b .1));
+          (omega (arith, order-converted g, b .0), omega (arith, order-converted g, b .1));
       rank = s .rank;
       ranks = λ a b l. s .ranks a b (l .0, of-sort g (g .edges) (l .0) (l .1), l .2, l .3);
     },
@@ -64,7 +57,7 @@ module _ (g : Graph) where
     good = converted-good (I .good);
     k-least = I .k-least;
     k-most = I .k-most;
-    vertices = omega (arith, same-vertices, I .vertices);
+    vertices = omega (arith, order-converted g, I .vertices);
     edges = omega (arith, length-sort g (g .edges), I .edges);
     bytes = few;
     supports = λ e m. I .supports e (of-sort g (g .edges) e m);
@@ -78,15 +71,15 @@ convert-reaccepted bs small none =
     (omega arith)
 
 never-11 : (bs : List ℕ) → refusalOf (conversionCauses bs) ≡ 11 → ⊥
-unfolding conversionCauses
-never-11 bs e =
-    let over : Bool = ltb 8192 (sequenceBytes ((fromAssemblyGraph (decode bs)) .verts)) in
-    elim (ℕ-discrete (recordRefusal kmerOnly bs) 0) [
-      | no ne ↦ omega (arith, e, record-most kmerOnly bs, behind-refused kmerOnly bs 8 over refl ne)
-      | yes z ↦ byTest over
-          (λ t. omega (arith, e, behind-present kmerOnly bs 8 over z t))
-          (λ t. omega (arith, e, behind-absent kmerOnly bs 8 over z t))
-    ]
+unfolding conversionCauses layoutCauses allOf
+never-11 bs e = numbers-other 11 (conversionCauses bs) (omega arith) refl e
+
+-- ---- what it keeps of the k-mers
+
+convert-runs : (bs : List ℕ) → Bytes bs → refusalOf (conversionCauses bs) ≡ 0 → RunsAreKmers (decode bs) (fromAssemblyGraph (decode bs))
+convert-runs bs small none =
+    let I = kmer-input bs small (none-early bs none) in
+    runs-are-kmers (decode bs) (I .kmers .sizes) (all-overlap bs none) (omega (arith, I .k-least))
 
 -- ---- what is sent
 
@@ -99,31 +92,38 @@ module _ {bs : List ℕ} {r : Read} {sorted vs p : List ℕ} (C : ConvertedAs bs
 
   pub converted-sent : {out out′ : List ℕ} {s : Sent} → SendsGraph 0 r sorted vs p out s out′
       → Responds (fromAssemblyGraphResponse bs (length out)) out s out′
-  unfolding fromAssemblyGraphResponse
+  unfolding fromAssemblyGraphResponse fromAssemblyGraphCauses
   converted-sent S = S .is (conversionCauses bs) (result bs)
-      record { number = C .number; is = λ h ok. ap (encode sequenceGraph 0) (C .is h ok); refused = C .refused }
+      record { numbered = conversion-numbered bs; number = C .number; is = λ h ok. ap (encode sequenceGraph 0) (C .is h ok); refused = C .refused }
 
 -- ---- the whole call
 
 module _ (bs : List ℕ) {out : List ℕ} {t : Tally} {s : Sent} {a : Answer} {out′ : List ℕ} (small : Bytes bs)
     (S : Responds (fromAssemblyGraphResponse bs (length out)) out s out′) (T : Tallies s t a) where
   answer-is : answerOf a ≡ fromAssemblyGraphAnswer bs (length out) (tallyOf t)
-  unfolding fromAssemblyGraphAnswer fromAssemblyGraphResponse
-  answer-is = T .is (conversionCauses bs) (length out) (result bs) (S .number) (S .size)
+  unfolding fromAssemblyGraphAnswer fromAssemblyGraphResponse fromAssemblyGraphCauses
+  answer-is = T .is (withOutput (conversionCauses bs) (length out) (result bs)) (result bs) (S .number) (S .size)
 
   pub converts : Converts bs out t a out′
-  unfolding fromAssemblyGraphAnswer fromAssemblyGraphResponse D.answer
+  unfolding fromAssemblyGraphAnswer fromAssemblyGraphResponse fromAssemblyGraphCauses D.answer
   converts = record {
     answer = answer-is;
     written = S .written;
-    room = λ l i. room-enough (conversionCauses bs) out (result bs) 49184 (never-11 bs)
-        (λ ok. (convert-reaccepted bs small ok) .size) l (sym number-is ∙ i);
-    reaccepted = answered-holds (conversionCauses bs) out (result bs) (ReacceptedAs (fromAssemblyGraph (decode bs))) (convert-reaccepted bs small)
-        number-is (ap (λ (x : D.Answer). x .length) answer-is) (S .written);
+    room = λ l i. room-enough (conversionCauses bs) out (result bs) 49184 (never-11 bs) (λ ok. (again ok) .size) l (sym number-is ∙ i);
+    reaccepted = holds (ReacceptedAs (fromAssemblyGraph (decode bs))) again;
+    sources = holds (λ rec. SourcesHoldKmers (decode bs) (decode rec)) (λ ok.
+        subst (SourcesHoldKmers (decode bs)) (sym (again ok .graph)) (sources-hold-kmers (decode bs)));
+    runs = holds (λ rec. RunsAreKmers (decode bs) (decode rec)) (λ ok. subst (RunsAreKmers (decode bs)) (sym (again ok .graph)) (convert-runs bs small ok));
   }
     where
       number-is : a .number ≡ numberOf (fromAssemblyGraphResponse bs (length out))
       number-is = ap (λ (x : D.Answer). x .number) answer-is
+
+      again : refusalOf (conversionCauses bs) ≡ 0 → ReacceptedAs (fromAssemblyGraph (decode bs)) (result bs)
+      again = convert-reaccepted bs small
+
+      holds : (P : List ℕ → Type 0) → (refusalOf (conversionCauses bs) ≡ 0 → P (result bs)) → a .number ≡ 0 → P (take (a .length) out′)
+      holds P f = answered-holds (conversionCauses bs) out (result bs) P f number-is (ap (λ (x : D.Answer). x .length) answer-is) (S .written)
 
 -- ---- room
 
@@ -158,16 +158,18 @@ module _ {bs es vs p heads nexts order scratch place sorted : List ℕ} where
       → RoomToConvert bs es vs p heads nexts order scratch place sorted
   roomy S Z = record {
     reading = record {
-      room = λ W z. record {
-        es-room = omega (arith, S .edges W, Z .es-is);
-        vs-room = omega (arith, S .vertices W z, Z .vs-is);
-        p-room = omega (arith, S .bytes W z, Z .p-is);
-        heads-room = omega (arith, S .vertices W z, Z .heads-is);
-        nexts-room = omega (arith, S .edges W, Z .nexts-is);
-        order-room = omega (arith, S .vertices W z, S .more-vertices, Z .order-is);
-        scratch-room = omega (arith, S .vertices W z, S .more-vertices, Z .scratch-is);
-        place-room = omega (arith, S .vertices W z, Z .place-is);
+      reading = record {
+        room = λ W z. record {
+          es-room = omega (arith, S .edges W, Z .es-is);
+          vs-room = omega (arith, S .vertices W z, Z .vs-is);
+          p-room = omega (arith, S .bytes W z, Z .p-is);
+          heads-room = omega (arith, S .vertices W z, Z .heads-is);
+          nexts-room = omega (arith, S .edges W, Z .nexts-is);
+          order-room = omega (arith, S .vertices W z, S .more-vertices, Z .order-is);
+          scratch-room = omega (arith, S .vertices W z, S .more-vertices, Z .scratch-is);
+        };
       };
+      place-room = λ W z. omega (arith, S .vertices W z, Z .place-is);
     };
     order-room = λ W. omega (arith, S .edges W, S .more-edges, Z .order-is);
     scratch-room = λ W. omega (arith, S .edges W, S .more-edges, Z .scratch-is);

@@ -1,66 +1,106 @@
 -- Conversion, step by step. Assumes nothing.
 use mathlib.Core.Path.{_≡_, refl, sym, ap, subst, _∙_}
-use mathlib.Core.List.{List, []}
+use mathlib.Core.Bool.{false}
+use mathlib.Core.List.{List, [], _∷_, List·Memᴰ·head, List·Memᴰ·tail}
 use Prim.Native.Nat.{ℕ, _+_, _*_, _≤_, _<_}
 use native.Mathlib.Omega.{arith}
 use native.Mathlib.Decide.{ℕ-discrete}
 use lib.ListN.{length, getD}
-use borrow.Author.Tests.{lt-ltb, le-ltb}
+use lib.Dec.{ltb}
+use borrow.Author.Tests.{lt-ltb, le-ltb, ltb-false}
+use Rattle.defs.specs.Lists.{allOf}
 use Rattle.defs.specs.SeqGraph.{Edge, Graph}
 use Rattle.defs.specs.Simplify.{sequenceBytes}
-use Rattle.defs.specs.Record.{decode}
-use Rattle.defs.specs.Refusals.{refusalOf, kmerOnly, recordRefusal}
+use Rattle.defs.specs.Record.{kindOf, decode}
+use Rattle.defs.specs.Refusals.{Cause, refusalOf, NonePresent, kmerOnly, edgeWithoutOverlap, recordRefusal}
+use Rattle.defs.specs.Refusals.{layoutCauses, doubledCause, overlapCause, cycleCause, recordCauses}
 use Rattle.defs.specs.Assembly.{fromAssemblyGraph}
 use Rattle.defs.specs.Calls.{conversionCauses}
 use Rattle.laws.proofs.ListLaws.{clash, byOrder}
+use Rattle.laws.proofs.Causes.{CausesNumbered, numbers-above, refusal-nil, refusal-there, refusal-absent, refusal-later, refusal-earlier}
+use Rattle.laws.proofs.Causes.{none-left, none-right, none-both, none-refuses, refusal-none}
 use Rattle.tabs.proofs.Tabs.{getD-tab, length-tab}
+use Rattle.tabs.proofs.SumTabs.{sum-most}
 use Rattle.store.specs.Store.{edgeIn, graphIn, Within}
 use Rattle.pool.specs.Pool.{bytesIn}
 use Rattle.pool.proofs.PoolLaws.{bytes-below}
 use Rattle.memory.specs.Memory.{graphOf}
 use Rattle.memory.specs.declared.Held.{Held}
-use Rattle.record.proofs.Accepted.{kmer-kind}
+use Rattle.record.proofs.Accepted.{kmer-kind, well-formed}
 use Rattle.record.specs.Layout.{WellFormed}
 use Rattle.sound.specs.Alike.{noEdge, SameEnds}
-use Rattle.sound.proofs.Accepted.{same-doubled, same-equal, accepted-early, accepted-layout}
+use Rattle.sound.proofs.Accepted.{same-doubled, same-equal}
 use Rattle.kmer_order.proofs.EqualLaws.{same-kmers}
 use Rattle.convert.specs.Convert.{Trimmable, Trimmed, Separate, Convertible, EdgesSorted}
 use Rattle.convert.proofs.CopyLaws.{converted}
 use Rattle.write_record.specs.Written.{Measured}
 use Rattle.write_record.proofs.WriteLaws.{bytes-are}
-use Rattle.calls.proofs.CauseLaws.{behind-refused, behind-present, behind-absent}
 use Rattle.calls.specs.Sending.{Sendable}
 use Rattle.accept.specs.declared.Read.{Read}
 use Rattle.accept.specs.declared.Read.the-variants as read
 use Rattle.accept.specs.declared.Read.the-variants.{Refused}
 use Rattle.accept.proofs.AcceptLaws.{not-both, number-graph, number-refused, same-held}
 use Rattle.read_kmers.specs.Kmers as K
-use Rattle.read_kmers.specs.Kmers.{HoldsKmers, KmersRead}
-use Rattle.read_kmers.proofs.KmerLaws.{sum-most}
+use Rattle.read_kmers.specs.Kmers.{kmerCauses, overlappingCauses, HoldsKmers, KmersRead}
 use Rattle.from_kmers.specs.Conversion.{RoomToConvert, ConvertedAs}
 
 -- ---- the causes
 
 module _ (bs : List ℕ) where
-  early : {i : ℕ} → recordRefusal kmerOnly bs ≡ i → (i ≡ 0 → ⊥) → refusalOf (conversionCauses bs) ≡ i
-  unfolding conversionCauses
-  early e o = behind-refused kmerOnly bs 8 _ e o
+  -- 8, which stands behind those of the record
+  abbrev bytesCause : Cause
+  bytesCause = record { number = 8; present = ltb 8192 (sequenceBytes ((fromAssemblyGraph (decode bs)) .verts)) }
 
-  module _ (z : recordRefusal kmerOnly bs ≡ 0) where
+  overlapping-numbered : CausesNumbered (overlappingCauses bs)
+  unfolding layoutCauses allOf
+  overlapping-numbered = numbers-above (overlappingCauses bs) refl
+
+  pub conversion-numbered : CausesNumbered (conversionCauses bs)
+  unfolding conversionCauses layoutCauses allOf
+  conversion-numbered = numbers-above (conversionCauses bs) refl
+
+  early : {i : ℕ} → refusalOf (overlappingCauses bs) ≡ i → (i ≡ 0 → ⊥) → refusalOf (conversionCauses bs) ≡ i
+  unfolding conversionCauses layoutCauses
+  early {i} e o = refusal-earlier (overlappingCauses bs) (bytesCause ∷ []) e (byOrder 1 i (λ b. b) (λ b. absurd (o (omega arith))))
+
+  module _ (z : refusalOf (overlappingCauses bs) ≡ 0) where
+    later : refusalOf (conversionCauses bs) ≡ refusalOf (bytesCause ∷ [])
+    unfolding conversionCauses layoutCauses
+    later = refusal-later (overlappingCauses bs) (bytesCause ∷ []) overlapping-numbered z
+
     too-long : 8192 < sequenceBytes ((fromAssemblyGraph (decode bs)) .verts) → refusalOf (conversionCauses bs) ≡ 8
-    unfolding conversionCauses
-    too-long l = behind-present kmerOnly bs 8 _ z (lt-ltb 8192 (sequenceBytes ((fromAssemblyGraph (decode bs)) .verts)) l)
+    too-long l = later ∙ refusal-there bytesCause [] (lt-ltb 8192 (sequenceBytes ((fromAssemblyGraph (decode bs)) .verts)) l)
 
     no-cause : sequenceBytes ((fromAssemblyGraph (decode bs)) .verts) ≤ 8192 → refusalOf (conversionCauses bs) ≡ 0
-    unfolding conversionCauses
-    no-cause l = behind-absent kmerOnly bs 8 _ z (le-ltb 8192 (sequenceBytes ((fromAssemblyGraph (decode bs)) .verts)) l)
+    no-cause l = later ∙ refusal-absent bytesCause [] (le-ltb 8192 (sequenceBytes ((fromAssemblyGraph (decode bs)) .verts)) l) ∙ refusal-nil
 
-  -- where no cause is present, none lies in the record, and the converted graph is small
-  pub none-early : refusalOf (conversionCauses bs) ≡ 0 → recordRefusal kmerOnly bs ≡ 0
-  none-early z = elim (ℕ-discrete (recordRefusal kmerOnly bs) 0) [ yes q ↦ q | no ne ↦ absurd (ne (sym (early refl ne) ∙ z)) ]
+    -- the layout is that of a k-mer graph
+    layout-none : refusalOf (layoutCauses kmerOnly bs) ≡ 0
+    layout-none =
+        none-refuses (layoutCauses kmerOnly bs)
+        (none-left (layoutCauses kmerOnly bs) (doubledCause bs ∷ overlapCause bs ∷ cycleCause bs ∷ []) (refusal-none (overlappingCauses bs) overlapping-numbered z))
 
-  pub none-late : refusalOf (conversionCauses bs) ≡ 0 → sequenceBytes ((fromAssemblyGraph (decode bs)) .verts) ≤ 8192
-  none-late z = byOrder (sequenceBytes ((fromAssemblyGraph (decode bs)) .verts)) 8192 (λ l. l) (λ l. absurd (omega (arith, too-long (none-early z) l)))
+  -- where no cause of conversion is present, none of the record's is, the k-mers overlap and the converted graph is small
+  module _ (z : refusalOf (conversionCauses bs) ≡ 0) where
+    absent : NonePresent (conversionCauses bs)
+    absent = refusal-none (conversionCauses bs) conversion-numbered z
+
+    behind : NonePresent (overlapCause bs ∷ cycleCause bs ∷ bytesCause ∷ [])
+    unfolding conversionCauses layoutCauses
+    behind = none-right (kmerCauses bs) (overlapCause bs ∷ cycleCause bs ∷ bytesCause ∷ []) absent
+
+    pub none-early : recordRefusal kmerOnly bs ≡ 0
+    unfolding conversionCauses recordRefusal recordCauses layoutCauses
+    none-early =
+        none-refuses (recordCauses kmerOnly bs)
+        (none-both (kmerCauses bs) (cycleCause bs ∷ []) (none-left (kmerCauses bs) (overlapCause bs ∷ cycleCause bs ∷ bytesCause ∷ []) absent)
+        (none-left (cycleCause bs ∷ []) (bytesCause ∷ []) (none-right (overlapCause bs ∷ []) (cycleCause bs ∷ bytesCause ∷ []) behind)))
+
+    pub all-overlap : edgeWithoutOverlap (decode bs) ≡ false
+    all-overlap = behind .absent (overlapCause bs) (List·Memᴰ·head refl)
+
+    pub none-late : sequenceBytes ((fromAssemblyGraph (decode bs)) .verts) ≤ 8192
+    none-late = ltb-false 8192 _ (behind .absent bytesCause (List·Memᴰ·tail (List·Memᴰ·tail (List·Memᴰ·head refl))))
 
 -- ---- no k-mer and no edge is there twice
 
@@ -105,7 +145,7 @@ refused-as bs n q o = record {
 -- ---- the steps
 
 module _ {bs es vs p heads nexts order scratch place sorted : List ℕ} (R : RoomToConvert bs es vs p heads nexts order scratch place sorted) {r :
-    Read} {es′ vs′ p′ heads′ nexts′ order′ : List ℕ} (A : KmersRead bs r es′ vs′ p′ heads′ nexts′ order′) where
+    Read} {es′ vs′ p′ heads′ nexts′ order′ : List ℕ} (A : KmersRead (overlappingCauses bs) bs r es′ vs′ p′ heads′ nexts′ order′) where
   pub refused : {n : ℕ} {es₂ vs₂ p₂ : List ℕ} → r ≡ Refused n → ConvertedAs bs (Refused n) es₂ vs₂ p₂
   refused {n} f = let o = A .refused n f in refused-as bs n (sym (early bs (sym (A .number) ∙ number-refused f) o)) o
 
@@ -113,14 +153,17 @@ module _ {bs es vs p heads nexts order scratch place sorted : List ℕ} (R : Roo
     held : HoldsKmers bs h es′ vs′ p′ heads′ nexts′ order′
     held = A .holds h ok
 
-    none : recordRefusal kmerOnly bs ≡ 0
+    none : refusalOf (overlappingCauses bs) ≡ 0
     none = sym (A .number) ∙ number-graph ok
 
     formed : WellFormed bs
-    formed = accepted-layout kmerOnly bs none
+    formed = well-formed kmerOnly bs (layout-none bs none)
 
-    room : K.KmerRoom bs es vs p heads nexts order scratch place
-    room = R .reading .room formed (kmer-kind bs (accepted-early kmerOnly bs none))
+    kind : kindOf bs ≡ 0
+    kind = kmer-kind bs (layout-none bs none)
+
+    room : K.KmerRoom bs es vs p heads nexts order scratch
+    room = R .reading .reading .room formed kind
 
     pub convertible : {scratch′ place′ : List ℕ} → length es′ ≡ length es → length order′ ≡ length order → length scratch′ ≡ length scratch
         → length place′ ≡ length place
@@ -131,7 +174,7 @@ module _ {bs es vs p heads nexts order scratch place sorted : List ℕ} (R : Roo
       es-room = omega (arith, held .m-is, room .es-room);
       order-edges = omega (arith, held .m-is, R .order-room formed);
       scratch-edges = omega (arith, held .m-is, R .scratch-room formed);
-      place-room = omega (arith, held .n-is, room .place-room);
+      place-room = omega (arith, held .n-is, R .reading .place-room formed kind);
       out-room = omega (arith, held .m-is, R .sorted-room formed);
       few-vertices = omega (arith, held .vertices);
       few-edges = omega (arith, held .edges);

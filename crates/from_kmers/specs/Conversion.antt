@@ -18,7 +18,7 @@ use Rattle.accept.specs.declared.Read.the-variants.{Graph, Refused}
 
 -- room to read the record, for the numbers of its edges and for the sorted edges, if its layout is that of a k-mer graph
 pub record RoomToConvert (bs es vs p heads nexts order scratch place sorted : List ℕ) : Type 0 where
-  pub reading : K.RoomToReadKmers bs es vs p heads nexts order scratch place
+  pub reading : K.RoomToReadOverlapping bs es vs p heads nexts order scratch place
   pub order-room : WellFormed bs → edgesOf bs ≤ length order
   pub scratch-room : WellFormed bs → edgesOf bs ≤ length scratch
   pub sorted-room : WellFormed bs → 4 * edgesOf bs ≤ length sorted

@@ -1,4 +1,4 @@
-// The conversion of a k-mer record (`from_assembly_graph`): the number of its refusal, 1 to 8, or the sequence graph in the slices.
+// The conversion of a k-mer record (`from_assembly_graph`): the number of its refusal, 1 to 8 or 15, or the sequence graph in the slices.
 ghost use Rattle.from_kmers.specs.Conversion.{RoomToConvert, ConvertedAs};
 use accept::Read;
 
@@ -18,7 +18,7 @@ pub fn read_and_convert(
     requires { ⌜ RoomToConvert (now rec) (now es) (now vs) (now p) (now heads) (now nexts) (now order) (now scratch) (now place) (now sorted) ⌝ }
     ensures { λ r. ⌜ ConvertedAs (now (rec .entry)) r (now (sorted .exit)) (now (vs .exit)) (now (p .exit)) ⌝ }
 {
-    let held = match read_kmers::read_kmer_graph(
+    let held = match read_kmers::read_overlapping_kmer_graph(
         rec,
         es,
         vs,

@@ -1,21 +1,23 @@
 -- Reading a k-mer record, check by check. Assumes nothing.
 use mathlib.Core.Path.{_≡_, refl, sym, ap, subst, _∙_}
 use mathlib.Core.Bool.{Bool, true, false, _&&_, _||_}
-use mathlib.Core.List.{List, []}
-use Prim.Native.Nat.{ℕ, zero, suc, _+_, _*_, _≤_, _<_}
-use native.Mathlib.Nat.{mul-zero, mul-suc}
+use mathlib.Core.List.{List, [], _∷_}
+use Prim.Native.Nat.{ℕ, _+_, _*_, _≤_, _<_}
 use native.Mathlib.Omega.{arith}
-use lib.ListN.{length, getD, take}
+use lib.ListN.{length, getD}
 use lib.Dec.{eqb}
 use borrow.Author.Tests.{eq-eqb}
-use Rattle.defs.specs.Lists.{tab, sum}
+use Rattle.defs.specs.Lists.{allOf}
 use Rattle.defs.specs.SeqGraph as seq
 use Rattle.defs.specs.SeqGraph.{vertexSequence}
 use Rattle.defs.specs.Record.{kindOf, kOf, verticesOf, bytesOf, lengthAt, decode}
-use Rattle.defs.specs.Refusals.{kmerOnly, refusalOf, recordCauses, recordRefusal, doubledEdge, equalKmers, doubled, hasCycle}
+use Rattle.defs.specs.Refusals.{Cause, refusalOf, kmerOnly, doubledEdge, equalKmers, doubled, hasCycle, edgeWithoutOverlap}
+use Rattle.defs.specs.Refusals.{layoutCauses, doubledCause, overlapCause, cycleCause}
 use Rattle.laws.proofs.ListLaws.{clash, byOrder, or-false}
+use Rattle.laws.proofs.Causes.{CausesNumbered, numbers-above, refusal-nil, refusal-there, refusal-absent, refusal-later, refusal-earlier}
+use Rattle.laws.proofs.Causes.{none-left, none-refuses, refusal-none}
 use Rattle.tabs.proofs.Tabs.{getD-tab}
-use Rattle.tabs.proofs.SumTabs.{sum-none, sum-suc}
+use Rattle.tabs.proofs.SumTabs.{sum-most, sum-least}
 use Rattle.store.specs.Store.{edgesIn, seqIn, seqsIn}
 use Rattle.store.proofs.VertexLaws.{part-long}
 use Rattle.index.specs.Index.{Indexed, Indexable}
@@ -32,12 +34,14 @@ use Rattle.record.proofs.Sequences.{vertex-is, length-sequence}
 use Rattle.load.specs.Loaded.{Loadable, Loaded}
 use Rattle.doubled.specs.Doubled.{Markable}
 use Rattle.cycle.specs.Peel.{Peelable, HasCycle}
-use Rattle.sound.proofs.Accepted.{refused-early, refused-6, refused-7, accepted, read-good}
+use Rattle.sound.proofs.Accepted.{layout-numbered}
+use Rattle.overlap.specs.Overlap.{KmerRecord}
 use Rattle.sort.specs.Sort.{Sortable}
 use Rattle.kmer_order.specs.Order.{ReadableSequence, KmerOrder}
+use Rattle.accept.specs.declared.Read.{Read}
 use Rattle.accept.specs.declared.Read.the-variants.{Graph, Refused}
 use Rattle.accept.proofs.AcceptLaws.{not-both, number-graph, number-refused, same-held}
-use Rattle.read_kmers.specs.Kmers.{KmerRoom, RoomToReadKmers, Doubles, HoldsKmers, KmersRead}
+use Rattle.read_kmers.specs.Kmers.{kmerCauses, overlappingCauses, KmerRoom, RoomToReadKmers, RoomToReadOverlapping, Doubles, HoldsKmers, KmersRead}
 
 -- ---- doubled edges and k-mers
 
@@ -50,14 +54,6 @@ module _ {m n : ℕ} {es vs p : List ℕ} {d : Bool} {order : List ℕ} (q : d �
 
 -- ---- the record
 
-pub sum-most : (w n : ℕ) (f : ℕ → ℕ) → ((i : ℕ) → i < n → f i ≤ w) → sum (tab n f) ≤ w * n
-sum-most w zero f h = omega (arith, sum-none f)
-sum-most w (suc n) f h = omega (arith, sum-suc n f, h n (omega arith), sum-most w n f (λ i b. h i (omega arith)), mul-suc w n)
-
-pub sum-least : (w n : ℕ) (f : ℕ → ℕ) → ((i : ℕ) → i < n → w ≤ f i) → w * n ≤ sum (tab n f)
-sum-least w zero f h = omega (arith, mul-zero w)
-sum-least w (suc n) f h = omega (arith, sum-suc n f, h n (omega arith), sum-least w n f (λ i b. h i (omega arith)), mul-suc w n)
-
 -- a k-mer graph has 2 to 128 bytes a vertex
 module _ (bs : List ℕ) (W : WellFormed bs) (z : kindOf bs ≡ 0) where
   pub kmer-bytes-least : 2 * verticesOf bs ≤ bytesOf bs
@@ -66,31 +62,36 @@ module _ (bs : List ℕ) (W : WellFormed bs) (z : kindOf bs ≡ 0) where
   pub kmer-bytes-most : bytesOf bs ≤ 262144
   kmer-bytes-most = omega (arith, W .lengths, W .vertices, sum-most 128 (verticesOf bs) (lengthAt bs) (λ i b. omega (arith, W .kmers z i b, W .k-most)))
 
-module _ (bs : List ℕ) where
-  refused-as : (n : ℕ) → n ≡ recordRefusal kmerOnly bs → (n ≡ 0 → ⊥) → {es vs p heads nexts order : List ℕ}
-      → KmersRead bs (Refused n) es vs p heads nexts order
-  refused-as n q o = record {
-    number = number-refused refl ∙ q;
-    holds = λ h e. not-both e refl;
-    refused = λ m e z. o (sym (number-refused refl) ∙ number-refused e ∙ z);
-  }
+refused-as : {causes : List Cause} {bs : List ℕ} (n : ℕ) → n ≡ refusalOf causes → (n ≡ 0 → ⊥) → {es vs p heads nexts order : List ℕ}
+    → KmersRead causes bs (Refused n) es vs p heads nexts order
+refused-as n q o = record {
+  number = number-refused refl ∙ q;
+  holds = λ h e. not-both e refl;
+  refused = λ m e z. o (sym (number-refused refl) ∙ number-refused e ∙ z);
+}
 
+module _ (bs : List ℕ) where
   pub read-refused : {r : Layout} {n : ℕ} {es vs p heads nexts order : List ℕ}
-      → r ≡ layoutOf (refusalOf (take 5 (recordCauses (takesOf KmerOnly) bs))) (kOf bs)
-      → r ≡ checked.Refused n → KmersRead bs (Refused n) es vs p heads nexts order
+      → r ≡ layoutOf (refusalOf (layoutCauses (takesOf KmerOnly) bs)) (kOf bs)
+      → r ≡ checked.Refused n → KmersRead (kmerCauses bs) bs (Refused n) es vs p heads nexts order
   unfolding takesOf
   read-refused {n = n} e f =
       let some = refused-some kmerOnly bs e f in
       refused-as n
-      (sym (refused-early kmerOnly bs (sym (refused-number kmerOnly bs e f)) (byOrder 1 n (λ b. b) (λ b. absurd (some (omega arith)))))) some
+      (sym (refusal-earlier (layoutCauses kmerOnly bs) (doubledCause bs ∷ []) (sym (refused-number kmerOnly bs e f))
+      (byOrder 1 n (λ b. b) (λ b. absurd (some (omega arith))))))
+      some
 
-  module _ (layout : refusalOf (take 5 (recordCauses kmerOnly bs)) ≡ 0) {es vs p heads nexts order scratch place : List ℕ} (Y :
-      RoomToReadKmers bs es vs p heads nexts order scratch place) where
+  module _ (layout : refusalOf (layoutCauses kmerOnly bs) ≡ 0) {es vs p heads nexts order scratch : List ℕ} (Y :
+      RoomToReadKmers bs es vs p heads nexts order scratch) where
     formed : WellFormed bs
     formed = well-formed kmerOnly bs layout
 
-    R : KmerRoom bs es vs p heads nexts order scratch place
+    R : KmerRoom bs es vs p heads nexts order scratch
     R = Y .room formed (kmer-kind bs layout)
+
+    later : refusalOf (kmerCauses bs) ≡ refusalOf (doubledCause bs ∷ [])
+    later = refusal-later (layoutCauses kmerOnly bs) (doubledCause bs ∷ []) (layout-numbered kmerOnly bs) layout
 
     size-is : (i : ℕ) → i < verticesOf bs → lengthAt bs i ≡ kOf bs
     size-is = formed .kmers (kmer-kind bs layout)
@@ -133,16 +134,6 @@ module _ (bs : List ℕ) where
         keys = λ v c. record { room = omega (arith, a, L .n, R .vs-room); inside = omega (arith, L .within .at v c, L .used, b, R .p-room) };
       }
 
-      pub read-peelable : {scratch′ : List ℕ} → length scratch′ ≡ length scratch → Peelable (h .n) scratch′ place
-      read-peelable l = record {
-        degrees-room = omega (arith, l, L .n, R .scratch-room);
-        queue-room = omega (arith, L .n, R .place-room);
-        small = omega (arith, n-small);
-      }
-
-      pub few-edges : h .m < 4294967296
-      few-edges = omega (arith, m-small)
-
       doubled-is : doubled bs ≡ (doubledEdge (edgesIn (h .m) es′) || equalKmers (seqsIn (h .n) vs′ p′))
       unfolding doubled
       doubled-is = (λ j. doubledEdge ((sym (L .is) j) .edges) || (eqb (kindOf bs) 0 && equalKmers ((sym (L .is) j) .verts)))
@@ -159,53 +150,126 @@ module _ (bs : List ℕ) where
           sequence-is = unfold vertexSequence in (sym (getD-tab (h .n) (seqIn vs′ p′) v [] b) ∙ ap (λ (g : seq.Graph). getD (g .verts) v []) (L .is))
 
       module _ {d : Bool} {order′ : List ℕ} (D : Doubles (h .m) (h .n) es′ vs′ p′ d order′) where
-        pub read-6 : d ≡ true → {es₂ vs₂ p₂ heads₂ nexts₂ order₂ : List ℕ} → KmersRead bs (Refused 6) es₂ vs₂ p₂ heads₂ nexts₂ order₂
-        read-6 t = refused-as 6 (sym (refused-6 kmerOnly bs layout (doubled-is ∙ sym (D .is) ∙ t))) (λ z. omega arith)
+        pub read-6 : d ≡ true → {es₂ vs₂ p₂ heads₂ nexts₂ order₂ : List ℕ} → KmersRead (kmerCauses bs) bs (Refused 6) es₂ vs₂ p₂ heads₂ nexts₂ order₂
+        read-6 t = refused-as 6 (sym (later ∙ refusal-there (doubledCause bs) [] (doubled-is ∙ sym (D .is) ∙ t))) (λ z. omega arith)
 
-        module _ (t : d ≡ false) {c : Bool} (C : HasCycle (h .m) (h .n) es′ c) where
-          none-doubled : doubled bs ≡ false
-          none-doubled = doubled-is ∙ sym (D .is) ∙ t
-
-          cycle-is : hasCycle (decode bs) ≡ c
-          cycle-is = ap hasCycle (sym (L .is)) ∙ sym (C .is (h .k .0) vs′ p′)
-
-          pub read-7 : c ≡ true → {es₂ vs₂ p₂ heads₂ nexts₂ order₂ : List ℕ} → KmersRead bs (Refused 7) es₂ vs₂ p₂ heads₂ nexts₂ order₂
-          read-7 s = refused-as 7 (sym (refused-7 kmerOnly bs layout none-doubled (cycle-is ∙ s))) (λ z. omega arith)
-
-          pub read-0 : c ≡ false → length p′ ≡ length p → {heads′ nexts′ : List ℕ} → Indexed (h .m) (h .n) es′ heads′ nexts′
-              → KmersRead bs (Graph h) es′ vs′ p′ heads′ nexts′ order′
-          read-0 s l {heads′} {nexts′} I =
-              let apart = or-false (doubledEdge (edgesIn (h .m) es′)) (equalKmers (seqsIn (h .n) vs′ p′)) (sym (D .is) ∙ t) in
-              let held : HoldsKmers bs h es′ vs′ p′ heads′ nexts′ order′ = record {
-                is = L .is;
-                n-is = L .n;
-                m-is = L .m;
-                good = read-good bs formed none-doubled (cycle-is ∙ s);
-                single = apart .0;
-                distinct = apart .1;
-                k-least = omega (arith, L .k, formed .k-least);
-                k-most = omega (arith, L .k, formed .k-most);
-                vertices = n-small;
-                edges = m-small;
-                sizes = size-held l;
-                within = L .within;
-                used-most = used-small;
-                used-room = omega (arith, L .used, l, R .p-room);
-                ends = L .ends;
-                indexed = I;
-                ordered = D .ordered t;
-              } in
-              record {
-                number = number-graph refl ∙ sym (accepted kmerOnly bs layout none-doubled (cycle-is ∙ s));
-                holds = λ g e. subst (λ (x : Held). HoldsKmers bs x es′ vs′ p′ heads′ nexts′ order′) (same-held e) held;
-                refused = λ n e. not-both refl e;
-              }
+        pub read-0 : d ≡ false → length p′ ≡ length p → {heads′ nexts′ : List ℕ} → Indexed (h .m) (h .n) es′ heads′ nexts′
+            → KmersRead (kmerCauses bs) bs (Graph h) es′ vs′ p′ heads′ nexts′ order′
+        read-0 t l {heads′} {nexts′} I =
+            let apart = or-false (doubledEdge (edgesIn (h .m) es′)) (equalKmers (seqsIn (h .n) vs′ p′)) (sym (D .is) ∙ t) in
+            let held : HoldsKmers bs h es′ vs′ p′ heads′ nexts′ order′ = record {
+              is = L .is;
+              n-is = L .n;
+              m-is = L .m;
+              single = apart .0;
+              distinct = apart .1;
+              k-least = omega (arith, L .k, formed .k-least);
+              k-most = omega (arith, L .k, formed .k-most);
+              vertices = n-small;
+              edges = m-small;
+              sizes = size-held l;
+              within = L .within;
+              used-most = used-small;
+              used-room = omega (arith, L .used, l, R .p-room);
+              ends = L .ends;
+              indexed = I;
+              ordered = D .ordered t;
+            } in
+            record {
+              number = number-graph refl ∙ sym (later ∙ refusal-absent (doubledCause bs) [] (doubled-is ∙ sym (D .is) ∙ t) ∙ refusal-nil);
+              holds = λ g e. subst (λ (x : Held). HoldsKmers bs x es′ vs′ p′ heads′ nexts′ order′) (same-held e) held;
+              refused = λ n e. not-both refl e;
+            }
 
 -- the layout that was checked
-module _ (bs : List ℕ) {r : Layout} (e : r ≡ layoutOf (refusalOf (take 5 (recordCauses (takesOf KmerOnly) bs))) (kOf bs)) where
-  pub layout-none : {k : KmerSize} → r ≡ Formed k → refusalOf (take 5 (recordCauses kmerOnly bs)) ≡ 0
+module _ (bs : List ℕ) {r : Layout} (e : r ≡ layoutOf (refusalOf (layoutCauses (takesOf KmerOnly) bs)) (kOf bs)) where
+  pub layout-none : {k : KmerSize} → r ≡ Formed k → refusalOf (layoutCauses kmerOnly bs) ≡ 0
   unfolding takesOf
   layout-none f = formed-none kmerOnly bs e f
 
   pub layout-size : {k : KmerSize} → r ≡ Formed k → k .0 ≡ kOf bs
   layout-size f = formed-size (takesOf KmerOnly) bs e f
+
+-- ---- behind 6
+
+module _ (bs : List ℕ) where
+  kmers-numbered : CausesNumbered (kmerCauses bs)
+  unfolding layoutCauses allOf
+  kmers-numbered = numbers-above (kmerCauses bs) refl
+
+  pub kmers-formed : refusalOf (kmerCauses bs) ≡ 0 → refusalOf (layoutCauses kmerOnly bs) ≡ 0
+  kmers-formed z =
+      none-refuses (layoutCauses kmerOnly bs) (none-left (layoutCauses kmerOnly bs) (doubledCause bs ∷ [])
+      (refusal-none (kmerCauses bs) kmers-numbered z))
+
+  -- 15 and 7 behind the others
+  abbrev behind : List Cause
+  behind = overlapCause bs ∷ cycleCause bs ∷ []
+
+  overlapping-early : {i : ℕ} → refusalOf (kmerCauses bs) ≡ i → (i ≡ 0 → ⊥) → refusalOf (overlappingCauses bs) ≡ i
+  unfolding layoutCauses
+  overlapping-early {i} e o = refusal-earlier (kmerCauses bs) behind e (byOrder 1 i (λ b. b) (λ b. absurd (o (omega arith))))
+
+  overlapping-late : refusalOf (kmerCauses bs) ≡ 0 → refusalOf (overlappingCauses bs) ≡ refusalOf behind
+  unfolding layoutCauses
+  overlapping-late z = refusal-later (kmerCauses bs) behind kmers-numbered z
+
+module _ {bs : List ℕ} {r : Read} {es vs p heads nexts order : List ℕ} (A : KmersRead (kmerCauses bs) bs r es vs p heads nexts order) where
+  pub overlapping-refused : {n : ℕ} {es₂ vs₂ p₂ heads₂ nexts₂ order₂ : List ℕ} → r ≡ Refused n
+      → KmersRead (overlappingCauses bs) bs (Refused n) es₂ vs₂ p₂ heads₂ nexts₂ order₂
+  overlapping-refused {n} f = let o = A .refused n f in refused-as n (sym (overlapping-early bs (sym (A .number) ∙ number-refused f) o)) o
+
+  module _ {h : Held} (ok : r ≡ Graph h) where
+    held : HoldsKmers bs h es vs p heads nexts order
+    held = A .holds h ok
+
+    none : refusalOf (kmerCauses bs) ≡ 0
+    none = sym (A .number) ∙ number-graph ok
+
+    pub kmer-record : KmerRecord bs (h .k)
+    unfolding decode
+    kmer-record = record {
+      formed = well-formed kmerOnly bs (kmers-formed bs none);
+      kind = kmer-kind bs (kmers-formed bs none);
+      size = ap (λ (g : seq.Graph). g .k) (held .is);
+    }
+
+    pub cycle-checkable : {scratch scratch′ place : List ℕ} {es₀ vs₀ p₀ heads₀ nexts₀ order₀ : List ℕ}
+        → RoomToReadOverlapping bs es₀ vs₀ p₀ heads₀ nexts₀ order₀ scratch place → length scratch′ ≡ length scratch
+        → Indexed (h .m) (h .n) es heads nexts × ((h .m < 4294967296) × Peelable (h .n) scratch′ place)
+    cycle-checkable Y l =
+        let K = kmer-record in
+        let R = Y .reading .room (K .formed) (K .kind) in (
+          held .indexed,
+          (
+            omega (arith, held .edges),
+            record {
+              degrees-room = omega (arith, l, held .n-is, R .scratch-room);
+              queue-room = omega (arith, held .n-is, Y .place-room (K .formed) (K .kind));
+              small = omega (arith, held .vertices);
+            },
+          ),
+        )
+
+    module _ {o : Bool} (O : o ≡ edgeWithoutOverlap (decode bs)) where
+      pub read-15 : o ≡ true → {es₂ vs₂ p₂ heads₂ nexts₂ order₂ : List ℕ}
+          → KmersRead (overlappingCauses bs) bs (Refused 15) es₂ vs₂ p₂ heads₂ nexts₂ order₂
+      read-15 t = refused-as 15 (sym (overlapping-late bs none ∙ refusal-there (overlapCause bs) _ (sym O ∙ t))) (λ z. omega arith)
+
+      module _ (f : o ≡ false) {c : Bool} (C : HasCycle (h .m) (h .n) es c) where
+        later-7 : refusalOf (overlappingCauses bs) ≡ refusalOf (cycleCause bs ∷ [])
+        later-7 = overlapping-late bs none ∙ refusal-absent (overlapCause bs) (cycleCause bs ∷ []) (sym O ∙ f)
+
+        cycle-is : hasCycle (decode bs) ≡ c
+        cycle-is = ap hasCycle (sym (held .is)) ∙ sym (C .is (h .k .0) vs p)
+
+        pub read-7 : c ≡ true → {es₂ vs₂ p₂ heads₂ nexts₂ order₂ : List ℕ}
+            → KmersRead (overlappingCauses bs) bs (Refused 7) es₂ vs₂ p₂ heads₂ nexts₂ order₂
+        read-7 t = refused-as 7 (sym (later-7 ∙ refusal-there (cycleCause bs) [] (cycle-is ∙ t))) (λ z. omega arith)
+
+        pub read-whole : c ≡ false → KmersRead (overlappingCauses bs) bs (Graph h) es vs p heads nexts order
+        read-whole t = record {
+          number = number-graph refl ∙ sym (later-7 ∙ refusal-absent (cycleCause bs) [] (cycle-is ∙ t) ∙ refusal-nil);
+          holds = λ g e. subst (λ (x : Held). HoldsKmers bs x es vs p heads nexts order) (same-held e) held;
+          refused = λ n e. not-both refl e;
+        }

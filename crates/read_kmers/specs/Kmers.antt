@@ -1,12 +1,11 @@
 -- A record of kind 0 that is read. Assumes nothing.
 use mathlib.Core.Path.{_≡_}
 use mathlib.Core.Bool.{Bool, false, _||_}
-use mathlib.Core.List.{List}
+use mathlib.Core.List.{List, [], _∷_, _++_}
 use Prim.Native.Nat.{ℕ, _+_, _*_, _≤_, _<_}
 use lib.ListN.{length, getD}
 use Rattle.defs.specs.Record.{kindOf, verticesOf, edgesOf, bytesOf, decode}
-use Rattle.defs.specs.Refusals.{kmerOnly, recordRefusal, doubledEdge, equalKmers}
-use Rattle.laws.proofs.Fuel.{Good}
+use Rattle.defs.specs.Refusals.{Cause, refusalOf, kmerOnly, doubledEdge, equalKmers, layoutCauses, doubledCause, overlapCause, cycleCause}
 use Rattle.record.specs.Layout.{WellFormed}
 use Rattle.store.specs.Store.{edgesIn, seqsIn, EndsBelow, Within}
 use Rattle.index.specs.Index.{Indexed}
@@ -17,8 +16,15 @@ use Rattle.accept.specs.declared.Read.{Read}
 use Rattle.accept.specs.declared.Read.the-variants.{Graph, Refused}
 use Rattle.kmer_order.specs.Order.{KmerOrder}
 
+-- the causes 1 to 6, and 1 to 6, 15, 7
+abbrev pub kmerCauses : List ℕ → List Cause
+kmerCauses bs = layoutCauses kmerOnly bs ++ (doubledCause bs ∷ [])
+
+abbrev pub overlappingCauses : List ℕ → List Cause
+overlappingCauses bs = layoutCauses kmerOnly bs ++ (doubledCause bs ∷ overlapCause bs ∷ cycleCause bs ∷ [])
+
 -- room for the record's vertices, edges and bytes
-pub record KmerRoom (bs es vs p heads nexts order scratch place : List ℕ) : Type 0 where
+pub record KmerRoom (bs es vs p heads nexts order scratch : List ℕ) : Type 0 where
   pub es-room : 4 * edgesOf bs ≤ length es
   pub vs-room : 2 * verticesOf bs ≤ length vs
   pub p-room : bytesOf bs ≤ length p
@@ -26,23 +32,26 @@ pub record KmerRoom (bs es vs p heads nexts order scratch place : List ℕ) : Ty
   pub nexts-room : 2 * edgesOf bs ≤ length nexts
   pub order-room : verticesOf bs ≤ length order
   pub scratch-room : verticesOf bs ≤ length scratch
-  pub place-room : verticesOf bs ≤ length place
 
 -- there is room if the record's layout is that of a k-mer graph
-pub record RoomToReadKmers (bs es vs p heads nexts order scratch place : List ℕ) : Type 0 where
-  pub room : WellFormed bs → kindOf bs ≡ 0 → KmerRoom bs es vs p heads nexts order scratch place
+pub record RoomToReadKmers (bs es vs p heads nexts order scratch : List ℕ) : Type 0 where
+  pub room : WellFormed bs → kindOf bs ≡ 0 → KmerRoom bs es vs p heads nexts order scratch
+
+-- and room for the search for a cycle
+pub record RoomToReadOverlapping (bs es vs p heads nexts order scratch place : List ℕ) : Type 0 where
+  pub reading : RoomToReadKmers bs es vs p heads nexts order scratch
+  pub place-room : WellFormed bs → kindOf bs ≡ 0 → verticesOf bs ≤ length place
 
 -- two edges with the same ends, or two equal k-mers; where neither, the vertices in the order of their k-mers
 pub record Doubles (m n : ℕ) (es vs p : List ℕ) (r : Bool) (order : List ℕ) : Type 0 where
   pub is : r ≡ (doubledEdge (edgesIn m es) || equalKmers (seqsIn n vs p))
   pub ordered : r ≡ false → KmerOrder n vs p order
 
--- the record's graph in the slices, sound and indexed, without doubled edges or k-mers, and its vertices in the order of their k-mers
+-- the record's graph in the slices, indexed, without doubled edges or k-mers, and its vertices in the order of their k-mers
 pub record HoldsKmers (bs : List ℕ) (h : Held) (es vs p heads nexts order : List ℕ) : Type 0 where
   pub is : graphOf h es vs p ≡ decode bs
   pub n-is : h .n ≡ verticesOf bs
   pub m-is : h .m ≡ edgesOf bs
-  pub good : Good (decode bs)
   pub single : doubledEdge (edgesIn (h .m) es) ≡ false
   pub distinct : equalKmers (seqsIn (h .n) vs p) ≡ false
   pub k-least : 2 ≤ h .k .0
@@ -57,8 +66,8 @@ pub record HoldsKmers (bs : List ℕ) (h : Held) (es vs p heads nexts order : Li
   pub indexed : Indexed (h .m) (h .n) es heads nexts
   pub ordered : KmerOrder (h .n) vs p order
 
--- the number is the definition's; a graph that was read is the record's, and held; a refusal has a number
-pub record KmersRead (bs : List ℕ) (r : Read) (es vs p heads nexts order : List ℕ) : Type 0 where
-  pub number : readNumber r ≡ recordRefusal kmerOnly bs
+-- the number is that of the causes; a graph that was read is the record's, and held; a refusal has a number
+pub record KmersRead (causes : List Cause) (bs : List ℕ) (r : Read) (es vs p heads nexts order : List ℕ) : Type 0 where
+  pub number : readNumber r ≡ refusalOf causes
   pub holds : (h : Held) → r ≡ Graph h → HoldsKmers bs h es vs p heads nexts order
   pub refused : (n : ℕ) → r ≡ Refused n → n ≡ 0 → ⊥

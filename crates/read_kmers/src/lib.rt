@@ -1,10 +1,10 @@
-// Reading a record of kind 0, a k-mer graph: the number of its refusal, 1 to 7, or the graph in the slices, indexed, with the vertices in
-// the order of their k-mers.
+// Reading a record of kind 0, a k-mer graph: the number of its refusal, or the graph in the slices, indexed, with the vertices in the order of
+// their k-mers. What is asked behind 6 depends on the call: conversion asks 15, whether the k-mers overlap, and then 7.
 ghost use Rattle.index.specs.Index.{Indexed};
 ghost use Rattle.doubled.specs.Doubled.{Markable};
 ghost use Rattle.sort.specs.Sort.{Sortable};
 ghost use Rattle.kmer_order.specs.Order.{ReadableSequence};
-ghost use Rattle.read_kmers.specs.Kmers.{RoomToReadKmers, Doubles, KmersRead};
+ghost use Rattle.read_kmers.specs.Kmers.{kmerCauses, overlappingCauses, RoomToReadKmers, RoomToReadOverlapping, Doubles, KmersRead};
 use accept::Read;
 use record::Layout;
 use record::Takes;
@@ -32,6 +32,7 @@ pub fn is_doubled(
     kmer_order::equal_kmers(order, n, vs, p)
 }
 
+// 1 to 6.
 pub fn read_kmer_graph(
     rec: &[u8],
     es: &mut [u32],
@@ -41,10 +42,9 @@ pub fn read_kmer_graph(
     nexts: &mut [u32],
     order: &mut [u32],
     scratch: &mut [u32],
-    place: &mut [u32],
 ) -> Read
-    requires { ⌜ RoomToReadKmers (now rec) (now es) (now vs) (now p) (now heads) (now nexts) (now order) (now scratch) (now place) ⌝ }
-    ensures { λ r. ⌜ KmersRead (now (rec .entry)) r (now (es .exit)) (now (vs .exit)) (now (p .exit)) (now (heads .exit))
+    requires { ⌜ RoomToReadKmers (now rec) (now es) (now vs) (now p) (now heads) (now nexts) (now order) (now scratch) ⌝ }
+    ensures { λ r. ⌜ KmersRead (kmerCauses (now (rec .entry))) (now (rec .entry)) r (now (es .exit)) (now (vs .exit)) (now (p .exit)) (now (heads .exit))
         (now (nexts .exit)) (now (order .exit)) ⌝ }
 {
     let k = match record::check_layout(rec, Takes::KmerOnly) {
@@ -57,6 +57,35 @@ pub fn read_kmer_graph(
     index::build_index(es, m, n, heads, nexts);
     if is_doubled(es, m, n, vs, p, heads, nexts, order, scratch) {
         return Read::Refused(6);
+    }
+    Read::Graph(held)
+}
+
+// 1 to 6, 15, 7.
+pub fn read_overlapping_kmer_graph(
+    rec: &[u8],
+    es: &mut [u32],
+    vs: &mut [u32],
+    p: &mut [u8],
+    heads: &mut [u32],
+    nexts: &mut [u32],
+    order: &mut [u32],
+    scratch: &mut [u32],
+    place: &mut [u32],
+) -> Read
+    requires { ⌜ RoomToReadOverlapping (now rec) (now es) (now vs) (now p) (now heads) (now nexts) (now order) (now scratch) (now place) ⌝ }
+    ensures { λ r. ⌜ KmersRead (overlappingCauses (now (rec .entry))) (now (rec .entry)) r (now (es .exit)) (now (vs .exit)) (now (p .exit))
+        (now (heads .exit)) (now (nexts .exit)) (now (order .exit)) ⌝ }
+{
+    let held = match read_kmer_graph(rec, es, vs, p, heads, nexts, order, scratch) {
+        Read::Graph(held) => held,
+        Read::Refused(number) => return Read::Refused(number),
+    };
+    let k = held.k;
+    let n = held.n;
+    let m = held.m;
+    if overlap::edge_without_overlap(rec, k) {
+        return Read::Refused(15);
     }
     if cycle::has_cycle(es, m, n, heads, nexts, scratch, place) {
         return Read::Refused(7);

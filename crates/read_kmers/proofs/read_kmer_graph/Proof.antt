@@ -1,5 +1,4 @@
 -- `read_kmers::read_kmer_graph` meets its contract. Assumes nothing.
-use mathlib.Core.Path.{_∙_}
 use Rattle.read_kmers.proofs.KmerLaws.{
   layout-none,
   layout-size,
@@ -8,10 +7,7 @@ use Rattle.read_kmers.proofs.KmerLaws.{
   read-indexable,
   read-markable,
   read-sortable,
-  read-peelable,
-  few-edges,
   read-6,
-  read-7,
   read-0,
 }
 use borrow.Author.Needs.{needs}
@@ -131,49 +127,15 @@ returns-2 c =
     (at-is-doubled c .is-doubled .ensures)
     (c .if1 .taken)
 
-has-cycle-requires : tie.Need-has-cycle-requires
-has-cycle-requires c κs = (
-  at-build-index .build-index .ensures,
-  (
-    few-edges (start .args .rec .now)
-        (layout-none (start .args .rec .now) (at-check-layout .check-layout .ensures) (at-k .k .given .1)) (start .pre)
-        (at-load-graph .load-graph .ensures),
-    read-peelable (start .args .rec .now)
-        (layout-none (start .args .rec .now) (at-check-layout .check-layout .ensures) (at-k .k .given .1)) (start .pre)
-        (at-load-graph .load-graph .ensures) (at-is-doubled .is-doubled .kept .1 .1 .1 .1 .1 .1 .1 .1 .0),
-  ),
-)
-  where
-    at-is-doubled : tie.After-is-doubled
-    at-is-doubled = search
-
-    at-build-index : tie.After-build-index
-    at-build-index = let c = at-is-doubled in search
-
-    at-load-graph : tie.After-load-graph
-    at-load-graph = let c = at-build-index in search
-
-    at-k : tie.After-k
-    at-k = let c = at-load-graph in search
-
-    at-check-layout : tie.After-check-layout
-    at-check-layout = let c = at-k in search
-
-    start : tie.Start
-    start = let c = at-check-layout in search
-
-module _ (c : tie.Then2) where
-  abbrev at-has-cycle : tie.After-has-cycle
-  at-has-cycle = search
-
-  abbrev at-if1 : tie.Else1
-  at-if1 = let c = at-has-cycle in search
-
+module _ (c : tie.Else1) where
   abbrev at-is-doubled-2 : tie.After-is-doubled
-  at-is-doubled-2 = let c = at-if1 in search
+  at-is-doubled-2 = search
+
+  abbrev at-build-index : tie.After-build-index
+  at-build-index = let c = at-is-doubled-2 in search
 
   abbrev at-load-graph-2 : tie.After-load-graph
-  at-load-graph-2 = let c = at-is-doubled-2 in let c : tie.After-build-index = search in search
+  at-load-graph-2 = let c = at-build-index in search
 
   abbrev at-k-2 : tie.After-k
   at-k-2 = let c = at-load-graph-2 in search
@@ -183,9 +145,6 @@ module _ (c : tie.Then2) where
 
   abbrev start-2 : tie.Start
   start-2 = let c = at-check-layout-2 in search
-
-  abbrev at-build-index : tie.After-build-index
-  at-build-index = let c : tie.Else1 = search in let c : tie.After-is-doubled-arg = search in search
 
 same-length-8 : tie.Need-same-length-8
 same-length-8 c = at-load-graph-2 c .load-graph .kept .1 .1 .0
@@ -203,78 +162,19 @@ same-length-12 : tie.Need-same-length-12
 same-length-12 c = at-build-index c .build-index .kept .1 .1 .1 .1 .0
 
 same-length-14 : tie.Need-same-length-14
-same-length-14 c =
-    at-has-cycle c .has-cycle .kept .1 .1 .1 .1 .1 .0 ∙ at-is-doubled-2 c .is-doubled .kept .1 .1 .1 .1 .1 .1 .1 .1 .0
+same-length-14 c = at-is-doubled-2 c .is-doubled .kept .1 .1 .1 .1 .1 .1 .1 .1 .0
 
 returns-3 : tie.Need-returns-3
 returns-3 c =
-    read-7
+    read-0
     (start-2 c .args .rec .now)
     (layout-none (start-2 c .args .rec .now) (at-check-layout-2 c .check-layout .ensures) (at-k-2 c .k .given .1))
     (start-2 c .pre)
     (at-load-graph-2 c .load-graph .ensures)
     (at-is-doubled-2 c .is-doubled .ensures)
-    (at-if1 c .if1 .left)
-    (at-has-cycle c .has-cycle .ensures)
-    (c .if2 .taken)
-
-module _ (c : tie.Else2) where
-  abbrev at-has-cycle-2 : tie.After-has-cycle
-  at-has-cycle-2 = search
-
-  abbrev at-if1-2 : tie.Else1
-  at-if1-2 = let c = at-has-cycle-2 in search
-
-  abbrev at-is-doubled-3 : tie.After-is-doubled
-  at-is-doubled-3 = let c = at-if1-2 in search
-
-  abbrev at-build-index-2 : tie.After-build-index
-  at-build-index-2 = let c = at-is-doubled-3 in search
-
-  abbrev at-load-graph-3 : tie.After-load-graph
-  at-load-graph-3 = let c = at-build-index-2 in search
-
-  abbrev at-k-3 : tie.After-k
-  at-k-3 = let c = at-load-graph-3 in search
-
-  abbrev at-check-layout-3 : tie.After-check-layout
-  at-check-layout-3 = let c = at-k-3 in search
-
-  abbrev start-3 : tie.Start
-  start-3 = let c = at-check-layout-3 in search
-
-same-length-16 : tie.Need-same-length-16
-same-length-16 c = at-load-graph-3 c .load-graph .kept .1 .1 .0
-
-same-length-17 : tie.Need-same-length-17
-same-length-17 c = at-load-graph-3 c .load-graph .kept .1 .1 .1 .0
-
-same-length-18 : tie.Need-same-length-18
-same-length-18 c = at-load-graph-3 c .load-graph .kept .1 .1 .1 .1 .0
-
-same-length-19 : tie.Need-same-length-19
-same-length-19 c = at-build-index-2 c .build-index .kept .1 .1 .1 .0
-
-same-length-20 : tie.Need-same-length-20
-same-length-20 c = at-build-index-2 c .build-index .kept .1 .1 .1 .1 .0
-
-same-length-22 : tie.Need-same-length-22
-same-length-22 c =
-    at-has-cycle-2 c .has-cycle .kept .1 .1 .1 .1 .1 .0 ∙ at-is-doubled-3 c .is-doubled .kept .1 .1 .1 .1 .1 .1 .1 .1 .0
-
-returns-4 : tie.Need-returns-4
-returns-4 c =
-    read-0
-    (start-3 c .args .rec .now)
-    (layout-none (start-3 c .args .rec .now) (at-check-layout-3 c .check-layout .ensures) (at-k-3 c .k .given .1))
-    (start-3 c .pre)
-    (at-load-graph-3 c .load-graph .ensures)
-    (at-is-doubled-3 c .is-doubled .ensures)
-    (at-if1-2 c .if1 .left)
-    (at-has-cycle-2 c .has-cycle .ensures)
-    (c .if2 .left)
-    (at-load-graph-3 c .load-graph .kept .1 .1 .1 .1 .0)
-    (at-build-index-2 c .build-index .ensures)
+    (c .if1 .left)
+    (at-load-graph-2 c .load-graph .kept .1 .1 .1 .1 .0)
+    (at-build-index c .build-index .ensures)
 
 same-length-4 : tie.Need-same-length-4
 same-length-4 c =
@@ -292,14 +192,7 @@ same-length-7 c =
     at-is-doubled .is-doubled .kept .1 .1 .1 .1 .1 .1 .1 .1 .0
 
 same-length-13 : tie.Need-same-length-13
-same-length-13 c =
-    let at-is-doubled : tie.After-is-doubled = let c : tie.Else1 = search in search in
-    at-is-doubled .is-doubled .kept .1 .1 .1 .1 .1 .1 .1 .0
-
-same-length-21 : tie.Need-same-length-21
-same-length-21 c =
-    let at-is-doubled : tie.After-is-doubled = let c : tie.Else1 = search in search in
-    at-is-doubled .is-doubled .kept .1 .1 .1 .1 .1 .1 .1 .0
+same-length-13 c = at-is-doubled-2 c .is-doubled .kept .1 .1 .1 .1 .1 .1 .1 .0
 
 pub read-kmer-graph-spec : {M : Type 1} → statement M
 read-kmer-graph-spec =
@@ -320,7 +213,6 @@ read-kmer-graph-spec =
     (λ c. search needs)
     same-length-7
     returns-2
-    has-cycle-requires
     same-length-8
     same-length-9
     same-length-10
@@ -328,14 +220,4 @@ read-kmer-graph-spec =
     same-length-12
     same-length-13
     same-length-14
-    (λ c. search needs)
-    returns-3
-    same-length-16
-    same-length-17
-    same-length-18
-    same-length-19
-    same-length-20
-    same-length-21
-    same-length-22
-    (λ c. search needs)
-    returns-4)
+    returns-3)

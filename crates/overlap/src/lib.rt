@@ -1,0 +1,37 @@
+// Whether the k-mers of each edge follow one another, which conversion asks: refusal 15. The record's bytes are compared where they stand.
+ghost use mathlib.Core.Path.{_≡_};
+ghost use Prim.Native.Nat.{_<_};
+ghost use Rattle.defs.specs.Record.{edgesOf, bytesAt, verticesOf, edgeAt, decode};
+ghost use Rattle.defs.specs.Assembly.{overlaps};
+ghost use Rattle.defs.specs.Refusals.{edgeWithoutOverlap};
+ghost use Rattle.overlap.specs.Overlap.{KmerRecord};
+use kmer::KmerSize;
+
+// Whether the last k - 1 bytes of edge i's from are the first k - 1 bytes of its to. The k-mers stand from `at` on, k bytes each.
+fn edge_overlaps(rec: &[u8], k: KmerSize, at: usize, i: usize) -> bool
+    requires { ⌜ KmerRecord (now rec) k × ((at ≡ bytesAt (verticesOf (now rec)) (edgesOf (now rec))) × (i < edgesOf (now rec))) ⌝ }
+    ensures { λ r. ⌜ r ≡ overlaps (decode (now (rec .entry))) (edgeAt (now (rec .entry)) i) ⌝ }
+{
+    let size = kmer::value(k) as usize;
+    let from = record::edge_from_at(rec, i) as usize;
+    let to = record::edge_to_at(rec, i) as usize;
+    pool::same_part(rec, at + size * from + 1, at + size * to, size - 1)
+}
+
+// 15: an edge between k-mers that do not follow one another.
+pub fn edge_without_overlap(rec: &[u8], k: KmerSize) -> bool
+    requires { ⌜ KmerRecord (now rec) k ⌝ }
+    ensures { λ r. ⌜ r ≡ edgeWithoutOverlap (decode (now (rec .entry))) ⌝ }
+{
+    let e = record::edge_count(rec);
+    let at = 32 + 2 * record::vertex_count(rec) + 9 * e;
+    let mut i = 0;
+    while i < e {
+        let j = i;
+        i += 1;
+        if !edge_overlaps(rec, k, at, j) {
+            return true;
+        }
+    }
+    false
+}
