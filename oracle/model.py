@@ -453,6 +453,7 @@ def has_incoming(record):
 
 
 def from_assembly_graph(record):
+    """Number 8; reading the record has come first, with 1 to 7 and, in the call, 15."""
     kmers = sequences_of(record)
     kept = [s[-1:] if inner else s for s, inner in zip(kmers, has_incoming(record))]
     require(sum(map(len, kept)) <= MAX_BYTES, 8)

@@ -1,4 +1,4 @@
-"""The record SGR1: its layout, and the refusals 1 to 7, as document 01 states them."""
+"""The record SGR1: its layout, the refusals 1 to 7 as document 01 states them, and 15 as document 02 does."""
 import struct
 from collections import namedtuple
 
@@ -100,8 +100,14 @@ def has_cycle(vertices, edges):
     return len(free) < vertices
 
 
+def overlaps(record):
+    """Whether of each edge the last k - 1 bytes of from are the first k - 1 bytes of to."""
+    kmers, shared = sequences_of(record), record.k - 1
+    return all(kmers[x[0]][-shared:] == kmers[x[1]][:shared] for x in record.edges)
+
+
 def read_record(call, data):
-    """Numbers 1 to 7."""
+    """Numbers 1 to 7; in conversion alone also 15, behind 6 and before 7."""
     kind, k, v, e, b = check_header(call, data)
     lengths = struct.unpack_from("<%dH" % v, data, HEADER)
     require(sum(lengths) == b and (kind == SEQUENCE or all(n == k for n in lengths)), 4)
@@ -111,5 +117,6 @@ def read_record(call, data):
     record = Record(kind, k, parts_of(lengths, bytes_at), edges, data)
     require(len({x[:2] for x in edges}) == e, 6)
     require(kind == SEQUENCE or len(set(sequences_of(record))) == v, 6)
+    require(call != FROM_ASSEMBLY_GRAPH or overlaps(record), 15)
     require(not has_cycle(v, edges), 7)
     return record
