@@ -222,6 +222,38 @@ def kmer_graph(rng, k, length, count):
     return renumbered(rng, list(number), [(a, b, s, r) for (a, b), (s, r) in edges.items()])
 
 
+def turning_kmers(rng, k, letters):
+    """The k-mers of a short word repeated without end: each may follow the one before, and the first the last."""
+    unit = word(rng, 1, 3, letters)
+    text = unit * (k + 1)
+    return {text[at : at + k]: at for at in range(len(unit))}
+
+
+def grow_kmers(rng, k, count, letters, level):
+    """Adds up to so many k-mers: by themselves, or next to one that is there and a level above or below it."""
+    for _ in range(count):
+        step = rng.choice([-1, -1, 0, 1, 1, 1]) if level else 0
+        known = rng.choice(list(level)) if step else word(rng, k, k, letters)
+        byte = word(rng, 1, 1, letters)
+        found = {-1: byte + known[:-1], 0: known, 1: known[1:] + byte}[step]
+        level.setdefault(found, level.get(known, rng.randint(0, 3)) + step)
+
+
+def overlapping_kmers(rng, k, count):
+    """k-mers grown from one another, with edges that all overlap; they lead to higher levels, in a few graphs back too."""
+    letters = rng.choice([b"AC", b"AC", b"ACGT", bytes(range(256))])
+    turning = count > 0 and rng.random() < 0.1
+    level = turning_kmers(rng, k, letters) if turning else {}
+    grow_kmers(rng, k, count - len(level), letters, level)
+    found, often = list(level), rng.choice([0.5, 0.8, 1])
+    pairs = [(a, b) for a, x in enumerate(found) for b, y in enumerate(found) if x[1:] == y[:-1]]
+    rising = [(a, b) for a, b in pairs if level[found[a]] < level[found[b]] and rng.random() < often]
+    edges = flagged(rng, len(found), rising)
+    if turning:
+        edges += [(a, b, support(rng), rng.randint(0, 1)) for a, b in pairs if level[found[a]] >= level[found[b]]]
+    return renumbered(rng, found, edges)
+
+
 def scattered_kmers(rng, k, vertices):
     """Random k-mers with edges that need not overlap."""
     found = sorted({word(rng, k, k, b"AC" if k > 4 else bytes(range(256))) for _ in range(vertices)})
