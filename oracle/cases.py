@@ -6,10 +6,13 @@ import struct
 from collections import namedtuple
 
 import graphs
-from model import Tally, finish, outcome_of, vertex_sequence
-from sgr1 import CALLS, FROM_ASSEMBLY_GRAPH, MAX_U32, PATH_BASES_BYTES, SEQUENCE, VERTEX_SEQUENCE, encode
+from model import Tally, encode_graph, finish, from_assembly_graph, outcome_of, vertex_sequence
+from sgr1 import (
+    CALLS, FROM_ASSEMBLY_GRAPH, MAX_U32, PATH_BASES_BYTES, SEQUENCE, VERTEX_SEQUENCE, Refused, encode, read_record,
+)
 
 LABEL = 7
+NO_OVERLAP = 15
 SEQUENCE_CALLS = [c for c in CALLS if c not in (VERTEX_SEQUENCE, FROM_ASSEMBLY_GRAPH)]
 
 Case = namedtuple("Case", "call start room tally record numbers answer")
@@ -47,14 +50,25 @@ def rooms_for(rng, outcome, all_rooms):
     return rooms if all_rooms else [exact] if rng.random() < 0.7 else [rng.choice(rooms)]
 
 
+def converted_unasked(record):
+    """The outcome of conversion if it did not ask whether the k-mers overlap."""
+    try:
+        graph = from_assembly_graph(read_record(VERTEX_SEQUENCE, record))
+    except Refused as refused:
+        return refused.number
+    return encode_graph(graph, 0), (0, 0, 0), 0
+
+
 def cases_of(rng, call, record, start=0, numbers=(), all_rooms=False):
     """The cases of one input: one, or one for each room."""
     if call == VERTEX_SEQUENCE:
         tally = Tally(0, 0, 0)
         return [Case(call, start, 0, tally, record, (), vertex_sequence(record, start, tally))]
     outcome = outcome_of(call, record, start, numbers)
+    # Refused with 15, it gets the rooms of what it would give else: a call that writes first, or says 11, is seen there.
+    measured = converted_unasked(record) if outcome == NO_OVERLAP else outcome
     found = []
-    for room in rooms_for(rng, outcome, all_rooms):
+    for room in rooms_for(rng, measured, all_rooms):
         tally = random_tally(rng)
         found.append(Case(call, start, room, tally, record, tuple(numbers), finish(outcome, room, tally)))
     return found
@@ -120,11 +134,11 @@ def cases_of_graph(rng, graph, calls=CALLS, all_rooms=False):
 
 
 def cases_of_kmers(rng, k, graph, all_rooms=False):
-    """Conversion and the sequence call; the other calls on what conversion makes."""
+    """Conversion and the sequence call; the other calls on what conversion makes, or would make if it did not ask 15."""
     record = graphs.kmer_record(k, graph)
     yield from cases_of(rng, VERTEX_SEQUENCE, record, vertex_for(rng, graph))
     yield from cases_of(rng, FROM_ASSEMBLY_GRAPH, record, all_rooms=all_rooms)
-    outcome = outcome_of(FROM_ASSEMBLY_GRAPH, record, 0, ())
+    outcome = converted_unasked(record)
     if not isinstance(outcome, int):
         for call in SEQUENCE_CALLS:
             yield from cases_of(rng, call, outcome[0], all_rooms=all_rooms)
