@@ -166,15 +166,86 @@ def whole(rng, d):
 FIELD_FAULTS = [mark, kind, status, k, count, offset, whole]
 
 
-def random_faults(rng, draft):
-    """One to three faults, of which the lowest number counts."""
-    chosen = rng.sample(CONTENT_FAULTS + FIELD_FAULTS, rng.choice([1, 1, 2, 3]))
+def with_faults(rng, draft, chosen):
+    """The record with these faults: those of the contents first, in their order."""
     for fault in chosen:
-        if fault in CONTENT_FAULTS:
+        if fault not in FIELD_FAULTS:
             fault(rng, draft)
     draft.settle()
     for fault in chosen:
         if fault in FIELD_FAULTS:
             fault(rng, draft)
-    record = draft.record()
+    return draft.record()
+
+
+def random_faults(rng, draft):
+    """One to three faults, of which the first in the order of the numbers counts."""
+    chosen = rng.sample(CONTENT_FAULTS + FIELD_FAULTS, rng.choice([1, 1, 2, 3]))
+    record = with_faults(rng, draft, chosen)
     return with_whole_length(record + b"A") if rng.random() < 0.05 else record
+
+
+# Faults of overlap, in drafts of k-mers; each vertex still has k bytes.
+
+
+def kmer(d, v):
+    return d.data[d.k * v : d.k * (v + 1)]
+
+
+def change_byte(rng, d, v, at):
+    """Puts another byte in this place of the vertex's k-mer."""
+    place = d.k * v + at
+    d.data = d.data[:place] + bytes([d.data[place] ^ rng.choice([1, 2, 128])]) + d.data[place + 1 :]
+
+
+def add_edge(rng, d, overlapping):
+    """A new edge between two k-mers that overlap, or between two that do not."""
+    vertices = range(len(d.lengths))
+    pairs = {(a, b) for a in vertices for b in vertices if (kmer(d, a)[1:] == kmer(d, b)[:-1]) == overlapping}
+    pairs -= {(a, b) for a, b, _, _ in d.edges}
+    if pairs:
+        d.edges.insert(rng.randint(0, len(d.edges)), [*rng.choice(sorted(pairs)), 1, 0])
+
+
+def edge_without_overlap(rng, d):
+    add_edge(rng, d, False)
+
+
+def edge_with_overlap(rng, d):
+    """No fault of overlap; it may close a cycle."""
+    add_edge(rng, d, True)
+
+
+def broken_overlap(rng, d):
+    """Of what an edge's two k-mers share, the first byte, the last or any is changed in one of them."""
+    if d.edges:
+        a, b, _, _ = rng.choice(d.edges)
+        at = rng.choice([0, d.k - 2, rng.randrange(d.k - 1)])
+        change_byte(rng, d, *rng.choice([(a, at + 1), (b, at)]))
+
+
+def beside_overlap(rng, d):
+    """No fault: of a k-mer that nothing leads to the first byte, of one that leads nowhere the last: no overlap has them."""
+    starts, ends = {x[0] for x in d.edges}, {x[1] for x in d.edges}
+    free = [(v, 0) for v in sorted(starts - ends)] + [(v, d.k - 1) for v in sorted(ends - starts)]
+    if free:
+        change_byte(rng, d, *rng.choice(free))
+
+
+def swapped_ends(rng, d):
+    if d.edges:
+        x = rng.choice(d.edges)
+        x[0], x[1] = x[1], x[0]
+
+
+OVERLAP_FAULTS = [
+    edge_without_overlap, broken_overlap, broken_overlap, swapped_ends, edge_with_overlap, beside_overlap,
+]
+# Of the numbers asked right before 15 and right behind it, 6 and 7.
+NEAR_OVERLAP = [double_edge, equal_vertices, self_edge, back_edge]
+
+
+def overlap_faults(rng, draft):
+    """One fault of overlap, alone or with one or two that are asked before it or behind it."""
+    near = rng.sample(NEAR_OVERLAP, rng.choice([0, 0, 1, 2]))
+    return with_faults(rng, draft, [rng.choice(OVERLAP_FAULTS), *near])

@@ -239,14 +239,15 @@ def grow_kmers(rng, k, count, letters, level):
         level.setdefault(found, level.get(known, rng.randint(0, 3)) + step)
 
 
-def overlapping_kmers(rng, k, count):
-    """k-mers grown from one another, with edges that all overlap; they lead to higher levels, in a few graphs back too."""
+def overlapping_kmers(rng, k, count, cycles=0.1):
+    """k-mers grown from one another, with edges that all overlap; of the graphs about this share has cycles."""
     letters = rng.choice([b"AC", b"AC", b"ACGT", bytes(range(256))])
-    turning = count > 0 and rng.random() < 0.1
+    turning = count > 0 and rng.random() < cycles
     level = turning_kmers(rng, k, letters) if turning else {}
     grow_kmers(rng, k, count - len(level), letters, level)
     found, often = list(level), rng.choice([0.5, 0.8, 1])
     pairs = [(a, b) for a, x in enumerate(found) for b, y in enumerate(found) if x[1:] == y[:-1]]
+    # Along these the level rises, so that they close no cycle.
     rising = [(a, b) for a, b in pairs if level[found[a]] < level[found[b]] and rng.random() < often]
     edges = flagged(rng, len(found), rising)
     if turning:
