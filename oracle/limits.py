@@ -41,20 +41,48 @@ def kmers(count, k):
 
 
 def kmers_of_bytes(total, k=128):
-    """A k-mer graph whose conversion has so many bytes: k for each source, 1 for each other vertex."""
+    """A k-mer graph whose conversion has so many bytes: k for each source, 1 for each follower of the first one."""
     sources = total // k - 1
     others = total - k * sources
-    return kmers(sources + others, k), [(0, sources + v, 1, int(v == 0)) for v in range(others)]
+    shared = b"C" * (k - 1)
+    found = [b"A" + shared, *kmers(sources - 1, k), *(shared + bytes([v]) for v in range(others))]
+    return found, [(0, sources + v, 1, int(v == 0)) for v in range(others)]
+
+
+def with_stray_edge(graph):
+    """A graph of kmers_of_bytes with one edge more, from the second source to the last follower: it does not overlap."""
+    return graph[0], graph[1] + [(1, len(graph[0]) - 1, 1, 0)]
+
+
+def kmers_of_edges(count):
+    """Each of 64 k-mers of two bytes leads to each of 64 others; a last one has the edges past these."""
+    found = [bytes([a, 255]) for a in range(65)] + [bytes([255, b]) for b in range(64)]
+    pairs = [(a, 65 + b) for b in range(64) for a in range(64)] + [(64, 65 + b) for b in range(64)]
+    return found, [(a, b, 1, int(a == b - 65)) for a, b in pairs[:count]]
+
+
+def rising_text(count):
+    """So many bytes, of two-byte numbers that rise by one: no four in a row come twice."""
+    return b"".join(v.to_bytes(2, "big") for v in range((count + 1) // 2))[:count]
+
+
+def kmers_in_a_row(count, k):
+    text = rising_text(count + k)
+    return [text[v : v + k] for v in range(count)], [(v, v + 1, 1, 1) for v in range(count - 1)]
+
+
+def kmers_in_a_circle(count, k):
+    text = rising_text(count) * 2
+    return [text[v : v + k] for v in range(count)], [(v, (v + 1) % count, 1, 1) for v in range(count)]
 
 
 def kmers_at_limits():
-    """(name, k, graph)"""
+    """(name, k, graph); all edges overlap, so that the limit decides."""
     for name, extra in (("at", 0), ("past", 1)):
         yield "vertices " + name, 2, (kmers(MAX_VERTICES + extra, 2), [(0, 1, 1, 1)])
-        edges = dense_before_reference(MAX_EDGES + extra)[1]
-        yield "edges " + name, 2, (kmers(92, 2), edges)
+        yield "edges " + name, 2, kmers_of_edges(MAX_EDGES + extra)
         yield "bytes " + name, 128, kmers_of_bytes(MAX_BYTES + extra)
-        yield "k " + name, 128 + extra, (kmers(3, 128 + extra), [(0, 1, 1, 1)])
+        yield "k " + name, 128 + extra, kmers_in_a_row(3, 128 + extra)
     yield "k below", 1, ([b"A", b"C"], [(0, 1, 1, 1)])
     yield "no vertices", 2, ([], [])
 
@@ -106,3 +134,13 @@ def large_with_fault():
 
 def equal_last_kmers():
     return kmers(MAX_VERTICES - 1, 8) + kmers(1, 8), []
+
+
+def large_kmers():
+    """(k, graph) of 2,048 k-mers: in a row; the last out of it; in a circle; with an edge back to the first."""
+    for k in (8, 128):
+        found, edges = kmers_in_a_row(MAX_VERTICES, k)
+        yield k, (found, edges)
+        yield k, (found[:-1] + [b"C" * k], edges)
+        yield k, kmers_in_a_circle(MAX_VERTICES, k)
+        yield k, (found, edges + [(MAX_VERTICES - 1, 0, 1, 0)])
