@@ -201,9 +201,80 @@ KMER_GRAPHS = [
     (2, ([b"AC"], [])),
     (3, ([b"ACG", b"CGT", b"CGA"], [(0, 1, 5, 1), (0, 2, 2, 0)])),
     (3, ([b"CGT", b"ACG", b"CGA", b"TCG"], [(3, 0, 1, 0), (1, 0, 5, 1), (3, 2, TOP, 1), (1, 2, 2, 0)])),
+    # Bytes at the ends of their range; the edges at 7f 80 do not overlap.
     (
         2,
         ([b"\xff\x00", b"\x00\xff", b"\x00\x00", b"\x7f\x80"], [(0, 1, 1, 1), (2, 1, 2, 0), (2, 3, 3, 1), (3, 1, 4, 0)]),
     ),
     (128, ([b"A" * 128, b"A" * 127 + b"C"], [(0, 1, 1, 1)])),
 ]
+
+# 64 k-mers of 128 bytes, and one that follows the first of them: with one edge to it they come to 8,193 bytes.
+LONG_KMERS = [bytes([v]) * 128 for v in range(64)] + [b"\0" * 127 + b"\1"]
+
+# The number that conversion must give, the k-mers and the edges; all supports are 1.
+OVERLAP = [
+    # Every edge overlaps: k 2, k 3 with branches in and out, k 4, bytes 0 and 255.
+    (0, [b"AC", b"CG"], "0>1"),
+    (0, [b"CGT", b"ACG", b"TCG", b"CGA", b"GTT"], "1>0 2>0 1>3 2>3 0>4"),
+    (0, [b"TACG", b"ACGT", b"CACG", b"ACGG"], "0>1 2>3 0>3 2>1"),
+    (0, [b"\xff\x00", b"\x00\xff", b"\x00\x00", b"\x00\x80"], "0>1 2>1 0>3 2>3"),
+    # k 128: the first byte of from and the last byte of to are not in the overlap.
+    (0, [b"\xff" + b"\0" * 127, b"\0" * 127 + b"\x80"], "0>1"),
+    (0, [b"C" + b"A" * 127, b"A" * 127 + b"G", b"A" * 128], "0>1 0>2 2>1"),
+    # 15 alone. The smallest; the byte that differs is 0 and 128, 255 and 127.
+    (15, [b"AA", b"CC"], "0>1"),
+    (15, [b"\x01\x00", b"\x80\x01"], "0>1"),
+    (15, [b"\x01\xff", b"\x7f\x01"], "0>1"),
+    # 15 alone. The edge is the first, in the middle, the last; it begins at the lowest k-mer, at the highest.
+    (15, [b"ACG", b"CGT", b"GTA", b"TCC"], "0>3 0>1 1>2"),
+    (15, [b"ACG", b"CGT", b"GTA", b"TCC"], "0>1 0>3 1>2"),
+    (15, [b"ACG", b"CGT", b"GTA", b"TCC"], "0>1 1>2 0>3"),
+    (15, [b"CGT", b"AAA", b"GTA", b"ACG"], "3>0 0>2 1>3"),
+    (15, [b"TTT", b"ACG", b"CGT", b"GTA"], "1>2 0>2 2>3"),
+    # 15 alone. Of what ACGTA and CGTAC share the first byte differs, the second, the third, the last; in to, then in from.
+    (15, [b"ACGTA", b"TGTAC"], "0>1"),
+    (15, [b"ACGTA", b"CCTAC"], "0>1"),
+    (15, [b"ACGTA", b"CGCAC"], "0>1"),
+    (15, [b"ACGTA", b"CGTCC"], "0>1"),
+    (15, [b"ATGTA", b"CGTAC"], "0>1"),
+    (15, [b"ACCTA", b"CGTAC"], "0>1"),
+    (15, [b"ACGCA", b"CGTAC"], "0>1"),
+    (15, [b"ACGTC", b"CGTAC"], "0>1"),
+    # 15 alone. The first byte of k 128's overlap differs, the last; of two followers only the second's.
+    (15, [b"A" * 128, b"C" + b"A" * 127], "0>1"),
+    (15, [b"A" * 128, b"A" * 126 + b"CA"], "0>1"),
+    (15, [b"A" * 128, b"A" * 127 + b"C", b"A" * 126 + b"CA"], "0>1 0>2"),
+    # 15 alone. Only k - 2 bytes overlap; the edge should lead the other way; equal beginnings; equal ends.
+    (15, [b"AACG", b"CGTT"], "0>1"),
+    (15, [b"CGT", b"ACG"], "0>1"),
+    (15, [b"ACGA", b"ACGT"], "0>1"),
+    (15, [b"AACG", b"CACG"], "0>1"),
+    # 6 and 15: equal k-mers beside the edge, one of them its end; the edge itself twice, another one twice; with 7 too.
+    (6, [b"AA", b"CC", b"AC", b"AC"], "0>1"),
+    (6, [b"AA", b"CC", b"CC"], "0>1"),
+    (6, [b"AA", b"CC"], "0>1 0>1"),
+    (6, [b"AA", b"CC", b"AC"], "0>2 0>1 0>2"),
+    (6, [b"AC"], "0>0 0>0"),
+    # 15 and 7: a self edge, cycles with one edge that does not overlap, such an edge beside a cycle, behind a self edge; k 128.
+    (15, [b"AC"], "0>0"),
+    (15, [b"ACG", b"CGT"], "0>1 1>0"),
+    (15, [b"ACG", b"CGT", b"GTA"], "2>0 0>1 1>2"),
+    (15, [b"AC", b"CA", b"GG", b"TT"], "0>1 1>0 2>3"),
+    (15, [b"AA", b"CC"], "0>0 0>1"),
+    (15, [b"A" * 127 + b"C"], "0>0"),
+    # 7 alone: every edge of the cycle overlaps; a self edge of one repeated byte; k 128.
+    (7, [b"AC", b"CA"], "0>1 1>0"),
+    (7, [b"ACG", b"CGA", b"GAC", b"GAT"], "0>1 1>2 2>0 1>3"),
+    (7, [b"AA"], "0>0"),
+    (7, [b"\xff\xff\xff", b"\0\xff\xff"], "1>0 0>0"),
+    (7, [b"A" * 128, b"A" * 127 + b"C"], "0>1 0>0"),
+    (7, [b"AC" * 64, b"CA" * 64], "0>1 1>0"),
+    # 8 alone; 15 and 8; 15, 7 and 8.
+    (8, LONG_KMERS, "0>64"),
+    (15, LONG_KMERS, "1>64"),
+    (15, LONG_KMERS + [b"AC" * 64], "1>64 65>65"),
+]
+
+# The number of conversion, k and the graph.
+KMER_OVERLAP = [(number, len(kmers[0]), (kmers, of_support_1(edges))) for number, kmers, edges in OVERLAP]
