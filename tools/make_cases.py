@@ -24,6 +24,8 @@ import sgr1  # noqa: E402
 # How often the parts by chance are repeated.
 TIMES = {"short": 1, "long": 30}
 KS = [2, 3, 5, 8, 11, 25, 40]
+# The calls that take k-mers.
+KMER_CALLS = (sgr1.VERTEX_SEQUENCE, sgr1.FROM_ASSEMBLY_GRAPH)
 
 
 def many(count, make):
@@ -56,6 +58,10 @@ def kmer_graphs(rng):
         k = rng.choice(KS[low:high])
         return k, graphs.kmer_graph(rng, k, rng.randint(k + 4, size), rng.randint(1, 5))
 
+    def overlapping(size, cycles):
+        k = rng.choice(KS)
+        return k, graphs.overlapping_kmers(rng, k, rng.randint(0, size), cycles)
+
     def scattered():
         k = rng.choice(KS)
         return k, graphs.scattered_kmers(rng, k, rng.randint(0, 20))
@@ -66,7 +72,10 @@ def kmer_graphs(rng):
     yield "k-mers of haplotypes", many(800, lambda: related(2, 5, 80))
     yield "k-mers of haplotypes, many cycles", many(200, lambda: related(0, 3, 60))
     yield "k-mers of haplotypes, larger", many(6, lambda: related(5, 7, 600))
-    yield "scattered k-mers", many(600, scattered)
+    yield "overlapping k-mers", many(600, lambda: overlapping(25, 0.05))
+    yield "overlapping k-mers, many cycles", many(100, lambda: overlapping(25, 1))
+    yield "overlapping k-mers, larger", many(20, lambda: overlapping(200, 0))
+    yield "scattered k-mers", many(200, scattered)
     yield "capped k-mers", many(200, lambda: capped(*related(2, 5, 80)))
 
 
@@ -85,26 +94,40 @@ def emit_by_chance(rng):
             emit(label, cases.cases_of_kmers(rng, k, graph))
 
 
-def small_drafts(rng):
+def small_draft(rng, kind):
     k = rng.choice(KS[:4])
-    yield damage.Draft(sgr1.SEQUENCE, k, graphs.random_graph(rng, rng.randint(1, 6)))
-    yield damage.Draft(sgr1.KMER, k, graphs.scattered_kmers(rng, k, rng.randint(1, 6)))
+    if kind == sgr1.KMER:
+        return damage.Draft(kind, k, graphs.overlapping_kmers(rng, k, rng.randint(2, 8)))
+    return damage.Draft(kind, k, graphs.random_graph(rng, rng.randint(1, 6)))
+
+
+def drafts_with_edges(rng):
+    """A draft of each kind, with two edges or more."""
+    for kind in (sgr1.SEQUENCE, sgr1.KMER):
+        draft = small_draft(rng, kind)
+        while len(draft.edges) < 2:
+            draft = small_draft(rng, kind)
+        yield draft
 
 
 def emit_damage(rng):
-    for draft in small_drafts(rng):
+    for draft in drafts_with_edges(rng):
         for record in damage.damaged(draft.record()):
             for call in sgr1.CALLS:
                 emit("every field, byte and length", cases.cases_of(rng, call, record, rng.randint(0, 1)))
-    for draft in small_drafts(rng):
+    for draft in drafts_with_edges(rng):
         for record in damage.with_flags(draft.record()):
             for call in sgr1.CALLS:
                 emit("every flag", cases.cases_of(rng, call, record, rng.randint(0, 1)))
     for _ in range(1500):
-        for draft in small_drafts(rng):
-            record = damage.random_faults(rng, draft)
+        for kind in (sgr1.SEQUENCE, sgr1.KMER):
+            record = damage.random_faults(rng, small_draft(rng, kind))
             for call in sgr1.CALLS:
                 emit("up to three faults", cases.cases_of(rng, call, record, rng.randint(0, 1)))
+    for _ in range(1500):
+        record = damage.overlap_faults(rng, small_draft(rng, sgr1.KMER))
+        for call in KMER_CALLS:
+            emit("faults of overlap", cases.cases_of(rng, call, record, rng.randint(0, 1)))
 
 
 def emit_by_hand(rng):
@@ -116,6 +139,8 @@ def emit_by_hand(rng):
         emit("capped by hand", cases.cases_of_graph(rng, graph, all_rooms=True))
     for k, graph in examples.KMER_CAPPED:
         emit("capped by hand", cases.cases_of_kmers(rng, k, graph, all_rooms=True))
+    for _, k, graph in examples.KMER_OVERLAP:
+        emit("overlap by hand", cases.cases_of_kmers(rng, k, graph, all_rooms=True))
     for graph in examples.SETTLING:
         emit("settling late", cases.cases_of_graph(rng, graph, all_rooms=True))
 
@@ -129,6 +154,8 @@ def emit_limits(rng):
         for total in range(sgr1.MAX_BYTES - 1, sgr1.MAX_BYTES + 3):
             found = limits.kmers_of_bytes(total, k)
             emit("limits of k-mers", cases.cases_of_kmers(rng, k, found))
+            stray = graphs.kmer_record(k, limits.with_stray_edge(found))
+            emit("limits of k-mers", cases.cases_of(rng, sgr1.FROM_ASSEMBLY_GRAPH, stray, all_rooms=True))
 
 
 def emit_large(rng, mode):
@@ -137,6 +164,9 @@ def emit_large(rng, mode):
     for graph in limits.large_with_fault():
         emit("large with a fault", cases.cases_of_graph(rng, graph))
     emit("large with a fault", cases.cases_of_kmers(rng, 8, limits.equal_last_kmers()))
+    for k, graph in limits.large_kmers():
+        for call in KMER_CALLS:
+            emit("large k-mers", cases.cases_of(rng, call, graphs.kmer_record(k, graph)))
 
 
 def emit_full(rng, mode):
