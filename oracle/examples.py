@@ -212,7 +212,7 @@ KMER_GRAPHS = [
 # 64 k-mers of 128 bytes, and one that follows the first of them: with one edge to it they come to 8,193 bytes.
 LONG_KMERS = [bytes([v]) * 128 for v in range(64)] + [b"\0" * 127 + b"\1"]
 
-# The number that conversion must give, the k-mers and the edges; all supports are 1.
+# The number that conversion must give, the k-mers and the edges.
 OVERLAP = [
     # Every edge overlaps: k 2, k 3 with branches in and out, k 4, bytes 0 and 255.
     (0, [b"AC", b"CG"], "0>1"),
@@ -222,10 +222,11 @@ OVERLAP = [
     # k 128: the first byte of from and the last byte of to are not in the overlap.
     (0, [b"\xff" + b"\0" * 127, b"\0" * 127 + b"\x80"], "0>1"),
     (0, [b"C" + b"A" * 127, b"A" * 127 + b"G", b"A" * 128], "0>1 0>2 2>1"),
-    # 15 alone. The smallest; the byte that differs is 0 and 128, 255 and 127.
+    # 15 alone. The smallest; the byte that differs is 0 and 128, 255 and 127, stands behind a 0.
     (15, [b"AA", b"CC"], "0>1"),
     (15, [b"\x01\x00", b"\x80\x01"], "0>1"),
     (15, [b"\x01\xff", b"\x7f\x01"], "0>1"),
+    (15, [b"A\0CG", b"\0TGA"], "0>1"),
     # 15 alone. The edge is the first, in the middle, the last; it begins at the lowest k-mer, at the highest.
     (15, [b"ACG", b"CGT", b"GTA", b"TCC"], "0>3 0>1 1>2"),
     (15, [b"ACG", b"CGT", b"GTA", b"TCC"], "0>1 0>3 1>2"),
@@ -276,5 +277,7 @@ OVERLAP = [
     (15, LONG_KMERS + [b"AC" * 64], "1>64 65>65"),
 ]
 
-# The number of conversion, k and the graph.
-KMER_OVERLAP = [(number, len(kmers[0]), (kmers, of_support_1(edges))) for number, kmers, edges in OVERLAP]
+# The number of conversion, k and the graph. At the end the smallest with 15 once more, with other supports and flags.
+KMER_OVERLAP = [(number, len(kmers[0]), (kmers, of_support_1(edges))) for number, kmers, edges in OVERLAP] + [
+    (15, 2, ([b"AA", b"CC"], [(0, 1, support, flag)])) for support, flag in ((0, 0), (1, 1), (5, 2), (TOP, 3))
+]
