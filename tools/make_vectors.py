@@ -52,7 +52,7 @@ NAMES = [
 KS = [2, 3, 5, 8, 11, 25]
 RECORD_NUMBERS = set(range(8))
 NUMBERS = [
-    RECORD_NUMBERS | {9}, RECORD_NUMBERS | {8, 11}, RECORD_NUMBERS | {11}, RECORD_NUMBERS | {11},
+    RECORD_NUMBERS | {9}, RECORD_NUMBERS | {8, 11, 15}, RECORD_NUMBERS | {11}, RECORD_NUMBERS | {11},
     RECORD_NUMBERS | {11}, RECORD_NUMBERS | {10, 11}, RECORD_NUMBERS | {9, 11},
 ]
 
@@ -123,6 +123,7 @@ def faulty(rng, call):
 
 
 def draft(rng, kind):
+    """Of k-mers one whose edges need not overlap; overlapping_draft makes those that do."""
     if kind == sgr1.KMER:
         k = rng.choice(KS[:4])
         return damage.Draft(kind, k, graphs.scattered_kmers(rng, k, rng.randint(1, 6)))
@@ -180,9 +181,41 @@ def flags(rng, call):
         yield from cases.cases_of(rng, call, record)
 
 
+def overlap_by_hand(rng, call):
+    for number, k, graph in examples.KMER_OVERLAP:
+        found = cases_of_kmers(rng, call, k, graph, True)
+        assert call == sgr1.VERTEX_SEQUENCE or found[0].answer.number == number, (number, k, graph)
+        yield from found
+    if call == sgr1.FROM_ASSEMBLY_GRAPH:
+        for k in (8, 33, 64):
+            yield from cases.cases_of(rng, call, graphs.kmer_record(k, limits.kmers_of_bytes(sgr1.MAX_BYTES + 1, k)))
+
+
+def overlapping_draft(rng):
+    k = rng.choice(KS[:4])
+    return damage.Draft(sgr1.KMER, k, graphs.overlapping_kmers(rng, k, rng.randint(2, 8), 0.2))
+
+
+def overlap_by_chance(rng, call):
+    count = 120 if call == sgr1.FROM_ASSEMBLY_GRAPH else 30
+    for _ in range(count):
+        k = rng.choice(KS)
+        yield from cases_of_kmers(rng, call, k, graphs.overlapping_kmers(rng, k, rng.randint(0, 24), 0.2), False)
+    for _ in range(count):
+        for faults in (damage.random_faults, damage.overlap_faults):
+            yield from cases.cases_of(rng, call, faults(rng, overlapping_draft(rng)), rng.randint(0, 2))
+
+
+def overlap(rng, call):
+    """k-mers that overlap, and some that do not, for the two calls that take k-mers."""
+    if call not in cases.SEQUENCE_CALLS:
+        yield from overlap_by_hand(rng, call)
+        yield from overlap_by_chance(rng, call)
+
+
 def stored(call):
     rng = random.Random("stored list, call %d" % call)
-    for part in (by_hand, by_chance, faulty, at_limits, settling, capped, flags):
+    for part in (by_hand, by_chance, faulty, at_limits, settling, capped, flags, overlap):
         yield from part(rng, call)
 
 
