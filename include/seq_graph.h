@@ -29,6 +29,10 @@
  *    9  the start or the vertex wanted is not below the count of vertices, or the list of edges is no path
  *   10  there is no reference path
  *   11  the output is shorter than the result
+ *   15  in conversion, an edge whose k-mers do not overlap: the last k - 1 bytes of from are not the first k - 1 bytes of to
+ *
+ * The causes are asked in this order: 1 to 6, 15, 7 to 11; the number is that of the first one present. 15 is asked by
+ * sg_from_assembly_graph alone.
  */
 #ifndef SEQ_GRAPH_H
 #define SEQ_GRAPH_H
@@ -81,7 +85,7 @@ typedef struct {
 /* A vertex's sequence in a record of either kind: bytes of the record itself. The call is not tallied; its number is put in `number`. */
 sg_sequence_place sg_vertex_sequence(const uint8_t *record, size_t length, uint32_t vertex, uint32_t *number);
 
-/* A k-mer graph's record to the sequence graph's. */
+/* A k-mer graph's record to the sequence graph's; refused with 15 where an edge's k-mers do not overlap by k - 1 bytes. */
 sg_answer sg_from_assembly_graph(const uint8_t *record, size_t length, uint8_t *out, size_t room, sg_tally tally);
 
 /* A sequence graph's record to that of the simplified graph. */

@@ -70,7 +70,8 @@ pub fn vertex_sequence(record: &[u8], vertex: u32) -> Result<&[u8], Refusal> {
     answered(number, &record[at..at + length])
 }
 
-/// A k-mer graph's record to the sequence graph's; the length written.
+/// A k-mer graph's record to the sequence graph's; the length written. Of each edge the last k - 1 bytes of from must
+/// be the first k - 1 bytes of to.
 pub fn from_assembly_graph(record: &[u8], out: &mut [u8], tally: &mut Tally) -> Result<usize, Refusal> {
     let (r, o, room) = (record.as_ptr(), out.as_mut_ptr(), out.len());
     // The pointers and lengths are those of two slices that do not overlap; the call asks nothing more.
