@@ -127,6 +127,33 @@ static void test_from_assembly_graph(void) {
     check_output(0);
 }
 
+/* k-mers that do not overlap: asked by conversion alone, behind equal k-mers and before a cycle. */
+static void test_overlap(void) {
+    const struct {
+        const char *kmers[3];
+        unsigned count;
+        edge only;
+        uint32_t number, of_sequence;
+    } cases[] = {
+        {{"AA", "CC"}, 2, {0, 1, 1, 0}, 15, 0},
+        {{"AA", "CC", "CC"}, 3, {0, 1, 1, 0}, 6, 6},
+        {{"AC"}, 1, {0, 0, 1, 0}, 15, 7},
+        {{"AA"}, 1, {0, 0, 1, 0}, 7, 7},
+    };
+    const sg_tally t = {7, 8, 9};
+    fill();
+    for (int i = 0; i < 4; i++) {
+        size_t length = write_record(rec, KMERS, 2, cases[i].count, cases[i].kmers, 1, &cases[i].only);
+        sg_answer a = sg_from_assembly_graph(rec, length, out, ROOM, t);
+        assert(a.number == cases[i].number && a.length == 0);
+        check_tally(a.tally, 7, 9, 9);
+        uint32_t number = 99;
+        sg_vertex_sequence(rec, length, 0, &number);
+        assert(number == cases[i].of_sequence);
+    }
+    check_output(0);
+}
+
 /* Case 8 there: one vertex gains an empty second one. */
 static void test_cleanup_seq_graph(void) {
     const char *sequences[] = {"ACGT", ""};
@@ -217,6 +244,7 @@ static void test_path_bases_bytes(void) {
 int main(void) {
     test_vertex_sequence();
     test_from_assembly_graph();
+    test_overlap();
     test_simplify_graph();
     test_capped();
     test_answer_past_the_limits();

@@ -101,6 +101,23 @@ fn converts() {
     assert_eq!(tally, Tally { answered: 1, refused: 2, rewrites: 0 });
 }
 
+/// Equal k-mers are asked for before the overlap, a cycle behind it; the sequence call does not ask for overlap.
+#[test]
+fn converts_only_what_overlaps() {
+    let (mut out, mut tally) = (vec![FILL; 80], Tally { answered: 3, refused: 4, rewrites: 5 });
+    let mut convert = |kmers: &[&[u8]], edges: &[Edge]| {
+        from_assembly_graph(&record(KMERS, 2, kmers, edges), &mut out, &mut tally)
+    };
+    assert_eq!(convert(&[b"AA", b"CC"], &[(0, 1, 1, 0)]), Err(Refusal::Overlap));
+    assert_eq!(convert(&[b"AA", b"CC", b"CC"], &[(0, 1, 1, 0)]), Err(Refusal::Doubled));
+    assert_eq!(convert(&[b"AC"], &[(0, 0, 1, 0)]), Err(Refusal::Overlap));
+    assert_eq!(convert(&[b"AA"], &[(0, 0, 1, 0)]), Err(Refusal::Cycle));
+    assert_eq!(out, [FILL; 80]);
+    assert_eq!(tally, Tally { answered: 3, refused: 8, rewrites: 5 });
+    assert_eq!(vertex_sequence(&record(KMERS, 2, &[b"AA", b"CC"], &[(0, 1, 1, 0)]), 1), Ok(&b"CC"[..]));
+    assert_eq!(vertex_sequence(&record(KMERS, 2, &[b"AC"], &[(0, 0, 1, 0)]), 0), Err(Refusal::Cycle));
+}
+
 /// Case 8 there, and case 7, a graph without vertices.
 #[test]
 fn cleans() {
@@ -156,16 +173,17 @@ fn spells_a_path() {
 #[test]
 fn tells_each_refusal() {
     assert_eq!(Refusal::of(0), None);
-    for number in [12, 1000, u32::MAX] {
+    for number in [12, 13, 14, 16, 1000, u32::MAX] {
         assert_eq!(Refusal::of(number), Some(Refusal::UnknownNumber(number)));
         assert_eq!(Refusal::UnknownNumber(number).number(), number);
     }
     assert_eq!(Refusal::UnknownEnd(4).number(), 0);
     assert_eq!(Refusal::UnknownStatus(3).to_string(), "the unknown status 3");
-    for number in 1..=11 {
+    for number in (1..=11).chain([15]) {
         let refusal = Refusal::of(number).unwrap();
         assert_eq!(refusal.number(), number);
         assert!(!refusal.to_string().is_empty());
     }
     assert_eq!(Refusal::Cycle.to_string(), "a cycle, a self edge included");
+    assert_eq!(Refusal::of(15), Some(Refusal::Overlap));
 }
