@@ -18,15 +18,17 @@ enum { STACK = 2 << 20, PAGE = 4096, FILL = 0x5A, VERTICES = 2048, FEW = 66, K =
 static uint8_t rec[ROOM], out[ROOM];
 static uint8_t *stack;
 
-/* A chain of v vertices of this many bytes, each different from the others. */
+/* Byte i of a text of two-byte numbers that rise by one: no four bytes in a row come twice. */
+static uint8_t text(unsigned i) { return (uint8_t)(i % 2 ? i / 2 : i / 512); }
+
+/* A chain of v vertices of this many bytes. Each begins one byte further on in the text: all are different, and k-mers overlap. */
 static size_t chain(unsigned v, unsigned kind, unsigned each) {
     const unsigned e = v - 1;
     uint8_t *bytes = rec + HEADER + 2 * v + 9 * e;
     put_header(rec, kind, K, v, e, v * each);
     for (unsigned i = 0; i < v; i++) {
         put(rec + HEADER + 2 * i, 2, each);
-        memset(bytes + each * i, 'A', each);
-        put(bytes + each * i, 2, i);
+        for (unsigned j = 0; j < each; j++) bytes[each * i + j] = text(i + j);
     }
     for (unsigned i = 0; i < e; i++) put_edge(rec, v, i, (edge){i, i + 1, 1, 1});
     return HEADER + 2 * v + 9 * e + v * each;
