@@ -9,8 +9,11 @@ from sgr1 import CLEANUP_SEQ_GRAPH, CLEAN_NON_REF_PATHS, FROM_ASSEMBLY_GRAPH, SI
 
 HERE = os.path.dirname(os.path.abspath(__file__))
 ANSWERED, NO_REFERENCE_PATH, NO_ROOM = 0, 10, 11
-# The driver's number for simplification by the Rust as it stands.
+# The driver's numbers for simplification by the Rust as it stands, and for its check of k-mer graphs.
 UNCHANGED_SIMPLIFY_GRAPH = 255
+CHECK_KMERS = 254
+# What that check must find where conversion, past 6, gives a number.
+FOUND_IN_KMERS = {0: 0, 15: 15, 7: 7, 8: 0, 11: 0}
 # The calls that answer with a record.
 RECORD_CALLS = (FROM_ASSEMBLY_GRAPH, SIMPLIFY_GRAPH, CLEANUP_SEQ_GRAPH, CLEAN_NON_REF_PATHS)
 
@@ -53,8 +56,12 @@ class Rust:
         return frame[16:] if present else None, numbers
 
     def check(self, case):
-        """Stops where the model's answer is not what the Rust makes."""
+        """Stops where the model's answer is not what the Rust makes, or of k-mers not what its check finds."""
         number = case.answer.number
+        if case.call == FROM_ASSEMBLY_GRAPH and number in FOUND_IN_KMERS:
+            _, (found, _, _) = self.request(case._replace(call=CHECK_KMERS))
+            if found != FOUND_IN_KMERS[number]:
+                sys.exit("the Rust's check of the k-mers gives %d, not %d: %s" % (found, number, case.record.hex()))
         if case.call == VERTEX_SEQUENCE or number not in (ANSWERED, NO_REFERENCE_PATH, NO_ROOM):
             return
         output, (status, rounds, end) = self.make(case)

@@ -4,7 +4,8 @@
     tools/make_vectors.py FOLDER
 
 The list is the same on every run. Each graph and string in it was made by the Rust (oracle/), and the model's
-(oracle/model.py) was equal to it; numbers, counts of rewrites and tallies are the model's.
+(oracle/model.py) was equal to it; numbers, counts of rewrites and tallies are the model's. Whether k-mers overlap and
+whether they have a cycle the Rust's own check has said as well.
 
 A file is a row of cases. All numbers have four bytes and are little-endian. A case has at most 65,536 bytes:
 

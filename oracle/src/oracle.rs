@@ -1,8 +1,9 @@
 //! What the Rust makes of a record that the model accepts, for each call that has a counterpart.
-use crate::record::{assembly_graph, seq_graph, write};
+use crate::record::{assembly_graph, seq_graph, supported_assembly_graph, write};
 use crate::seq_graph::{SeqEdge, SeqGraph, SeqGraphCleanupStatus};
 use crate::seq_graph_simplify::{simplify_graph_full, traced_simplify_graph_full};
 use crate::unchanged_seq_graph_simplify::traced_simplify_graph_full as unchanged_traced_simplify_graph_full;
+use crate::GatkError;
 
 pub const VERTEX_SEQUENCE: u32 = 0;
 pub const FROM_ASSEMBLY_GRAPH: u32 = 1;
@@ -13,6 +14,11 @@ pub const REFERENCE_PATH_BYTES: u32 = 5;
 pub const PATH_BASES_BYTES: u32 = 6;
 /// No call of the library: simplification by the Rust as it stands, without the edges in the signature.
 pub const UNCHANGED_SIMPLIFY_GRAPH: u32 = 255;
+/// No call of the library: the Rust's check of a k-mer graph, which its conversion does not make. The status is a number.
+pub const CHECK_KMERS: u32 = 254;
+
+pub const CYCLE: u32 = 7;
+pub const NO_OVERLAP: u32 = 15;
 
 pub const QUIET: u32 = 1;
 pub const REPEATED: u32 = 2;
@@ -37,12 +43,23 @@ impl Made {
 pub fn run(call: u32, record: &[u8], start: u32, list: &[u32]) -> Made {
     match call {
         FROM_ASSEMBLY_GRAPH => converted(record),
+        CHECK_KMERS => Made { status: checked(record), ..Made::of(vec![]) },
         _ => run_on(call, &seq_graph(record), start, list),
     }
 }
 
 pub fn converted(kmer_record: &[u8]) -> Made {
     Made::of(write(&SeqGraph::from_assembly_graph(&assembly_graph(kmer_record)), 0))
+}
+
+/// The number of what the Rust's `validate_basic_invariants` finds: it asks each edge for the overlap, then for a cycle.
+pub fn checked(kmer_record: &[u8]) -> u32 {
+    match supported_assembly_graph(kmer_record).validate_basic_invariants() {
+        Ok(()) => 0,
+        Err(GatkError(text)) if text.contains("k-1 overlap") => NO_OVERLAP,
+        Err(GatkError(text)) if text.contains("contains a cycle") => CYCLE,
+        Err(GatkError(text)) => panic!("the Rust's check of a k-mer graph: {text}"),
+    }
 }
 
 /// The calls that take a sequence graph.

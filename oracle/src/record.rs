@@ -82,6 +82,15 @@ pub fn assembly_graph(record: &[u8]) -> AssemblyGraph {
     graph
 }
 
+/// The same with one support more on each edge: the Rust's check of k-mer graphs refuses an edge of support 0.
+pub fn supported_assembly_graph(record: &[u8]) -> AssemblyGraph {
+    let mut graph = assembly_graph(record);
+    for e in edges(record) {
+        graph.add_edge_support(e.from, e.to, 1);
+    }
+    graph
+}
+
 /// The record of a sequence graph.
 pub fn write(graph: &SeqGraph, status: u8) -> Vec<u8> {
     let (v, e) = (graph.node_count(), graph.edge_count());

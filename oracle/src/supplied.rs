@@ -1,6 +1,6 @@
 //! What the files of gatk-rs name and their published part leaves out.
 //! None of it runs in the calls compared: errors are only built where a graph has no reference source
-//! or sink, and every function below would panic.
+//! or sink, and in the check of k-mer graphs, which is told by their text; every function below would panic.
 
 #[derive(Debug, Clone)]
 pub struct GatkError(pub String);

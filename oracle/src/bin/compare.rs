@@ -18,6 +18,7 @@ const STACK: usize = 2 << 20;
 const ECHO: &str = "COMPARE_ECHO";
 /// The label behind the last case.
 const END: &str = "end";
+const REFUSED_BYTES: u32 = 8;
 const REFUSED_NO_PATH: u32 = 10;
 const REFUSED_NO_ROOM: u32 = 11;
 
@@ -61,6 +62,18 @@ fn rust_answers(case: &Case) -> bool {
     let number = case.expected.number;
     case.call != rust::VERTEX_SEQUENCE
         && (number == 0 || number == REFUSED_NO_PATH || number == REFUSED_NO_ROOM)
+}
+
+/// What the Rust's check of k-mer graphs must say of a record that conversion has taken past 6; none of any other case.
+fn due_of_kmers(case: &Case) -> Option<u32> {
+    if case.call != rust::FROM_ASSEMBLY_GRAPH {
+        return None;
+    }
+    match case.expected.number {
+        0 | REFUSED_BYTES | REFUSED_NO_ROOM => Some(0),
+        number @ (rust::CYCLE | rust::NO_OVERLAP) => Some(number),
+        _ => None,
+    }
 }
 
 fn agrees(case: &Case, made: &Made) -> bool {
@@ -127,6 +140,13 @@ fn compare(case: &Case, last: &mut Last) -> (bool, bool) {
             differ(case, "the Rust", &format!("status, rounds, end {numbers:?} bytes {bytes:?}"));
         }
     }
+    let due = due_of_kmers(case);
+    if let Some(number) = due {
+        let found = rust::checked(&case.record);
+        if found != number {
+            differ(case, "the Rust", &format!("its check of the k-mers gives {found}"));
+        }
+    }
     if var_os(ECHO).is_some() {
         eprintln!("{}", show_input(case));
     }
@@ -136,7 +156,7 @@ fn compare(case: &Case, last: &mut Last) -> (bool, bool) {
         Some(Ok(got)) if got != case.expected => differ(case, "our library", &show_answer(&got)),
         Some(Ok(_)) => true,
     };
-    (asked, linked)
+    (asked || due.is_some(), linked)
 }
 
 /// Cases, those refused, those that the Rust and that our library answered too.

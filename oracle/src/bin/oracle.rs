@@ -4,7 +4,8 @@
 //! count of list numbers in four bytes each, the record, and the list in four bytes a number.
 //! Standard output, for each: a frame of present (0 where the Rust gives None), status, rounds and end in
 //! four bytes each, and the bytes made. All numbers are little-endian. The record must be an accepted one.
-//! Call 255 is simplification by the Rust as it stands, without the edges in its signature.
+//! Call 255 is simplification by the Rust as it stands, without the edges in its signature; call 254 the Rust's check of a
+//! k-mer graph that is sound but for overlap and cycles, with 0, 7 or 15 in the place of the status.
 use oracle::case::{read_frame, words};
 use oracle::oracle::{run, Made};
 use std::io::{self, BufReader, BufWriter, Write};
