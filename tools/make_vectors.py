@@ -83,7 +83,7 @@ def random_kmers(rng):
 
 
 def cases_of_kmers(rng, call, k, graph, all_rooms):
-    """The cases of this call on a k-mer graph, or on what conversion makes of it."""
+    """The cases of this call on a k-mer graph, or on the sequence graph that stands for it."""
     found = cases.cases_of_kmers(rng, k, graph, all_rooms)
     return [c for c in found if c.call == call]
 
