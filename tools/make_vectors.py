@@ -124,10 +124,11 @@ def faulty(rng, call):
 
 
 def draft(rng, kind):
-    """Of k-mers one whose edges need not overlap; overlapping_draft makes those that do."""
+    """Of k-mers mostly one whose edges overlap, so that the faults behind 15 count too."""
     if kind == sgr1.KMER:
         k = rng.choice(KS[:4])
-        return damage.Draft(kind, k, graphs.scattered_kmers(rng, k, rng.randint(1, 6)))
+        make = graphs.overlapping_kmers if rng.random() < 0.8 else graphs.scattered_kmers
+        return damage.Draft(kind, k, make(rng, k, rng.randint(1, 6)))
     return damage.Draft(kind, rng.choice(KS), graphs.random_graph(rng, rng.randint(1, 6)))
 
 
