@@ -23,11 +23,11 @@ unfoldable pub refusalOf : List Cause → ℕ
 refusalOf [] = 0
 refusalOf (c ∷ cs) = elim (c .present) [ true ↦ c .number | false ↦ refusalOf cs ]
 
--- The same in words. Of a list of causes none is present;
+-- What it says, in two cases: none of the causes is present,
 pub record NonePresent (cs : List Cause) : Type 0 where
   pub absent : (c : Cause) → List·Memᴰ c cs → c .present ≡ false
 
--- or one is, with the number n, and none before it.
+-- or one is, with the number n, and none before it
 pub record FirstPresent (cs : List Cause) (n : ℕ) : Type 0 where
   pub before : List Cause
   pub cause : Cause
@@ -37,12 +37,12 @@ pub record FirstPresent (cs : List Cause) (n : ℕ) : Type 0 where
   pub present : cause .present ≡ true
   pub number : cause .number ≡ n
 
--- n is the number of these causes, both ways
+-- n is the number that the causes give: 0 where none is present, and only there; else that of the first one present, and no other
 pub record IsNumberOf (cs : List Cause) (n : ℕ) : Type 0 where
-  pub accepts : n ≡ 0 → NonePresent cs
-  pub accepted : NonePresent cs → n ≡ 0
-  pub refuses : (n ≡ 0 → ⊥) → FirstPresent cs n
-  pub refused : (m : ℕ) → FirstPresent cs m → n ≡ m
+  pub none : n ≡ 0 → NonePresent cs
+  pub of-none : NonePresent cs → n ≡ 0
+  pub first : (n ≡ 0 → ⊥) → FirstPresent cs n
+  pub of-first : (m : ℕ) → FirstPresent cs m → n ≡ m
 
 -- 1: under 32 bytes, or not the length it states
 unfoldable pub otherLength : List ℕ → Bool

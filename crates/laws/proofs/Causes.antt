@@ -153,10 +153,10 @@ refusal-first (c ∷ cs) e o = byTest (c .present)
 -- THE NUMBER OF A CALL IS THAT OF THE FIRST OF ITS CAUSES THAT IS PRESENT, BOTH WAYS
 pub refusal-number : (cs : List Cause) → CausesNumbered cs → IsNumberOf cs (refusalOf cs)
 refusal-number cs N = record {
-  accepts = refusal-none cs N;
-  accepted = none-refuses cs;
-  refuses = refusal-first cs refl;
-  refused = λ m F. ap refusalOf (F .place) ∙ first-refuses (F .before) (F .cause) (F .behind) (F .none-before) (F .present) ∙ F .number;
+  none = refusal-none cs N;
+  of-none = none-refuses cs;
+  first = refusal-first cs refl;
+  of-first = λ m F. ap refusalOf (F .place) ∙ first-refuses (F .before) (F .cause) (F .behind) (F .none-before) (F .present) ∙ F .number;
 }
 
 pub number-responded : (n : ℕ) (result : List ℕ) → numberOf (respondTo n result) ≡ n
