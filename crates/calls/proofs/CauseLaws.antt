@@ -3,8 +3,7 @@ use mathlib.Core.Path.{_≡_, refl, ap, _∙_}
 use mathlib.Core.Bool.{Bool, true, false}
 use mathlib.Core.Logic.{⊎-elim}
 use mathlib.Core.List.{List, [], _∷_, _++_, List·Memᴰ, List·Memᴰ·not-nil, List·Memᴰ·cases-cons, List·Memᴰ·append-cases}
-use Prim.Native.Nat.{ℕ, zero, suc, _<_}
-use native.Mathlib.Omega.{arith}
+use Prim.Native.Nat.{ℕ, _<_}
 use Rattle.defs.specs.Lists.{allOf}
 use Rattle.defs.specs.Refusals.{Cause, refusalOf, Takes, layoutCauses, recordCauses, recordRefusal}
 use Rattle.laws.proofs.Causes.{CausesNumbered, numbers-above, refusal-nil, refusal-there, refusal-absent, refusal-later, refusal-earlier}
@@ -12,10 +11,6 @@ use Rattle.laws.proofs.Causes.{CausesNumbered, numbers-above, refusal-nil, refu
 pub record-numbered : (t : Takes) (bs : List ℕ) → CausesNumbered (recordCauses t bs)
 unfolding recordCauses layoutCauses allOf
 record-numbered t bs = numbers-above (recordCauses t bs) refl
-
-positive : (n : ℕ) → (n ≡ 0 → ⊥) → 0 < n
-positive zero o = absurd (o refl)
-positive (suc n) o = omega arith
 
 module _ (t : Takes) (bs : List ℕ) (n : ℕ) (b : Bool) where
   abbrev more : Cause
@@ -30,7 +25,7 @@ module _ (t : Takes) (bs : List ℕ) (n : ℕ) (b : Bool) where
 
   pub behind-refused : {i : ℕ} → recordRefusal t bs ≡ i → (i ≡ 0 → ⊥) → refusalOf (recordCauses t bs ++ (more ∷ [])) ≡ i
   unfolding recordRefusal
-  behind-refused {i} e o = refusal-earlier (recordCauses t bs) (more ∷ []) e (positive i o)
+  behind-refused e o = refusal-earlier (recordCauses t bs) (more ∷ []) e o
 
   pub behind-present : recordRefusal t bs ≡ 0 → b ≡ true → refusalOf (recordCauses t bs ++ (more ∷ [])) ≡ n
   unfolding recordRefusal

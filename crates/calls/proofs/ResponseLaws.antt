@@ -10,8 +10,7 @@ use lib.Seq.{take-append-seam}
 use borrow.Author.Tests.{lt-ltb, le-ltb}
 use Rattle.defs.specs.Calls.{Response, refused, accepted, numberOf, lengthOf, fieldOf, writtenOf, outputShort, respondTo, respond}
 use Rattle.defs.specs.Refusals.{Cause, refusalOf}
-use Rattle.laws.proofs.ListLaws.{byOrder}
-use Rattle.laws.proofs.Causes.{CausesNumbered, refusal-nil, refusal-there, refusal-absent, refusal-later, refusal-earlier, refusal-without}
+use Rattle.laws.proofs.Causes.{CausesNumbered, refusal-nil, refusal-there, refusal-absent, refusal-later, refusal-earlier, refusal-front, refusal-without}
 use Rattle.calls.specs.Sending.{fits, withOutput}
 
 -- ---- any list of causes
@@ -62,16 +61,9 @@ fits-enough room result l =
     accepted-by (outputShort room result ∷ []) result (refusal-absent (outputShort room result) [] (output-enough room result l) ∙ refusal-nil)
 
 module _ (causes : List Cause) (room : ℕ) (result : List ℕ) where
-  earlier : {n : ℕ} → refusalOf causes ≡ n → (n ≡ 0 → ⊥) → refusalOf (withOutput causes room result) ≡ n
-  earlier {n} e o = refusal-earlier causes (outputShort room result ∷ []) e (byOrder 1 n (λ b. b) (λ b. absurd (o (omega arith))))
-
-  -- where no cause is present, none is but for 11
-  pub none-before-output : refusalOf (withOutput causes room result) ≡ 0 → refusalOf causes ≡ 0
-  none-before-output z = elim (ℕ-discrete (refusalOf causes) 0) [ yes q ↦ q | no ne ↦ absurd (ne (sym (earlier refl ne) ∙ z)) ]
-
   -- a cause that is present refuses, whatever the room
   pub respond-refused : (n : ℕ) → refusalOf causes ≡ n → (n ≡ 0 → ⊥) → respond (withOutput causes room result) result ≡ refused n
-  respond-refused n e o = refused-by (withOutput causes room result) result n (earlier e o) o
+  respond-refused n e o = refused-by (withOutput causes room result) result n (refusal-earlier causes (outputShort room result ∷ []) e o) o
 
   pub respond-accepted : refusalOf causes ≡ 0 → length result ≤ room → respond (withOutput causes room result) result ≡ accepted result
   respond-accepted e l =
@@ -88,7 +80,7 @@ module _ (causes : List Cause) (out result : List ℕ) where
   response = respond (withOutput causes (length out) result) result
 
   by-answer : {A : Type 0} → ((n : ℕ) → response ≡ refused n → (n ≡ 0 → ⊥) → A) → (refusalOf causes ≡ 0 → response ≡ accepted result → A) → A
-  by-answer f g = by-response (withOutput causes (length out) result) result f (λ z e. g (none-before-output causes (length out) result z) e)
+  by-answer f g = by-response (withOutput causes (length out) result) result f (λ z e. g (refusal-front causes (outputShort (length out) result ∷ []) z) e)
 
   -- number 0: there is no cause, and the result stands at the front of the output
   pub answered : numberOf response ≡ 0 → (refusalOf causes ≡ 0) × (take (lengthOf response) (writtenOf response out) ≡ result)

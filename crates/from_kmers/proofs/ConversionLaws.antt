@@ -17,7 +17,7 @@ use Rattle.defs.specs.Refusals.{layoutCauses, doubledCause, overlapCause, cycle
 use Rattle.defs.specs.Assembly.{fromAssemblyGraph}
 use Rattle.defs.specs.Calls.{conversionCauses}
 use Rattle.laws.proofs.ListLaws.{clash, byOrder}
-use Rattle.laws.proofs.Causes.{CausesNumbered, numbers-above, refusal-nil, refusal-there, refusal-absent, refusal-later, refusal-earlier}
+use Rattle.laws.proofs.Causes.{CausesNumbered, numbers-above, refusal-nil, refusal-there, refusal-absent, refusal-later, refusal-earlier, refusal-front}
 use Rattle.laws.proofs.Causes.{none-left, none-right, none-both, none-refuses, refusal-none}
 use Rattle.tabs.proofs.Tabs.{getD-tab, length-tab}
 use Rattle.tabs.proofs.SumTabs.{sum-most}
@@ -61,7 +61,7 @@ module _ (bs : List ℕ) where
 
   early : {i : ℕ} → refusalOf (overlappingCauses bs) ≡ i → (i ≡ 0 → ⊥) → refusalOf (conversionCauses bs) ≡ i
   unfolding conversionCauses layoutCauses
-  early {i} e o = refusal-earlier (overlappingCauses bs) (bytesCause ∷ []) e (byOrder 1 i (λ b. b) (λ b. absurd (o (omega arith))))
+  early e o = refusal-earlier (overlappingCauses bs) (bytesCause ∷ []) e o
 
   module _ (z : refusalOf (overlappingCauses bs) ≡ 0) where
     later : refusalOf (conversionCauses bs) ≡ refusalOf (bytesCause ∷ [])
@@ -76,9 +76,7 @@ module _ (bs : List ℕ) where
 
     -- the layout is that of a k-mer graph
     layout-none : refusalOf (layoutCauses kmerOnly bs) ≡ 0
-    layout-none =
-        none-refuses (layoutCauses kmerOnly bs)
-        (none-left (layoutCauses kmerOnly bs) (doubledCause bs ∷ overlapCause bs ∷ cycleCause bs ∷ []) (refusal-none (overlappingCauses bs) overlapping-numbered z))
+    layout-none = refusal-front (layoutCauses kmerOnly bs) (doubledCause bs ∷ overlapCause bs ∷ cycleCause bs ∷ []) z
 
   -- where no cause of conversion is present, none of the record's is, the k-mers overlap and the converted graph is small
   module _ (z : refusalOf (conversionCauses bs) ≡ 0) where

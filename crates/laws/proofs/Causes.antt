@@ -6,6 +6,7 @@ use mathlib.Core.List.{List, [], _∷_, _++_, List·Memᴰ, List·Memᴰ·head, 
 use mathlib.Core.List.{List·Memᴰ·append-cases, Memᴰ·append-left, Memᴰ·append-right}
 use Prim.Native.Nat.{ℕ, zero, suc, _≤_, _<_}
 use native.Mathlib.Omega.{arith}
+use native.Mathlib.Decide.{ℕ-discrete}
 use lib.Dec.{eqb, ltb, leb}
 use borrow.Author.Tests.{eqb-false, ltb-true, leb-true}
 use Rattle.defs.specs.Lists.{allOf}
@@ -53,12 +54,16 @@ refusal-later (c ∷ cs) ds n z = byTest (c .present)
     (λ t. refusal-absent c (cs ++ ds) t ∙ refusal-later cs ds (numbered-rest n) (sym (refusal-absent c cs t) ∙ z))
 
 -- an earlier cause gives its number
-pub refusal-earlier : (cs ds : List Cause) {i : ℕ} → refusalOf cs ≡ i → 0 < i → refusalOf (cs ++ ds) ≡ i
+pub refusal-earlier : (cs ds : List Cause) {i : ℕ} → refusalOf cs ≡ i → (i ≡ 0 → ⊥) → refusalOf (cs ++ ds) ≡ i
 unfolding refusalOf
-refusal-earlier [] ds e l = absurd (omega arith)
-refusal-earlier (c ∷ cs) ds e l = byTest (c .present)
+refusal-earlier [] ds e o = absurd (o (sym e))
+refusal-earlier (c ∷ cs) ds e o = byTest (c .present)
     (λ t. refusal-there c (cs ++ ds) t ∙ sym (refusal-there c cs t) ∙ e)
-    (λ t. refusal-absent c (cs ++ ds) t ∙ refusal-earlier cs ds (sym (refusal-absent c cs t) ∙ e) l)
+    (λ t. refusal-absent c (cs ++ ds) t ∙ refusal-earlier cs ds (sym (refusal-absent c cs t) ∙ e) o)
+
+-- where no cause gives a number, no earlier one does
+pub refusal-front : (cs ds : List Cause) → refusalOf (cs ++ ds) ≡ 0 → refusalOf cs ≡ 0
+refusal-front cs ds z = elim (ℕ-discrete (refusalOf cs) 0) [ yes q ↦ q | no ne ↦ absurd (ne (sym (refusal-earlier cs ds refl ne) ∙ z)) ]
 
 -- a last cause that is absent changes nothing
 pub refusal-without : (cs : List Cause) (d : Cause) → d .present ≡ false → refusalOf (cs ++ (d ∷ [])) ≡ refusalOf cs

@@ -1,2 +1,3 @@
 pub mod OverlapLaws
 pub mod Runs
+pub mod Example

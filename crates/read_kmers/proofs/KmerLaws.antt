@@ -13,9 +13,8 @@ use Rattle.defs.specs.SeqGraph.{vertexSequence}
 use Rattle.defs.specs.Record.{kindOf, kOf, verticesOf, bytesOf, lengthAt, decode}
 use Rattle.defs.specs.Refusals.{Cause, refusalOf, kmerOnly, doubledEdge, equalKmers, doubled, hasCycle, edgeWithoutOverlap}
 use Rattle.defs.specs.Refusals.{layoutCauses, doubledCause, overlapCause, cycleCause}
-use Rattle.laws.proofs.ListLaws.{clash, byOrder, or-false}
-use Rattle.laws.proofs.Causes.{CausesNumbered, numbers-above, refusal-nil, refusal-there, refusal-absent, refusal-later, refusal-earlier}
-use Rattle.laws.proofs.Causes.{none-left, none-refuses, refusal-none}
+use Rattle.laws.proofs.ListLaws.{clash, or-false}
+use Rattle.laws.proofs.Causes.{CausesNumbered, numbers-above, refusal-nil, refusal-there, refusal-absent, refusal-later, refusal-earlier, refusal-front}
 use Rattle.tabs.proofs.Tabs.{getD-tab}
 use Rattle.tabs.proofs.SumTabs.{sum-most, sum-least}
 use Rattle.store.specs.Store.{edgesIn, seqIn, seqsIn}
@@ -78,9 +77,7 @@ module _ (bs : List ℕ) where
   read-refused {n = n} e f =
       let some = refused-some kmerOnly bs e f in
       refused-as n
-      (sym (refusal-earlier (layoutCauses kmerOnly bs) (doubledCause bs ∷ []) (sym (refused-number kmerOnly bs e f))
-      (byOrder 1 n (λ b. b) (λ b. absurd (some (omega arith))))))
-      some
+      (sym (refusal-earlier (layoutCauses kmerOnly bs) (doubledCause bs ∷ []) (sym (refused-number kmerOnly bs e f)) some)) some
 
   module _ (layout : refusalOf (layoutCauses kmerOnly bs) ≡ 0) {es vs p heads nexts order scratch : List ℕ} (Y :
       RoomToReadKmers bs es vs p heads nexts order scratch) where
@@ -197,10 +194,8 @@ module _ (bs : List ℕ) where
   unfolding layoutCauses allOf
   kmers-numbered = numbers-above (kmerCauses bs) refl
 
-  pub kmers-formed : refusalOf (kmerCauses bs) ≡ 0 → refusalOf (layoutCauses kmerOnly bs) ≡ 0
-  kmers-formed z =
-      none-refuses (layoutCauses kmerOnly bs) (none-left (layoutCauses kmerOnly bs) (doubledCause bs ∷ [])
-      (refusal-none (kmerCauses bs) kmers-numbered z))
+  kmers-formed : refusalOf (kmerCauses bs) ≡ 0 → refusalOf (layoutCauses kmerOnly bs) ≡ 0
+  kmers-formed z = refusal-front (layoutCauses kmerOnly bs) (doubledCause bs ∷ []) z
 
   -- 15 and 7 behind the others
   abbrev behind : List Cause
@@ -208,7 +203,7 @@ module _ (bs : List ℕ) where
 
   overlapping-early : {i : ℕ} → refusalOf (kmerCauses bs) ≡ i → (i ≡ 0 → ⊥) → refusalOf (overlappingCauses bs) ≡ i
   unfolding layoutCauses
-  overlapping-early {i} e o = refusal-earlier (kmerCauses bs) behind e (byOrder 1 i (λ b. b) (λ b. absurd (o (omega arith))))
+  overlapping-early e o = refusal-earlier (kmerCauses bs) behind e o
 
   overlapping-late : refusalOf (kmerCauses bs) ≡ 0 → refusalOf (overlappingCauses bs) ≡ refusalOf behind
   unfolding layoutCauses

@@ -67,7 +67,7 @@ module _ (t : Takes) (bs : List ℕ) where
 
   -- a refusal of the layout is the record's
   pub refused-early : {i : ℕ} → refusalOf layout ≡ i → 0 < i → recordRefusal t bs ≡ i
-  refused-early e l = refusal-is ∙ refusal-earlier layout rest e l
+  refused-early e l = refusal-is ∙ refusal-earlier layout rest e (λ z. omega (arith, l, z))
 
   module _ (z : refusalOf layout ≡ 0) where
     later : recordRefusal t bs ≡ cond (doubled bs) 6 (cond (hasCycle (decode bs)) 7 0)
