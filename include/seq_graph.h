@@ -29,7 +29,9 @@
  *    9  the start or the vertex wanted is not below the count of vertices, or the list of edges is no path
  *   10  there is no reference path
  *   11  the output is shorter than the result
- *   15  in conversion, an edge whose k-mers do not overlap: the last k - 1 bytes of from are not the first k - 1 bytes of to
+ *   15  in conversion, an edge whose k-mers do not overlap: the last k - 1 bytes of from are not the first k - 1 bytes of to. The
+ *       program that made the record sets edges between k-mers that do not follow one another: it has to be mended, and the
+ *       record made again
  *
  * The causes are asked in this order: 1 to 6, 15, 7 to 11; the number is that of the first one present. 15 is asked by
  * sg_from_assembly_graph alone.
