@@ -8,7 +8,7 @@ use native.Mathlib.Decide.{ℕ-discrete}
 use lib.ListN.{length, take, drop}
 use lib.Seq.{take-append-seam}
 use borrow.Author.Tests.{lt-ltb, le-ltb}
-use Rattle.defs.specs.Calls.{Response, refused, accepted, numberOf, lengthOf, fieldOf, writtenOf, outputShort, respondTo, respond}
+use Rattle.defs.specs.Calls.{Response, refused, accepted, numberOf, lengthOf, fieldOf, writtenOf, outputCause, respondTo, respond}
 use Rattle.defs.specs.Refusals.{Cause, refusalOf}
 use Rattle.laws.proofs.Causes.{CausesNumbered, refusal-nil, refusal-there, refusal-absent, refusal-later, refusal-earlier, refusal-front, refusal-without}
 use Rattle.calls.specs.Sending.{fits, withOutput}
@@ -35,43 +35,43 @@ module _ (causes : List Cause) (result : List ℕ) where
 
 -- ---- 11 behind the others
 
-output-short : (room : ℕ) (result : List ℕ) → room < length result → (outputShort room result) .present ≡ true
-unfolding outputShort
+output-short : (room : ℕ) (result : List ℕ) → room < length result → (outputCause room result) .present ≡ true
+unfolding outputCause
 output-short room result l = lt-ltb room (length result) l
 
-output-enough : (room : ℕ) (result : List ℕ) → length result ≤ room → (outputShort room result) .present ≡ false
-unfolding outputShort
+output-enough : (room : ℕ) (result : List ℕ) → length result ≤ room → (outputCause room result) .present ≡ false
+unfolding outputCause
 output-enough room result l = le-ltb room (length result) l
 
-eleven : (room : ℕ) (result : List ℕ) → (outputShort room result) .number ≡ 11
-unfolding outputShort
+eleven : (room : ℕ) (result : List ℕ) → (outputCause room result) .number ≡ 11
+unfolding outputCause
 eleven room result = refl
 
 -- 11 only where the output is strictly shorter
 pub fits-short : (room : ℕ) (result : List ℕ) → room < length result → fits room result ≡ refused 11
 unfolding fits
 fits-short room result l =
-    refused-by (outputShort room result ∷ []) result 11
-    (refusal-there (outputShort room result) [] (output-short room result l) ∙ eleven room result)
+    refused-by (outputCause room result ∷ []) result 11
+    (refusal-there (outputCause room result) [] (output-short room result l) ∙ eleven room result)
     (λ z. omega arith)
 
 pub fits-enough : (room : ℕ) (result : List ℕ) → length result ≤ room → fits room result ≡ accepted result
 unfolding fits
 fits-enough room result l =
-    accepted-by (outputShort room result ∷ []) result (refusal-absent (outputShort room result) [] (output-enough room result l) ∙ refusal-nil)
+    accepted-by (outputCause room result ∷ []) result (refusal-absent (outputCause room result) [] (output-enough room result l) ∙ refusal-nil)
 
 module _ (causes : List Cause) (room : ℕ) (result : List ℕ) where
   -- a cause that is present refuses, whatever the room
   pub respond-refused : (n : ℕ) → refusalOf causes ≡ n → (n ≡ 0 → ⊥) → respond (withOutput causes room result) result ≡ refused n
-  respond-refused n e o = refused-by (withOutput causes room result) result n (refusal-earlier causes (outputShort room result ∷ []) e o) o
+  respond-refused n e o = refused-by (withOutput causes room result) result n (refusal-earlier causes (outputCause room result ∷ []) e o) o
 
   pub respond-accepted : refusalOf causes ≡ 0 → length result ≤ room → respond (withOutput causes room result) result ≡ accepted result
   respond-accepted e l =
-      accepted-by (withOutput causes room result) result (refusal-without causes (outputShort room result) (output-enough room result l) ∙ e)
+      accepted-by (withOutput causes room result) result (refusal-without causes (outputCause room result) (output-enough room result l) ∙ e)
 
   pub respond-fits : CausesNumbered causes → refusalOf causes ≡ 0 → respond (withOutput causes room result) result ≡ fits room result
   unfolding respond fits
-  respond-fits N e = ap (λ (i : ℕ). respondTo i result) (refusal-later causes (outputShort room result ∷ []) N e)
+  respond-fits N e = ap (λ (i : ℕ). respondTo i result) (refusal-later causes (outputCause room result ∷ []) N e)
 
 -- ---- what follows from the response
 
@@ -80,7 +80,7 @@ module _ (causes : List Cause) (out result : List ℕ) where
   response = respond (withOutput causes (length out) result) result
 
   by-answer : {A : Type 0} → ((n : ℕ) → response ≡ refused n → (n ≡ 0 → ⊥) → A) → (refusalOf causes ≡ 0 → response ≡ accepted result → A) → A
-  by-answer f g = by-response (withOutput causes (length out) result) result f (λ z e. g (refusal-front causes (outputShort (length out) result ∷ []) z) e)
+  by-answer f g = by-response (withOutput causes (length out) result) result f (λ z e. g (refusal-front causes (outputCause (length out) result ∷ []) z) e)
 
   -- number 0: there is no cause, and the result stands at the front of the output
   pub answered : numberOf response ≡ 0 → (refusalOf causes ≡ 0) × (take (lengthOf response) (writtenOf response out) ≡ result)

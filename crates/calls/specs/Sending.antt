@@ -5,7 +5,7 @@ use Prim.Native.Nat.{ℕ, _+_, _*_, _≤_}
 use lib.ListN.{length}
 use Rattle.defs.specs.Record.{sequenceGraph, encode}
 use Rattle.defs.specs.Refusals.{Cause, refusalOf}
-use Rattle.defs.specs.Calls.{Response, outputShort, respond, numberOf, lengthOf, writtenOf}
+use Rattle.defs.specs.Calls.{Response, outputCause, respond, numberOf, lengthOf, writtenOf}
 use Rattle.laws.proofs.Causes.{CausesNumbered}
 use Rattle.store.specs.Store.{Within}
 use Rattle.pool.specs.Pool.{bytesIn}
@@ -25,10 +25,10 @@ pub record Sendable (status : ℕ) (h : Held) (es vs p : List ℕ) : Type 0 wher
 
 -- causes with 11 behind them, and the response where 11 alone can be present
 abbrev pub withOutput : List Cause → ℕ → List ℕ → List Cause
-withOutput causes room result = causes ++ (outputShort room result ∷ [])
+withOutput causes room result = causes ++ (outputCause room result ∷ [])
 
 unfoldable pub fits : ℕ → List ℕ → Response
-fits room result = respond (outputShort room result ∷ []) result
+fits room result = respond (outputCause room result ∷ []) result
 
 -- The promise of what a call sends: number, length and the output at exit are those of its response.
 pub record Responds (x : Response) (out : List ℕ) (s : Sent) (out′ : List ℕ) : Type 0 where

@@ -5,7 +5,7 @@ use Prim.Native.Nat.{ℕ}
 use native.Mathlib.Omega.{arith}
 use lib.ListN.{length}
 use Rattle.defs.specs.Cleanup.{cleanNonRefPaths}
-use Rattle.defs.specs.Record.{sequenceGraph, encode, decode}
+use Rattle.defs.specs.Record.{decode}
 use Rattle.defs.specs.Refusals.{Cause, sequenceOnly, recordCauses, recordRefusal}
 use Rattle.defs.specs.Calls as D
 use Rattle.defs.specs.Calls.{numberOf, cleanNonRefPathsCauses, cleanNonRefPathsResponse, cleanNonRefPathsAnswer}
@@ -29,7 +29,7 @@ module _ (bs list : List ℕ) {out : List ℕ} {t : Tally} {s : Sent} {a : Answe
   causes = recordCauses sequenceOnly bs
 
   abbrev result : List ℕ
-  result = encode sequenceGraph 0 (cleanNonRefPaths (decode bs))
+  result = D.reducedRecord bs
 
   answer-is : answerOf a ≡ cleanNonRefPathsAnswer bs (length out) (tallyOf t)
   unfolding cleanNonRefPathsAnswer cleanNonRefPathsResponse cleanNonRefPathsCauses readingResponse

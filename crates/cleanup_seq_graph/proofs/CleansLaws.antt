@@ -5,7 +5,7 @@ use Prim.Native.Nat.{ℕ}
 use native.Mathlib.Omega.{arith}
 use lib.ListN.{length, take}
 use Rattle.defs.specs.Cleanup.{Status, justReference, someVariation, Cleaned, statusNumber, choiceGraph, cleanupSeqGraph}
-use Rattle.defs.specs.Record.{sequenceGraph, encode, decode}
+use Rattle.defs.specs.Record.{decode}
 use Rattle.defs.specs.Refusals.{Cause, sequenceOnly, recordCauses, recordRefusal}
 use Rattle.defs.specs.Calls as D
 use Rattle.defs.specs.Calls.{numberOf, cleanupSeqGraphCauses, cleanupSeqGraphResponse, cleanupSeqGraphAnswer}
@@ -45,7 +45,7 @@ module _ {bs out : List ℕ} {t : Tally} {r : RewritingAnswer} {a : CleanupAnswe
   causes = recordCauses sequenceOnly bs
 
   abbrev result : List ℕ
-  result = encode sequenceGraph (statusNumber (z .status)) (z .graph)
+  result = D.cleanedRecord bs
 
   answer-is : cleanupAnswerOf a ≡ cleanupSeqGraphAnswer bs (length out) (tallyOf t)
   unfolding cleanupSeqGraphAnswer cleanupSeqGraphResponse cleanupSeqGraphCauses resultOf

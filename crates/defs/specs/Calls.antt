@@ -50,8 +50,8 @@ tallied (refused n) rewrites t = record { answered = t .answered; refused = satu
 tallied (accepted r) rewrites t = record { answered = saturatingAdd (t .answered) 1; refused = t .refused; rewrites = saturatingAdd (t .rewrites) rewrites }
 
 -- 11: the output is shorter than the result
-unfoldable pub outputShort : ℕ → List ℕ → Cause
-outputShort room result = record { number = 11; present = ltb room (length result) }
+unfoldable pub outputCause : ℕ → List ℕ → Cause
+outputCause room result = record { number = 11; present = ltb room (length result) }
 
 -- a number other than 0 refuses
 unfoldable pub respondTo : ℕ → List ℕ → Response
@@ -72,8 +72,11 @@ unfoldable pub answer : Response → Tally → Answer
 answer r t = record { number = numberOf r; length = lengthOf r; tally = tallied r 0 t }
 
 -- vertex_sequence: 1 to 7, 9; the number for the lent cell, and the part handed back
+abbrev pub vertexCause : List ℕ → ℕ → Cause
+vertexCause bs v = record { number = 9; present = leb (verticesOf bs) v }
+
 unfoldable pub vertexSequenceCauses : List ℕ → ℕ → List Cause
-vertexSequenceCauses bs v = recordCauses bothKinds bs ++ (record { number = 9; present = leb (verticesOf bs) v } ∷ [])
+vertexSequenceCauses bs v = recordCauses bothKinds bs ++ (vertexCause bs v ∷ [])
 
 unfoldable pub vertexSequenceNumber : List ℕ → ℕ → ℕ
 vertexSequenceNumber bs v = refusalOf (vertexSequenceCauses bs v)
@@ -82,16 +85,17 @@ unfoldable pub vertexSequencePart : List ℕ → ℕ → List ℕ
 vertexSequencePart bs v = cond (eqb (vertexSequenceNumber bs v) 0) (vertexSequence (decode bs) v) []
 
 -- from_assembly_graph: 1 to 6, 15, 7, 8, 11; 8 where the converted graph has over 8,192 bytes
+abbrev pub bytesCause : List ℕ → Cause
+bytesCause bs = record { number = 8; present = ltb 8192 (sequenceBytes ((fromAssemblyGraph (decode bs)) .verts)) }
+
 unfoldable pub conversionCauses : List ℕ → List Cause
-conversionCauses bs =
-    layoutCauses kmerOnly bs ++ (doubledCause bs ∷ overlapCause bs ∷ cycleCause bs
-    ∷ record { number = 8; present = ltb 8192 (sequenceBytes ((fromAssemblyGraph (decode bs)) .verts)) } ∷ [])
+conversionCauses bs = layoutCauses kmerOnly bs ++ (doubledCause bs ∷ overlapCause bs ∷ cycleCause bs ∷ bytesCause bs ∷ [])
 
 abbrev pub convertedRecord : List ℕ → List ℕ
 convertedRecord bs = encode sequenceGraph 0 (fromAssemblyGraph (decode bs))
 
 unfoldable pub fromAssemblyGraphCauses : List ℕ → ℕ → List Cause
-fromAssemblyGraphCauses bs room = conversionCauses bs ++ (outputShort room (convertedRecord bs) ∷ [])
+fromAssemblyGraphCauses bs room = conversionCauses bs ++ (outputCause room (convertedRecord bs) ∷ [])
 
 unfoldable pub fromAssemblyGraphResponse : List ℕ → ℕ → Response
 fromAssemblyGraphResponse bs room = respond (fromAssemblyGraphCauses bs room) (convertedRecord bs)
@@ -104,7 +108,7 @@ abbrev pub simplifiedRecord : List ℕ → List ℕ
 simplifiedRecord bs = encode sequenceGraph 0 ((simplifyGraphFull minTailSuffixLen (decode bs)) .graph)
 
 unfoldable pub simplifyGraphCauses : List ℕ → ℕ → List Cause
-simplifyGraphCauses bs room = recordCauses sequenceOnly bs ++ (outputShort room (simplifiedRecord bs) ∷ [])
+simplifyGraphCauses bs room = recordCauses sequenceOnly bs ++ (outputCause room (simplifiedRecord bs) ∷ [])
 
 unfoldable pub simplifyGraphResponse : List ℕ → ℕ → Response
 simplifyGraphResponse bs room = respond (simplifyGraphCauses bs room) (simplifiedRecord bs)
@@ -135,7 +139,7 @@ abbrev pub cleanedRecord : List ℕ → List ℕ
 cleanedRecord bs = let c = cleanupSeqGraph (decode bs) in encode sequenceGraph (statusNumber (c .status)) (c .graph)
 
 unfoldable pub cleanupSeqGraphCauses : List ℕ → ℕ → List Cause
-cleanupSeqGraphCauses bs room = recordCauses sequenceOnly bs ++ (outputShort room (cleanedRecord bs) ∷ [])
+cleanupSeqGraphCauses bs room = recordCauses sequenceOnly bs ++ (outputCause room (cleanedRecord bs) ∷ [])
 
 unfoldable pub cleanupSeqGraphResponse : List ℕ → ℕ → Response
 cleanupSeqGraphResponse bs room = respond (cleanupSeqGraphCauses bs room) (cleanedRecord bs)
@@ -157,7 +161,7 @@ abbrev pub reducedRecord : List ℕ → List ℕ
 reducedRecord bs = encode sequenceGraph 0 (cleanNonRefPaths (decode bs))
 
 unfoldable pub cleanNonRefPathsCauses : List ℕ → ℕ → List Cause
-cleanNonRefPathsCauses bs room = recordCauses sequenceOnly bs ++ (outputShort room (reducedRecord bs) ∷ [])
+cleanNonRefPathsCauses bs room = recordCauses sequenceOnly bs ++ (outputCause room (reducedRecord bs) ∷ [])
 
 unfoldable pub cleanNonRefPathsResponse : List ℕ → ℕ → Response
 cleanNonRefPathsResponse bs room = respond (cleanNonRefPathsCauses bs room) (reducedRecord bs)
@@ -174,19 +178,23 @@ unfoldable pub bytesOrNone : Option (List ℕ) → List ℕ
 bytesOrNone none = []
 bytesOrNone (some s) = s
 
+abbrev pub referenceCause : List ℕ → Cause
+referenceCause bs = record { number = 10; present = isNothing (referencePathBytes (decode bs)) }
+
 unfoldable pub referencePathBytesCauses : List ℕ → ℕ → List Cause
 referencePathBytesCauses bs room =
-    let p = referencePathBytes (decode bs) in
-    recordCauses sequenceOnly bs ++ (record { number = 10; present = isNothing p } ∷ outputShort room (bytesOrNone p) ∷ [])
+    recordCauses sequenceOnly bs ++ (referenceCause bs ∷ outputCause room (bytesOrNone (referencePathBytes (decode bs))) ∷ [])
 
 unfoldable pub referencePathBytesResponse : List ℕ → ℕ → Response
 referencePathBytesResponse bs room = respond (referencePathBytesCauses bs room) (bytesOrNone (referencePathBytes (decode bs)))
 
 -- path_bases_bytes: 1 to 7, 9, 11; 9 where the start or the list of edges is no path
+abbrev pub pathCause : List ℕ → ℕ → List ℕ → Cause
+pathCause bs start edges = record { number = 9; present = not (isPathOf (decode bs) start edges) }
+
 unfoldable pub pathBasesBytesCauses : List ℕ → ℕ → List ℕ → ℕ → List Cause
 pathBasesBytesCauses bs start edges room =
-    let g = decode bs in
-    recordCauses sequenceOnly bs ++ (record { number = 9; present = not (isPathOf g start edges) } ∷ outputShort room (pathBasesBytes g start edges) ∷ [])
+    recordCauses sequenceOnly bs ++ (pathCause bs start edges ∷ outputCause room (pathBasesBytes (decode bs) start edges) ∷ [])
 
 unfoldable pub pathBasesBytesResponse : List ℕ → ℕ → List ℕ → ℕ → Response
 pathBasesBytesResponse bs start edges room = respond (pathBasesBytesCauses bs start edges room) (pathBasesBytes (decode bs) start edges)

@@ -64,7 +64,7 @@ module _ (g : Graph) where
   }
 
 convert-reaccepted : (bs : List ℕ) → Bytes bs → refusalOf (conversionCauses bs) ≡ 0
-    → ReacceptedAs (fromAssemblyGraph (decode bs)) (encode sequenceGraph 0 (fromAssemblyGraph (decode bs)))
+    → ReacceptedAs (fromAssemblyGraph (decode bs)) (D.convertedRecord bs)
 convert-reaccepted bs small none =
     input-reaccepted (fromAssemblyGraph (decode bs))
     (converted-input (decode bs) (kmer-input bs small (none-early bs none)) (none-late bs none)) 0
@@ -83,9 +83,6 @@ convert-runs bs small none =
 
 -- ---- what is sent
 
-abbrev result : List ℕ → List ℕ
-result bs = encode sequenceGraph 0 (fromAssemblyGraph (decode bs))
-
 module _ {bs : List ℕ} {r : Read} {sorted vs p : List ℕ} (C : ConvertedAs bs r sorted vs p) where
   pub converted-sendable : GraphSendable 0 r sorted vs p
   converted-sendable = record { sendable = C .sendable }
@@ -93,7 +90,7 @@ module _ {bs : List ℕ} {r : Read} {sorted vs p : List ℕ} (C : ConvertedAs bs
   pub converted-sent : {out out′ : List ℕ} {s : Sent} → SendsGraph 0 r sorted vs p out s out′
       → Responds (fromAssemblyGraphResponse bs (length out)) out s out′
   unfolding fromAssemblyGraphResponse fromAssemblyGraphCauses
-  converted-sent S = S .is (conversionCauses bs) (result bs)
+  converted-sent S = S .is (conversionCauses bs) (D.convertedRecord bs)
       record { numbered = conversion-numbered bs; number = C .number; is = λ h ok. ap (encode sequenceGraph 0) (C .is h ok); refused = C .refused }
 
 -- ---- the whole call
@@ -102,14 +99,14 @@ module _ (bs : List ℕ) {out : List ℕ} {t : Tally} {s : Sent} {a : Answer} {o
     (S : Responds (fromAssemblyGraphResponse bs (length out)) out s out′) (T : Tallies s t a) where
   answer-is : answerOf a ≡ fromAssemblyGraphAnswer bs (length out) (tallyOf t)
   unfolding fromAssemblyGraphAnswer fromAssemblyGraphResponse fromAssemblyGraphCauses
-  answer-is = T .is (withOutput (conversionCauses bs) (length out) (result bs)) (result bs) (S .number) (S .size)
+  answer-is = T .is (withOutput (conversionCauses bs) (length out) (D.convertedRecord bs)) (D.convertedRecord bs) (S .number) (S .size)
 
   pub converts : Converts bs out t a out′
   unfolding fromAssemblyGraphAnswer fromAssemblyGraphResponse fromAssemblyGraphCauses D.answer
   converts = record {
     answer = answer-is;
     written = S .written;
-    room = λ l i. room-enough (conversionCauses bs) out (result bs) 49184 (never-11 bs) (λ ok. (again ok) .size) l (sym number-is ∙ i);
+    room = λ l i. room-enough (conversionCauses bs) out (D.convertedRecord bs) 49184 (never-11 bs) (λ ok. (again ok) .size) l (sym number-is ∙ i);
     reaccepted = holds (ReacceptedAs (fromAssemblyGraph (decode bs))) again;
     sources = holds (λ rec. SourcesHoldKmers (decode bs) (decode rec)) (λ ok.
         subst (SourcesHoldKmers (decode bs)) (sym (again ok .graph)) (sources-hold-kmers (decode bs)));
@@ -119,11 +116,11 @@ module _ (bs : List ℕ) {out : List ℕ} {t : Tally} {s : Sent} {a : Answer} {o
       number-is : a .number ≡ numberOf (fromAssemblyGraphResponse bs (length out))
       number-is = ap (λ (x : D.Answer). x .number) answer-is
 
-      again : refusalOf (conversionCauses bs) ≡ 0 → ReacceptedAs (fromAssemblyGraph (decode bs)) (result bs)
+      again : refusalOf (conversionCauses bs) ≡ 0 → ReacceptedAs (fromAssemblyGraph (decode bs)) (D.convertedRecord bs)
       again = convert-reaccepted bs small
 
-      holds : (P : List ℕ → Type 0) → (refusalOf (conversionCauses bs) ≡ 0 → P (result bs)) → a .number ≡ 0 → P (take (a .length) out′)
-      holds P f = answered-holds (conversionCauses bs) out (result bs) P f number-is (ap (λ (x : D.Answer). x .length) answer-is) (S .written)
+      holds : (P : List ℕ → Type 0) → (refusalOf (conversionCauses bs) ≡ 0 → P (D.convertedRecord bs)) → a .number ≡ 0 → P (take (a .length) out′)
+      holds P f = answered-holds (conversionCauses bs) out (D.convertedRecord bs) P f number-is (ap (λ (x : D.Answer). x .length) answer-is) (S .written)
 
 -- ---- room
 

@@ -6,16 +6,15 @@ use Prim.Native.Nat.{ℕ, _+_, _*_, _≤_, _<_}
 use native.Mathlib.Omega.{arith}
 use native.Mathlib.Decide.{ℕ-discrete}
 use lib.ListN.{length, getD}
-use lib.Dec.{ltb}
 use borrow.Author.Tests.{lt-ltb, le-ltb, ltb-false}
 use Rattle.defs.specs.Lists.{allOf}
 use Rattle.defs.specs.SeqGraph.{Edge, Graph}
 use Rattle.defs.specs.Simplify.{sequenceBytes}
 use Rattle.defs.specs.Record.{kindOf, decode}
-use Rattle.defs.specs.Refusals.{Cause, refusalOf, NonePresent, kmerOnly, edgeWithoutOverlap, recordRefusal}
+use Rattle.defs.specs.Refusals.{refusalOf, NonePresent, kmerOnly, edgeWithoutOverlap, recordRefusal}
 use Rattle.defs.specs.Refusals.{layoutCauses, doubledCause, overlapCause, cycleCause, recordCauses}
 use Rattle.defs.specs.Assembly.{fromAssemblyGraph}
-use Rattle.defs.specs.Calls.{conversionCauses}
+use Rattle.defs.specs.Calls.{bytesCause, conversionCauses}
 use Rattle.laws.proofs.ListLaws.{clash, byOrder}
 use Rattle.laws.proofs.Causes.{CausesNumbered, numbers-above, refusal-nil, refusal-there, refusal-absent, refusal-later, refusal-earlier, refusal-front}
 use Rattle.laws.proofs.Causes.{none-left, none-right, none-both, none-refuses, refusal-none}
@@ -47,10 +46,6 @@ use Rattle.from_kmers.specs.Conversion.{RoomToConvert, ConvertedAs}
 -- ---- the causes
 
 module _ (bs : List ℕ) where
-  -- 8, which stands behind those of the record
-  abbrev bytesCause : Cause
-  bytesCause = record { number = 8; present = ltb 8192 (sequenceBytes ((fromAssemblyGraph (decode bs)) .verts)) }
-
   overlapping-numbered : CausesNumbered (overlappingCauses bs)
   unfolding layoutCauses allOf
   overlapping-numbered = numbers-above (overlappingCauses bs) refl
@@ -61,18 +56,18 @@ module _ (bs : List ℕ) where
 
   early : {i : ℕ} → refusalOf (overlappingCauses bs) ≡ i → (i ≡ 0 → ⊥) → refusalOf (conversionCauses bs) ≡ i
   unfolding conversionCauses layoutCauses
-  early e o = refusal-earlier (overlappingCauses bs) (bytesCause ∷ []) e o
+  early e o = refusal-earlier (overlappingCauses bs) (bytesCause bs ∷ []) e o
 
   module _ (z : refusalOf (overlappingCauses bs) ≡ 0) where
-    later : refusalOf (conversionCauses bs) ≡ refusalOf (bytesCause ∷ [])
+    later : refusalOf (conversionCauses bs) ≡ refusalOf (bytesCause bs ∷ [])
     unfolding conversionCauses layoutCauses
-    later = refusal-later (overlappingCauses bs) (bytesCause ∷ []) overlapping-numbered z
+    later = refusal-later (overlappingCauses bs) (bytesCause bs ∷ []) overlapping-numbered z
 
     too-long : 8192 < sequenceBytes ((fromAssemblyGraph (decode bs)) .verts) → refusalOf (conversionCauses bs) ≡ 8
-    too-long l = later ∙ refusal-there bytesCause [] (lt-ltb 8192 (sequenceBytes ((fromAssemblyGraph (decode bs)) .verts)) l)
+    too-long l = later ∙ refusal-there (bytesCause bs) [] (lt-ltb 8192 (sequenceBytes ((fromAssemblyGraph (decode bs)) .verts)) l)
 
     no-cause : sequenceBytes ((fromAssemblyGraph (decode bs)) .verts) ≤ 8192 → refusalOf (conversionCauses bs) ≡ 0
-    no-cause l = later ∙ refusal-absent bytesCause [] (le-ltb 8192 (sequenceBytes ((fromAssemblyGraph (decode bs)) .verts)) l) ∙ refusal-nil
+    no-cause l = later ∙ refusal-absent (bytesCause bs) [] (le-ltb 8192 (sequenceBytes ((fromAssemblyGraph (decode bs)) .verts)) l) ∙ refusal-nil
 
     -- the layout is that of a k-mer graph
     layout-none : refusalOf (layoutCauses kmerOnly bs) ≡ 0
@@ -83,22 +78,22 @@ module _ (bs : List ℕ) where
     absent : NonePresent (conversionCauses bs)
     absent = refusal-none (conversionCauses bs) conversion-numbered z
 
-    behind : NonePresent (overlapCause bs ∷ cycleCause bs ∷ bytesCause ∷ [])
+    behind : NonePresent (overlapCause bs ∷ cycleCause bs ∷ bytesCause bs ∷ [])
     unfolding conversionCauses layoutCauses
-    behind = none-right (kmerCauses bs) (overlapCause bs ∷ cycleCause bs ∷ bytesCause ∷ []) absent
+    behind = none-right (kmerCauses bs) (overlapCause bs ∷ cycleCause bs ∷ bytesCause bs ∷ []) absent
 
     pub none-early : recordRefusal kmerOnly bs ≡ 0
     unfolding conversionCauses recordRefusal recordCauses layoutCauses
     none-early =
         none-refuses (recordCauses kmerOnly bs)
-        (none-both (kmerCauses bs) (cycleCause bs ∷ []) (none-left (kmerCauses bs) (overlapCause bs ∷ cycleCause bs ∷ bytesCause ∷ []) absent)
-        (none-left (cycleCause bs ∷ []) (bytesCause ∷ []) (none-right (overlapCause bs ∷ []) (cycleCause bs ∷ bytesCause ∷ []) behind)))
+        (none-both (kmerCauses bs) (cycleCause bs ∷ []) (none-left (kmerCauses bs) (overlapCause bs ∷ cycleCause bs ∷ bytesCause bs ∷ []) absent)
+        (none-left (cycleCause bs ∷ []) (bytesCause bs ∷ []) (none-right (overlapCause bs ∷ []) (cycleCause bs ∷ bytesCause bs ∷ []) behind)))
 
     pub all-overlap : edgeWithoutOverlap (decode bs) ≡ false
     all-overlap = behind .absent (overlapCause bs) (List·Memᴰ·head refl)
 
     pub none-late : sequenceBytes ((fromAssemblyGraph (decode bs)) .verts) ≤ 8192
-    none-late = ltb-false 8192 _ (behind .absent bytesCause (List·Memᴰ·tail (List·Memᴰ·tail (List·Memᴰ·head refl))))
+    none-late = ltb-false 8192 _ (behind .absent (bytesCause bs) (List·Memᴰ·tail (List·Memᴰ·tail (List·Memᴰ·head refl))))
 
 -- ---- no k-mer and no edge is there twice
 

@@ -59,13 +59,9 @@ module _ {bs : List ℕ} {k : KmerSize} (R : KmerRecord bs k) where
   pub edge-in-record : (i : ℕ) → i < edgesOf bs → edgeStart bs i + 9 ≤ length bs
   edge-in-record i b = omega (arith, edgeStart-is bs i, length-is bs (R .formed))
 
-  -- the k-mers of an edge lie in the record
-  module _ (i : ℕ) (b : i < edgesOf bs) {s a : ℕ} (qs : s ≡ k .0) (qa : a ≡ at) where
-    pub from-inside : {f : ℕ} → f ≡ (edgeAt bs i) .from → a + s * f + s ≤ length bs
-    from-inside {f} q = let e : s ≡ kOf bs = qs ∙ R .size in rw (qa, e, q) (kmer-inside ((edgeAt bs i) .from) (R .formed .good i b .from))
-
-    pub to-inside : {t : ℕ} → t ≡ (edgeAt bs i) .to → a + s * t + s ≤ length bs
-    to-inside {t} q = let e : s ≡ kOf bs = qs ∙ R .size in rw (qa, e, q) (kmer-inside ((edgeAt bs i) .to) (R .formed .good i b .to))
+  -- the k-mer of a vertex lies in the record, by the numbers as the code has them
+  pub kmer-in-record : {v s a u : ℕ} → v < verticesOf bs → s ≡ k .0 → a ≡ at → u ≡ v → a + s * u + s ≤ length bs
+  kmer-in-record {v} {s} below qs qa qu = let e : s ≡ kOf bs = qs ∙ R .size in rw (qa, e, qu) (kmer-inside v below)
 
   -- the bytes that are compared
   pub overlaps-is : (i : ℕ) → i < edgesOf bs → {s f t a : ℕ} → s ≡ k .0 → f ≡ (edgeAt bs i) .from → t ≡ (edgeAt bs i) .to → a ≡ at → {r : Bool}

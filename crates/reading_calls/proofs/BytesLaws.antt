@@ -13,7 +13,8 @@ use Rattle.defs.specs.Paths.{isPathOf, pathBasesBytes, referencePathBytes}
 use Rattle.defs.specs.Record.{decode}
 use Rattle.defs.specs.Refusals.{Cause, sequenceOnly, layoutCauses, recordCauses, recordRefusal}
 use Rattle.defs.specs.Calls.{Response, refused, respond, isNothing, bytesOrNone}
-use Rattle.defs.specs.Calls.{referencePathBytesCauses, referencePathBytesResponse, pathBasesBytesCauses, pathBasesBytesResponse}
+use Rattle.defs.specs.Calls.{referenceCause, referencePathBytesCauses, referencePathBytesResponse}
+use Rattle.defs.specs.Calls.{pathCause, pathBasesBytesCauses, pathBasesBytesResponse}
 use Rattle.laws.proofs.Walks.{byTest}
 use Rattle.laws.proofs.ListLaws.{given-some, byOrder, given-yes}
 use Rattle.laws.proofs.Whole.{no-some}
@@ -80,7 +81,7 @@ module _ (bs : List ℕ) (room : ℕ) where
 
   -- 1 to 7, 10
   abbrev referenceCauses : List Cause
-  referenceCauses = recordCauses sequenceOnly bs ++ (record { number = 10; present = isNothing (referencePathBytes (decode bs)) } ∷ [])
+  referenceCauses = recordCauses sequenceOnly bs ++ (referenceCause bs ∷ [])
 
   reference-is : referencePathBytesResponse bs room ≡ respond (withOutput referenceCauses room referenceResult) referenceResult
   unfolding referencePathBytesResponse referencePathBytesCauses recordCauses layoutCauses
@@ -107,7 +108,7 @@ module _ (bs : List ℕ) (start : ℕ) (list : List ℕ) (room : ℕ) where
 
   -- 1 to 7, 9
   abbrev pathCauses : List Cause
-  pathCauses = recordCauses sequenceOnly bs ++ (record { number = 9; present = not (isPathOf (decode bs) start list) } ∷ [])
+  pathCauses = recordCauses sequenceOnly bs ++ (pathCause bs start list ∷ [])
 
   path-is : pathBasesBytesResponse bs start list room
       ≡ respond (withOutput pathCauses room (pathBasesBytes (decode bs) start list)) (pathBasesBytes (decode bs) start list)

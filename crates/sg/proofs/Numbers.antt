@@ -6,7 +6,7 @@ use lib.ListN.{length}
 use Rattle.defs.specs.Lists.{allOf}
 use Rattle.defs.specs.Refusals.{Cause, IsNumberOf, layoutCauses, recordCauses}
 use Rattle.defs.specs.Calls as D
-use Rattle.defs.specs.Calls.{Response, numberOf, respond, outputShort, conversionCauses}
+use Rattle.defs.specs.Calls.{Response, numberOf, respond, outputCause, conversionCauses}
 use Rattle.defs.specs.Calls.{vertexSequenceCauses, vertexSequenceNumber, fromAssemblyGraphCauses, fromAssemblyGraphResponse, fromAssemblyGraphAnswer}
 use Rattle.defs.specs.Calls.{simplifyGraphCauses, simplifyGraphResponse, simplifyGraphAnswer}
 use Rattle.defs.specs.Calls.{cleanupSeqGraphCauses, cleanupSeqGraphResponse, cleanupSeqGraphAnswer}
@@ -38,34 +38,34 @@ vertex-sequence-number {bs} {v} P =
 
 module _ {bs out : List ℕ} {t : Tally} {out′ : List ℕ} where
   pub from-assembly-graph-number : {r : Answer} → Converts bs out t r out′ → IsNumberOf (fromAssemblyGraphCauses bs (length out)) (r .number)
-  unfolding fromAssemblyGraphAnswer fromAssemblyGraphResponse fromAssemblyGraphCauses conversionCauses outputShort layoutCauses D.answer allOf
+  unfolding fromAssemblyGraphAnswer fromAssemblyGraphResponse fromAssemblyGraphCauses conversionCauses outputCause layoutCauses D.answer allOf
   from-assembly-graph-number C =
       responds-first (numbers-above (fromAssemblyGraphCauses bs (length out)) refl) _ refl (ap (λ (a : D.Answer). a .number) (C .answer))
 
   pub simplify-graph-number : {r : SimplifyAnswer} → Simplifies bs out t r out′ → IsNumberOf (simplifyGraphCauses bs (length out)) (r .number)
-  unfolding simplifyGraphAnswer simplifyGraphResponse simplifyGraphCauses outputShort recordCauses layoutCauses allOf
+  unfolding simplifyGraphAnswer simplifyGraphResponse simplifyGraphCauses outputCause recordCauses layoutCauses allOf
   simplify-graph-number C =
       responds-first (numbers-above (simplifyGraphCauses bs (length out)) refl) _ refl (ap (λ (a : D.SimplifyAnswer). a .number) (C .answer))
 
   pub cleanup-seq-graph-number : {r : CleanupAnswer} → Cleans bs out t r out′ → IsNumberOf (cleanupSeqGraphCauses bs (length out)) (r .number)
-  unfolding cleanupSeqGraphAnswer cleanupSeqGraphResponse cleanupSeqGraphCauses outputShort recordCauses layoutCauses allOf
+  unfolding cleanupSeqGraphAnswer cleanupSeqGraphResponse cleanupSeqGraphCauses outputCause recordCauses layoutCauses allOf
   cleanup-seq-graph-number C =
       responds-first (numbers-above (cleanupSeqGraphCauses bs (length out)) refl) _ refl (ap (λ (a : D.CleanupAnswer). a .number) (C .answer))
 
   pub clean-non-ref-paths-number : {r : Answer} → CleansPaths bs out t r out′ → IsNumberOf (cleanNonRefPathsCauses bs (length out)) (r .number)
-  unfolding cleanNonRefPathsAnswer cleanNonRefPathsResponse cleanNonRefPathsCauses outputShort recordCauses layoutCauses D.answer allOf
+  unfolding cleanNonRefPathsAnswer cleanNonRefPathsResponse cleanNonRefPathsCauses outputCause recordCauses layoutCauses D.answer allOf
   clean-non-ref-paths-number C =
       responds-first (numbers-above (cleanNonRefPathsCauses bs (length out)) refl) _ refl (ap (λ (a : D.Answer). a .number) (C .answer))
 
 module _ (bs : List ℕ) {out : List ℕ} {t : Tally} {out′ : List ℕ} {r : Answer} where
   pub reference-path-bytes-number : TellsBytes (referencePathBytesResponse bs (length out)) out t r out′
       → IsNumberOf (referencePathBytesCauses bs (length out)) (r .number)
-  unfolding referencePathBytesResponse referencePathBytesCauses outputShort recordCauses layoutCauses D.answer allOf
+  unfolding referencePathBytesResponse referencePathBytesCauses outputCause recordCauses layoutCauses D.answer allOf
   reference-path-bytes-number C =
       responds-first (numbers-above (referencePathBytesCauses bs (length out)) refl) _ refl (ap (λ (a : D.Answer). a .number) (C .answer))
 
   pub path-bases-bytes-number : (start : ℕ) (edges : List ℕ) → TellsBytes (pathBasesBytesResponse bs start edges (length out)) out t r out′
       → IsNumberOf (pathBasesBytesCauses bs start edges (length out)) (r .number)
-  unfolding pathBasesBytesResponse pathBasesBytesCauses outputShort recordCauses layoutCauses D.answer allOf
+  unfolding pathBasesBytesResponse pathBasesBytesCauses outputCause recordCauses layoutCauses D.answer allOf
   path-bases-bytes-number start edges C =
       responds-first (numbers-above (pathBasesBytesCauses bs start edges (length out)) refl) _ refl (ap (λ (a : D.Answer). a .number) (C .answer))

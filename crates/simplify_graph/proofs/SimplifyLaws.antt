@@ -9,7 +9,7 @@ use Rattle.defs.specs.SeqGraph.{Graph}
 use Rattle.defs.specs.Simplify as S
 use Rattle.defs.specs.Simplify.{simplifyGraphFull, minTailSuffixLen}
 use Rattle.defs.specs.Strings.{Spells}
-use Rattle.defs.specs.Record.{sequenceGraph, encode, decode}
+use Rattle.defs.specs.Record.{decode}
 use Rattle.defs.specs.Refusals.{Cause, sequenceOnly, recordCauses, recordRefusal}
 use Rattle.defs.specs.Calls as D
 use Rattle.defs.specs.Calls.{numberOf, simplifyGraphCauses, simplifyGraphResponse, simplifyGraphAnswer}
@@ -41,7 +41,7 @@ module _ {bs out : List ℕ} {t : Tally} {r : RewritingAnswer} {a : SimplifyAnsw
   causes = recordCauses sequenceOnly bs
 
   abbrev result : List ℕ
-  result = encode sequenceGraph 0 (z .graph)
+  result = D.simplifiedRecord bs
 
   answer-is : simplifyAnswerOf a ≡ simplifyGraphAnswer bs (length out) (tallyOf t)
   unfolding simplifyGraphAnswer simplifyGraphResponse simplifyGraphCauses resultOf

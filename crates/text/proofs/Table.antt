@@ -17,7 +17,7 @@ use Rattle.text.specs.Examples.{inputs, texts}
 -- every definition that the program's text is computed with is opened
 pub shown-examples : map shown inputs ≡ texts
 unfolding P.ascii P.digit P.decimalBy P.decimal P.signed P.field P.isLetter P.printedByte P.printedSequence P.surplus P.firstLine P.endName
-    P.secondLine P.vertexLine P.edgeLine P.printedGraph P.printedRefusal P.printedAnswer P.inputCauses P.shown A.outputShort A.respondTo A.respond F.refusalOf
+    P.secondLine P.vertexLine P.edgeLine P.printedGraph P.printedRefusal P.printedAnswer P.inputCauses P.shown A.outputCause A.respondTo A.respond F.refusalOf
     F.otherLength F.takesKind F.wrongMark F.pastLimit F.layoutDisagrees F.badEdge F.anyBadEdge F.doubledEdge F.equalKmers F.doubled
     F.hasCycle F.layoutCauses F.recordCauses F.recordRefusal R.le16 R.le32 R.u16At R.u32At R.recordKindNumber R.edgesAt R.bytesAt R.wholeLength
     R.flagOf R.encodeEdge R.encodeHeader R.encode R.lengthAt R.sequenceStart R.sequenceAt R.edgeStart R.flagAt R.edgeAt R.decode C.forward C.grow

@@ -13,7 +13,7 @@ use Rattle.defs.specs.SeqGraph.{Edge, nodeCount, vertexSequence}
 use Rattle.defs.specs.Simplify.{sequenceBytes, End, quiet, repeated, full, Simplified, simplifyGraphFull, minTailSuffixLen}
 use Rattle.defs.specs.Record.{decode}
 use Rattle.defs.specs.Refusals.{Cause, sequenceOnly, recordCauses}
-use Rattle.defs.specs.Calls.{Response, refused, accepted, outputShort, respond, simplifiedRecord}
+use Rattle.defs.specs.Calls.{Response, refused, accepted, outputCause, respond, simplifiedRecord}
 
 -- the bytes of an ASCII text
 unfoldable pub ascii : String → List ℕ
@@ -98,4 +98,4 @@ inputCauses bs = record { number = 1; present = ltb 65536 (length bs) } ∷ reco
 -- What the program writes of its standard input. An answer record over 65,536 bytes counts as 11.
 unfoldable pub shown : List ℕ → List ℕ
 shown bs =
-    printedAnswer (respond (inputCauses bs ++ (outputShort 65536 (simplifiedRecord bs) ∷ [])) (simplifiedRecord bs)) (simplifyGraphFull minTailSuffixLen (decode bs))
+    printedAnswer (respond (inputCauses bs ++ (outputCause 65536 (simplifiedRecord bs) ∷ [])) (simplifiedRecord bs)) (simplifyGraphFull minTailSuffixLen (decode bs))

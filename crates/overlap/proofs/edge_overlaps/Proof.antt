@@ -1,7 +1,8 @@
 -- `overlap::edge_overlaps` meets its contract. Assumes nothing.
 use Prim.Native.Nat.{_+_, _*_, _≤_}
 use lib.ListN.{length}
-use Rattle.overlap.proofs.OverlapLaws.{edge-in-record, from-inside, to-inside, overlaps-is}
+use Rattle.overlap.proofs.OverlapLaws.{edge-in-record, kmer-in-record, overlaps-is}
+use Rattle.record.specs.Layout.{GoodEdge}
 use native.Mathlib.Omega.{arith}
 use borrow.Author.Needs.{needs}
 use Rattle.overlap.proofs.edge_overlaps.Statement.{statement}
@@ -17,14 +18,15 @@ module _ (c : tie.After-edge-to-at) where
   abbrev start : tie.Start
   start = let c = at-value in search
 
+  ends : GoodEdge (start .args .rec .now) (start .args .i)
+  ends = start .pre .0 .formed .good (start .args .i) (start .pre .1 .1)
+
   -- both k-mers lie in the record
   from-in : start .args .at + at-value .value .result * at-from .edge-from-at .result + at-value .value .result ≤ length (start .args .rec .now)
-  from-in = from-inside (start .pre .0) (start .args .i) (start .pre .1 .1) (at-value .value .ensures) (start .pre .1 .0)
-      (at-from .edge-from-at .ensures)
+  from-in = kmer-in-record (start .pre .0) (ends .from) (at-value .value .ensures) (start .pre .1 .0) (at-from .edge-from-at .ensures)
 
   to-in : start .args .at + at-value .value .result * c .edge-to-at .result + at-value .value .result ≤ length (start .args .rec .now)
-  to-in = to-inside (start .pre .0) (start .args .i) (start .pre .1 .1) (at-value .value .ensures) (start .pre .1 .0)
-      (c .edge-to-at .ensures)
+  to-in = kmer-in-record (start .pre .0) (ends .to) (at-value .value .ensures) (start .pre .1 .0) (c .edge-to-at .ensures)
 
 edge-from-at-requires : tie.Need-edge-from-at-requires
 edge-from-at-requires c κs = let start : tie.Start = search in edge-in-record (start .pre .0) (start .args .i) (start .pre .1 .1)
