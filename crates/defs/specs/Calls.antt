@@ -1,5 +1,5 @@
--- The public calls: of each the list of its causes of a refusal, its whole answer and the lent output at exit, from the record, the arguments,
--- the room and the tally.
+-- The public calls: of each the list of its causes of a refusal, its whole answer, the lent output at exit and what its caller's tally counts
+-- of it, from the record, the arguments, the room and the caller.
 -- Assumes nothing.
 use Prim.Native.Nat.{ℕ, zero, suc}
 use mathlib.Core.Bool.{Bool, true, false, cond, not}
@@ -7,7 +7,7 @@ use mathlib.Core.Option.{Option, none, some}
 use mathlib.Core.List.{List, [], _∷_, _++_}
 use lib.Dec.{eqb, ltb, leb}
 use lib.ListN.{length, drop}
-use Rattle.defs.specs.SeqGraph.{vertexSequence, saturatingAdd}
+use Rattle.defs.specs.SeqGraph.{vertexSequence}
 use Rattle.defs.specs.Simplify.{Simplified, sequenceBytes, simplifyGraphFull, minTailSuffixLen, endNumber}
 use Rattle.defs.specs.Cleanup.{Cleaned, statusNumber, cleanupSeqGraph, cleanNonRefPaths}
 use Rattle.defs.specs.Record.{sequenceGraph, verticesOf, encode, decode}
@@ -15,6 +15,7 @@ use Rattle.defs.specs.Refusals.{Cause, refusalOf, kmerOnly, sequenceOnly
 use Rattle.defs.specs.Refusals.{layoutCauses, doubledCause, overlapCause, cycleCause, recordCauses}
 use Rattle.defs.specs.Assembly.{fromAssemblyGraph}
 use Rattle.defs.specs.Paths.{isPathOf, pathBasesBytes, referencePathBytes}
+use Rattle.defs.specs.Tallies.{Counted}
 
 -- What a call makes of its input: a refusal, or the bytes of its result.
 pub data Response : Type 0 where
@@ -39,15 +40,9 @@ unfoldable pub writtenOf : Response → List ℕ → List ℕ
 writtenOf (refused n) out = out
 writtenOf (accepted r) out = r ++ drop (length r) out
 
--- The tally.
-pub record Tally : Type 0 where
-  pub answered : ℕ
-  pub refused : ℕ
-  pub rewrites : ℕ
-
-unfoldable pub tallied : Response → ℕ → Tally → Tally
-tallied (refused n) rewrites t = record { answered = t .answered; refused = saturatingAdd (t .refused) 1; rewrites = t .rewrites }
-tallied (accepted r) rewrites t = record { answered = saturatingAdd (t .answered) 1; refused = t .refused; rewrites = saturatingAdd (t .rewrites) rewrites }
+-- 18: a caller above 15, asked before all else
+unfoldable pub callerCause : ℕ → Cause
+callerCause caller = record { number = 18; present = ltb 15 caller }
 
 -- 11: the output is shorter than the result
 unfoldable pub outputCause : ℕ → List ℕ → Cause
@@ -62,14 +57,17 @@ respondTo (suc n) result = refused (suc n)
 unfoldable pub respond : List Cause → List ℕ → Response
 respond causes result = respondTo (refusalOf causes) result
 
--- number, length and tally: the answer of conversion, of clean_non_ref_paths and of the two string calls
+-- number and length: the answer of conversion, of clean_non_ref_paths and of the two string calls
 pub record Answer : Type 0 where
   pub number : ℕ
   pub length : ℕ
-  pub tally : Tally
 
-unfoldable pub answer : Response → Tally → Answer
-answer r t = record { number = numberOf r; length = lengthOf r; tally = tallied r 0 t }
+unfoldable pub answer : Response → Answer
+answer r = record { number = numberOf r; length = lengthOf r }
+
+-- what is counted of a call that, where it is answered, made so many rewrites
+unfoldable pub countedOf : ℕ → Response → ℕ → Counted
+countedOf caller r rewrites = record { caller = caller; number = numberOf r; rewrites = fieldOf r rewrites }
 
 -- vertex_sequence: 1 to 7, 9; the number for the lent cell, and the part handed back
 abbrev pub vertexCause : List ℕ → ℕ → Cause
@@ -84,7 +82,7 @@ vertexSequenceNumber bs v = refusalOf (vertexSequenceCauses bs v)
 unfoldable pub vertexSequencePart : List ℕ → ℕ → List ℕ
 vertexSequencePart bs v = cond (eqb (vertexSequenceNumber bs v) 0) (vertexSequence (decode bs) v) []
 
--- from_assembly_graph: 1 to 6, 15, 7, 8, 11; 8 where the converted graph has over 8,192 bytes
+-- from_assembly_graph: 18, 1 to 6, 15, 7, 8, 11; 8 where the converted graph has over 8,192 bytes
 abbrev pub bytesCause : List ℕ → Cause
 bytesCause bs = record { number = 8; present = ltb 8192 (sequenceBytes ((fromAssemblyGraph (decode bs)) .verts)) }
 
@@ -94,24 +92,27 @@ conversionCauses bs = layoutCauses kmerOnly bs ++ (doubledCause bs ∷ overlapCa
 abbrev pub convertedRecord : List ℕ → List ℕ
 convertedRecord bs = encode sequenceGraph 0 (fromAssemblyGraph (decode bs))
 
-unfoldable pub fromAssemblyGraphCauses : List ℕ → ℕ → List Cause
-fromAssemblyGraphCauses bs room = conversionCauses bs ++ (outputCause room (convertedRecord bs) ∷ [])
+unfoldable pub fromAssemblyGraphCauses : List ℕ → ℕ → ℕ → List Cause
+fromAssemblyGraphCauses bs room caller = callerCause caller ∷ (conversionCauses bs ++ (outputCause room (convertedRecord bs) ∷ []))
 
-unfoldable pub fromAssemblyGraphResponse : List ℕ → ℕ → Response
-fromAssemblyGraphResponse bs room = respond (fromAssemblyGraphCauses bs room) (convertedRecord bs)
+unfoldable pub fromAssemblyGraphResponse : List ℕ → ℕ → ℕ → Response
+fromAssemblyGraphResponse bs room caller = respond (fromAssemblyGraphCauses bs room caller) (convertedRecord bs)
 
-unfoldable pub fromAssemblyGraphAnswer : List ℕ → ℕ → Tally → Answer
-fromAssemblyGraphAnswer bs room t = answer (fromAssemblyGraphResponse bs room) t
+unfoldable pub fromAssemblyGraphAnswer : List ℕ → ℕ → ℕ → Answer
+fromAssemblyGraphAnswer bs room caller = answer (fromAssemblyGraphResponse bs room caller)
 
--- simplify_graph: 1 to 7, 11
+unfoldable pub fromAssemblyGraphCounted : List ℕ → ℕ → ℕ → Counted
+fromAssemblyGraphCounted bs room caller = countedOf caller (fromAssemblyGraphResponse bs room caller) 0
+
+-- simplify_graph: 18, 1 to 7, 11
 abbrev pub simplifiedRecord : List ℕ → List ℕ
 simplifiedRecord bs = encode sequenceGraph 0 ((simplifyGraphFull minTailSuffixLen (decode bs)) .graph)
 
-unfoldable pub simplifyGraphCauses : List ℕ → ℕ → List Cause
-simplifyGraphCauses bs room = recordCauses sequenceOnly bs ++ (outputCause room (simplifiedRecord bs) ∷ [])
+unfoldable pub simplifyGraphCauses : List ℕ → ℕ → ℕ → List Cause
+simplifyGraphCauses bs room caller = callerCause caller ∷ (recordCauses sequenceOnly bs ++ (outputCause room (simplifiedRecord bs) ∷ []))
 
-unfoldable pub simplifyGraphResponse : List ℕ → ℕ → Response
-simplifyGraphResponse bs room = respond (simplifyGraphCauses bs room) (simplifiedRecord bs)
+unfoldable pub simplifyGraphResponse : List ℕ → ℕ → ℕ → Response
+simplifyGraphResponse bs room caller = respond (simplifyGraphCauses bs room caller) (simplifiedRecord bs)
 
 pub record SimplifyAnswer : Type 0 where
   pub number : ℕ
@@ -119,57 +120,63 @@ pub record SimplifyAnswer : Type 0 where
   pub rewrites : ℕ
   pub rounds : ℕ
   pub end : ℕ
-  pub tally : Tally
 
-abbrev pub simplifyAnswer : Response → Simplified → Tally → SimplifyAnswer
-simplifyAnswer r s t = record {
+abbrev pub simplifyAnswer : Response → Simplified → SimplifyAnswer
+simplifyAnswer r s = record {
   number = numberOf r;
   length = lengthOf r;
   rewrites = fieldOf r (s .rewrites);
   rounds = fieldOf r (s .rounds);
   end = fieldOf r (endNumber (s .end));
-  tally = tallied r (s .rewrites) t;
 }
 
-unfoldable pub simplifyGraphAnswer : List ℕ → ℕ → Tally → SimplifyAnswer
-simplifyGraphAnswer bs room t = simplifyAnswer (simplifyGraphResponse bs room) (simplifyGraphFull minTailSuffixLen (decode bs)) t
+unfoldable pub simplifyGraphAnswer : List ℕ → ℕ → ℕ → SimplifyAnswer
+simplifyGraphAnswer bs room caller = simplifyAnswer (simplifyGraphResponse bs room caller) (simplifyGraphFull minTailSuffixLen (decode bs))
 
--- cleanup_seq_graph: 1 to 7, 11
+unfoldable pub simplifyGraphCounted : List ℕ → ℕ → ℕ → Counted
+simplifyGraphCounted bs room caller = countedOf caller (simplifyGraphResponse bs room caller) ((simplifyGraphFull minTailSuffixLen (decode bs)) .rewrites)
+
+-- cleanup_seq_graph: 18, 1 to 7, 11; its rewrites are counted and not answered
 abbrev pub cleanedRecord : List ℕ → List ℕ
 cleanedRecord bs = let c = cleanupSeqGraph (decode bs) in encode sequenceGraph (statusNumber (c .status)) (c .graph)
 
-unfoldable pub cleanupSeqGraphCauses : List ℕ → ℕ → List Cause
-cleanupSeqGraphCauses bs room = recordCauses sequenceOnly bs ++ (outputCause room (cleanedRecord bs) ∷ [])
+unfoldable pub cleanupSeqGraphCauses : List ℕ → ℕ → ℕ → List Cause
+cleanupSeqGraphCauses bs room caller = callerCause caller ∷ (recordCauses sequenceOnly bs ++ (outputCause room (cleanedRecord bs) ∷ []))
 
-unfoldable pub cleanupSeqGraphResponse : List ℕ → ℕ → Response
-cleanupSeqGraphResponse bs room = respond (cleanupSeqGraphCauses bs room) (cleanedRecord bs)
+unfoldable pub cleanupSeqGraphResponse : List ℕ → ℕ → ℕ → Response
+cleanupSeqGraphResponse bs room caller = respond (cleanupSeqGraphCauses bs room caller) (cleanedRecord bs)
 
 pub record CleanupAnswer : Type 0 where
   pub number : ℕ
   pub length : ℕ
   pub status : ℕ
-  pub tally : Tally
 
-abbrev pub cleanupAnswer : Response → Cleaned → Tally → CleanupAnswer
-cleanupAnswer r c t = record { number = numberOf r; length = lengthOf r; status = fieldOf r (statusNumber (c .status)); tally = tallied r (c .rewrites) t }
+abbrev pub cleanupAnswer : Response → Cleaned → CleanupAnswer
+cleanupAnswer r c = record { number = numberOf r; length = lengthOf r; status = fieldOf r (statusNumber (c .status)) }
 
-unfoldable pub cleanupSeqGraphAnswer : List ℕ → ℕ → Tally → CleanupAnswer
-cleanupSeqGraphAnswer bs room t = cleanupAnswer (cleanupSeqGraphResponse bs room) (cleanupSeqGraph (decode bs)) t
+unfoldable pub cleanupSeqGraphAnswer : List ℕ → ℕ → ℕ → CleanupAnswer
+cleanupSeqGraphAnswer bs room caller = cleanupAnswer (cleanupSeqGraphResponse bs room caller) (cleanupSeqGraph (decode bs))
 
--- clean_non_ref_paths: 1 to 7, 11
+unfoldable pub cleanupSeqGraphCounted : List ℕ → ℕ → ℕ → Counted
+cleanupSeqGraphCounted bs room caller = countedOf caller (cleanupSeqGraphResponse bs room caller) ((cleanupSeqGraph (decode bs)) .rewrites)
+
+-- clean_non_ref_paths: 18, 1 to 7, 11
 abbrev pub reducedRecord : List ℕ → List ℕ
 reducedRecord bs = encode sequenceGraph 0 (cleanNonRefPaths (decode bs))
 
-unfoldable pub cleanNonRefPathsCauses : List ℕ → ℕ → List Cause
-cleanNonRefPathsCauses bs room = recordCauses sequenceOnly bs ++ (outputCause room (reducedRecord bs) ∷ [])
+unfoldable pub cleanNonRefPathsCauses : List ℕ → ℕ → ℕ → List Cause
+cleanNonRefPathsCauses bs room caller = callerCause caller ∷ (recordCauses sequenceOnly bs ++ (outputCause room (reducedRecord bs) ∷ []))
 
-unfoldable pub cleanNonRefPathsResponse : List ℕ → ℕ → Response
-cleanNonRefPathsResponse bs room = respond (cleanNonRefPathsCauses bs room) (reducedRecord bs)
+unfoldable pub cleanNonRefPathsResponse : List ℕ → ℕ → ℕ → Response
+cleanNonRefPathsResponse bs room caller = respond (cleanNonRefPathsCauses bs room caller) (reducedRecord bs)
 
-unfoldable pub cleanNonRefPathsAnswer : List ℕ → ℕ → Tally → Answer
-cleanNonRefPathsAnswer bs room t = answer (cleanNonRefPathsResponse bs room) t
+unfoldable pub cleanNonRefPathsAnswer : List ℕ → ℕ → ℕ → Answer
+cleanNonRefPathsAnswer bs room caller = answer (cleanNonRefPathsResponse bs room caller)
 
--- reference_path_bytes: 1 to 7, 10, 11; 10 where there is no reference path
+unfoldable pub cleanNonRefPathsCounted : List ℕ → ℕ → ℕ → Counted
+cleanNonRefPathsCounted bs room caller = countedOf caller (cleanNonRefPathsResponse bs room caller) 0
+
+-- reference_path_bytes: 18, 1 to 7, 10, 11; 10 where there is no reference path
 unfoldable pub isNothing : Option (List ℕ) → Bool
 isNothing none = true
 isNothing (some s) = false
@@ -181,20 +188,32 @@ bytesOrNone (some s) = s
 abbrev pub referenceCause : List ℕ → Cause
 referenceCause bs = record { number = 10; present = isNothing (referencePathBytes (decode bs)) }
 
-unfoldable pub referencePathBytesCauses : List ℕ → ℕ → List Cause
-referencePathBytesCauses bs room =
-    recordCauses sequenceOnly bs ++ (referenceCause bs ∷ outputCause room (bytesOrNone (referencePathBytes (decode bs))) ∷ [])
+abbrev pub referenceBytes : List ℕ → List ℕ
+referenceBytes bs = bytesOrNone (referencePathBytes (decode bs))
 
-unfoldable pub referencePathBytesResponse : List ℕ → ℕ → Response
-referencePathBytesResponse bs room = respond (referencePathBytesCauses bs room) (bytesOrNone (referencePathBytes (decode bs)))
+unfoldable pub referencePathBytesCauses : List ℕ → ℕ → ℕ → List Cause
+referencePathBytesCauses bs room caller =
+    callerCause caller ∷ (recordCauses sequenceOnly bs ++ (referenceCause bs ∷ outputCause room (referenceBytes bs) ∷ []))
 
--- path_bases_bytes: 1 to 7, 9, 11; 9 where the start or the list of edges is no path
+unfoldable pub referencePathBytesResponse : List ℕ → ℕ → ℕ → Response
+referencePathBytesResponse bs room caller = respond (referencePathBytesCauses bs room caller) (referenceBytes bs)
+
+unfoldable pub referencePathBytesCounted : List ℕ → ℕ → ℕ → Counted
+referencePathBytesCounted bs room caller = countedOf caller (referencePathBytesResponse bs room caller) 0
+
+-- path_bases_bytes: 18, 1 to 7, 9, 11; 9 where the start or the list of edges is no path
 abbrev pub pathCause : List ℕ → ℕ → List ℕ → Cause
 pathCause bs start edges = record { number = 9; present = not (isPathOf (decode bs) start edges) }
 
-unfoldable pub pathBasesBytesCauses : List ℕ → ℕ → List ℕ → ℕ → List Cause
-pathBasesBytesCauses bs start edges room =
-    recordCauses sequenceOnly bs ++ (pathCause bs start edges ∷ outputCause room (pathBasesBytes (decode bs) start edges) ∷ [])
+abbrev pub pathBytes : List ℕ → ℕ → List ℕ → List ℕ
+pathBytes bs start edges = pathBasesBytes (decode bs) start edges
 
-unfoldable pub pathBasesBytesResponse : List ℕ → ℕ → List ℕ → ℕ → Response
-pathBasesBytesResponse bs start edges room = respond (pathBasesBytesCauses bs start edges room) (pathBasesBytes (decode bs) start edges)
+unfoldable pub pathBasesBytesCauses : List ℕ → ℕ → List ℕ → ℕ → ℕ → List Cause
+pathBasesBytesCauses bs start edges room caller =
+    callerCause caller ∷ (recordCauses sequenceOnly bs ++ (pathCause bs start edges ∷ outputCause room (pathBytes bs start edges) ∷ []))
+
+unfoldable pub pathBasesBytesResponse : List ℕ → ℕ → List ℕ → ℕ → ℕ → Response
+pathBasesBytesResponse bs start edges room caller = respond (pathBasesBytesCauses bs start edges room caller) (pathBytes bs start edges)
+
+unfoldable pub pathBasesBytesCounted : List ℕ → ℕ → List ℕ → ℕ → ℕ → Counted
+pathBasesBytesCounted bs start edges room caller = countedOf caller (pathBasesBytesResponse bs start edges room caller) 0

@@ -34,3 +34,4 @@ pub mod SplitForms
 pub mod Flags
 pub mod Capped
 pub mod Causes
+pub mod Tallies
