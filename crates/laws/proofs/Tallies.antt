@@ -8,11 +8,33 @@ use native.Mathlib.Omega.{arith}
 use lib.Dec.{eqb, ltb}
 use lib.ListN.{length, getD, set, length-set}
 use lib.Seq.{set-out, getD-set-same, getD-set-other}
-use borrow.Author.Tests.{eqb-true, eqb-false, ltb-true, ltb-false, lt-ltb, le-ltb}
+use borrow.Author.Tests.{eq-eqb, ne-eqb, eqb-true, eqb-false, ltb-true, ltb-false, lt-ltb, le-ltb}
 use Rattle.defs.specs.Lists.{keepIf}
+use Rattle.defs.specs.SeqGraph.{saturatingAdd}
 use Rattle.defs.specs.Tallies.{Tally, Counted, tallied, noCalls, callerTally, raised}
 use Rattle.defs.specs.Sequence.{TalliedCall, countedBy, afterCalls, ownCalls}
 use Rattle.laws.proofs.Walks.{byTest}
+
+-- ---- one tally
+
+module _ (c : Counted) (t : Tally) where
+  abbrev answered : Tally
+  answered = record {
+    answered = saturatingAdd (t .answered) 1;
+    refused = t .refused;
+    rewrites = saturatingAdd (t .rewrites) (c .rewrites);
+  }
+
+  abbrev refused : Tally
+  refused = record { answered = t .answered; refused = saturatingAdd (t .refused) 1; rewrites = t .rewrites }
+
+  pub tallied-answered : c .number ≡ 0 → tallied c t ≡ answered
+  unfolding tallied
+  tallied-answered e = ap (λ (b : Bool). cond b answered refused) (eq-eqb (c .number) 0 e)
+
+  pub tallied-refused : (c .number ≡ 0 → ⊥) → tallied c t ≡ refused
+  unfolding tallied
+  tallied-refused o = ap (λ (b : Bool). cond b answered refused) (ne-eqb (c .number) 0 o)
 
 -- ---- one call
 
