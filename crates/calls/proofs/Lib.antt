@@ -2,3 +2,4 @@ pub mod ResponseLaws
 pub mod AnswerLaws
 pub mod SendLaws
 pub mod CauseLaws
+pub mod CallerLaws

@@ -18,28 +18,28 @@ use Rattle.calls.specs.Sending.{fits, Sendable, Responds, SendsGraph}
 use Rattle.calls.proofs.ResponseLaws.{fits-short, fits-enough, respond-refused, respond-fits}
 use Rattle.store.specs.Store.{Within}
 use Rattle.write_record.proofs.WriteLaws.{bytes-are, encode-length}
-use Rattle.calls.specs.declared.Sent.{Sent}
+use Rattle.calls.specs.declared.Answer.{Answer}
 
 -- what is sent, by the response
-pub responds-refused : {x : Response} {n : ℕ} → x ≡ refused n → {s : Sent} → s ≡ record { number = n; length = 0 } → {out out′ : List ℕ}
+pub responds-refused : {x : Response} {n : ℕ} → x ≡ refused n → {s : Answer} → s ≡ record { number = n; length = 0 } → {out out′ : List ℕ}
     → out′ ≡ out → Responds x out s out′
 unfolding numberOf lengthOf writtenOf
 responds-refused e q {out} w = record {
-  number = ap (λ (y : Sent). y .number) q ∙ sym (ap numberOf e);
-  size = ap (λ (y : Sent). y .length) q ∙ sym (ap lengthOf e);
+  number = ap (λ (y : Answer). y .number) q ∙ sym (ap numberOf e);
+  size = ap (λ (y : Answer). y .length) q ∙ sym (ap lengthOf e);
   written = w ∙ sym (ap (λ (y : Response). writtenOf y out) e);
 }
 
-pub responds-accepted : {x : Response} (r : List ℕ) → x ≡ accepted r → {s : Sent} {n : ℕ} → n ≡ length r → s ≡ record { number = 0; length = n }
+pub responds-accepted : {x : Response} (r : List ℕ) → x ≡ accepted r → {s : Answer} {n : ℕ} → n ≡ length r → s ≡ record { number = 0; length = n }
     → {out out′ : List ℕ} → out′ ≡ r ++ drop n out → Responds x out s out′
 unfolding numberOf lengthOf writtenOf
 responds-accepted r e l q {out} w = record {
-  number = ap (λ (y : Sent). y .number) q ∙ sym (ap numberOf e);
-  size = ap (λ (y : Sent). y .length) q ∙ l ∙ sym (ap lengthOf e);
+  number = ap (λ (y : Answer). y .number) q ∙ sym (ap numberOf e);
+  size = ap (λ (y : Answer). y .length) q ∙ l ∙ sym (ap lengthOf e);
   written = w ∙ ap (λ (i : ℕ). r ++ drop i out) l ∙ sym (ap (λ (y : Response). writtenOf y out) e);
 }
 
-pub responds-as : {x y : Response} → x ≡ y → {out out′ : List ℕ} {s : Sent} → Responds y out s out′ → Responds x out s out′
+pub responds-as : {x y : Response} → x ≡ y → {out out′ : List ℕ} {s : Answer} → Responds y out s out′ → Responds x out s out′
 responds-as e {out} {out′} {s} R = subst (λ (z : Response). Responds z out s out′) (sym e) R
 
 -- a held graph whose counts fit 16 bits
@@ -102,7 +102,7 @@ module _ {r : Read} {es vs p : List ℕ} where
         responds-refused (respond-refused causes (length out) result n (sym (M .number) ∙ number-refused f) (M .refused n f)) refl refl;
   }
 
-  pub sends-graph : {h : Held} → r ≡ read.Graph h → {status : ℕ} {out : List ℕ} {s : Sent} {out′ : List ℕ}
+  pub sends-graph : {h : Held} → r ≡ read.Graph h → {status : ℕ} {out : List ℕ} {s : Answer} {out′ : List ℕ}
       → Responds (fits (length out) (encode sequenceGraph status (graphOf h es vs p))) out s out′ → SendsGraph status r es vs p out s out′
   sends-graph {h} ok {status} {out} S = record {
     is = λ causes result M.

@@ -15,7 +15,7 @@ use Rattle.accept.specs.Accept.{readNumber}
 use Rattle.accept.specs.declared.Read.{Read}
 use Rattle.accept.specs.declared.Read.the-variants as read
 use Rattle.write_record.specs.Written.{Measured, RecordWritable}
-use Rattle.calls.specs.declared.Sent.{Sent}
+use Rattle.calls.specs.declared.Answer.{Answer}
 
 -- a held graph whose record can be written wherever there is room
 pub record Sendable (status : ℕ) (h : Held) (es vs p : List ℕ) : Type 0 where
@@ -31,7 +31,7 @@ unfoldable pub fits : ℕ → List ℕ → Response
 fits room result = respond (outputCause room result ∷ []) result
 
 -- The promise of what a call sends: number, length and the output at exit are those of its response.
-pub record Responds (x : Response) (out : List ℕ) (s : Sent) (out′ : List ℕ) : Type 0 where
+pub record Responds (x : Response) (out : List ℕ) (s : Answer) (out′ : List ℕ) : Type 0 where
   pub number : s .number ≡ numberOf x
   pub size : s .length ≡ lengthOf x
   pub written : out′ ≡ writtenOf x out
@@ -48,6 +48,6 @@ pub record GraphSendable (status : ℕ) (r : Read) (es vs p : List ℕ) : Type 0
   pub sendable : (h : Held) → r ≡ read.Graph h → Sendable status h es vs p
 
 -- what is sent responds to the causes, whatever they are, and 11 behind them, with that record
-pub record SendsGraph (status : ℕ) (r : Read) (es vs p out : List ℕ) (s : Sent) (out′ : List ℕ) : Type 0 where
+pub record SendsGraph (status : ℕ) (r : Read) (es vs p out : List ℕ) (s : Answer) (out′ : List ℕ) : Type 0 where
   pub is : (causes : List Cause) (result : List ℕ) → Makes causes status result r es vs p
       → Responds (respond (withOutput causes (length out) result) result) out s out′

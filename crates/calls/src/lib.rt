@@ -1,27 +1,19 @@
-// What the public calls have in common: their result structs, the tally, and what is sent: the number of a refusal, or the record of a graph
-// where it fits.
+// What the public calls have in common: their result structs, and what is sent: the number of a refusal, or the record of a graph where it
+// fits.
 ghost use mathlib.Core.Path.{_≡_};
 ghost use lib.ListN.{length};
 ghost use Rattle.defs.specs.Record.{sequenceGraph, encode};
 ghost use Rattle.memory.specs.Memory.{graphOf};
-ghost use Rattle.calls.specs.Answers.{CountsCall, Tallies, TalliesSimplify, TalliesCleanup};
+ghost use Rattle.calls.specs.Answers.{AnswersSimplify, AnswersCleanup};
 ghost use Rattle.calls.specs.Sending.{fits, Sendable, Responds, GraphSendable, SendsGraph};
 use accept::Read;
 use memory::Held;
 
-// Calls answered, calls refused, rewrites made in the answered calls.
-#[repr(C)]
-pub struct Tally {
-    pub answered: u32,
-    pub refused: u32,
-    pub rewrites: u32,
-}
-
+// What a call sends: 0 and the length of what it wrote, or the number of the refusal and 0. Of calls without more fields it is the answer.
 #[repr(C)]
 pub struct Answer {
     pub number: u32,
     pub length: u32,
-    pub tally: Tally,
 }
 
 #[repr(C)]
@@ -31,7 +23,6 @@ pub struct SimplifyAnswer {
     pub rewrites: u32,
     pub rounds: u32,
     pub end: u32,
-    pub tally: Tally,
 }
 
 #[repr(C)]
@@ -39,49 +30,19 @@ pub struct CleanupAnswer {
     pub number: u32,
     pub length: u32,
     pub status: u32,
-    pub tally: Tally,
 }
 
-// What a call sends: 0 and the length of what it wrote, or the number of the refusal and 0.
-pub struct Sent {
-    pub number: u32,
-    pub length: u32,
+// A cleanup's answer, and the rewrites, which are counted and not answered.
+pub struct CountedCleanup {
+    pub answer: CleanupAnswer,
+    pub rewrites: u32,
 }
 
-// One call more: refused by a number, or, with number 0, answered with so many rewrites.
-fn count_call(number: u32, rewrites: u32, t: Tally) -> Tally
-    ensures { λ r. ⌜ CountsCall number rewrites t r ⌝ }
-{
-    if number != 0 {
-        return Tally {
-            answered: t.answered,
-            refused: edge_data::saturating_add(t.refused, 1),
-            rewrites: t.rewrites,
-        };
-    }
-    Tally {
-        answered: edge_data::saturating_add(t.answered, 1),
-        refused: t.refused,
-        rewrites: edge_data::saturating_add(t.rewrites, rewrites),
-    }
-}
-
-pub fn tally_answer(sent: Sent, t: Tally) -> Answer
-    ensures { λ r. ⌜ Tallies sent t r ⌝ }
-{
-    let tally = count_call(sent.number, 0, t);
-    Answer {
-        number: sent.number,
-        length: sent.length,
-        tally: tally,
-    }
-}
-
-pub fn tally_simplify(sent: Sent, rewrites: u32, rounds: u32, end: u32, t: Tally) -> SimplifyAnswer
-    ensures { λ r. ⌜ TalliesSimplify sent rewrites rounds end t r ⌝ }
+// When refused every field but the number is 0.
+pub fn simplify_answer(sent: Answer, rewrites: u32, rounds: u32, end: u32) -> SimplifyAnswer
+    ensures { λ r. ⌜ AnswersSimplify sent rewrites rounds end r ⌝ }
 {
     let number = sent.number;
-    let tally = count_call(number, rewrites, t);
     if number != 0 {
         return SimplifyAnswer {
             number: number,
@@ -89,7 +50,6 @@ pub fn tally_simplify(sent: Sent, rewrites: u32, rounds: u32, end: u32, t: Tally
             rewrites: 0,
             rounds: 0,
             end: 0,
-            tally: tally,
         };
     }
     SimplifyAnswer {
@@ -98,58 +58,62 @@ pub fn tally_simplify(sent: Sent, rewrites: u32, rounds: u32, end: u32, t: Tally
         rewrites: rewrites,
         rounds: rounds,
         end: end,
-        tally: tally,
     }
 }
 
-pub fn tally_cleanup(sent: Sent, status: u32, rewrites: u32, t: Tally) -> CleanupAnswer
-    ensures { λ r. ⌜ TalliesCleanup sent status rewrites t r ⌝ }
+pub fn cleanup_answer(sent: Answer, status: u32, rewrites: u32) -> CountedCleanup
+    ensures { λ r. ⌜ AnswersCleanup sent status rewrites r ⌝ }
 {
     let number = sent.number;
-    let tally = count_call(number, rewrites, t);
     if number != 0 {
-        return CleanupAnswer {
+        let refused = CleanupAnswer {
             number: number,
             length: 0,
             status: 0,
-            tally: tally,
+        };
+        return CountedCleanup {
+            answer: refused,
+            rewrites: 0,
         };
     }
-    CleanupAnswer {
+    let answer = CleanupAnswer {
         number: 0,
         length: sent.length,
         status: status,
-        tally: tally,
+    };
+    CountedCleanup {
+        answer: answer,
+        rewrites: rewrites,
     }
 }
 
-fn send_record(out: &mut [u8], status: u32, held: Held, es: &[u32], vs: &[u32], p: &[u8]) -> Sent
+fn send_record(out: &mut [u8], status: u32, held: Held, es: &[u32], vs: &[u32], p: &[u8]) -> Answer
     requires { ⌜ Sendable status held (now es) (now vs) (now p) ⌝ }
     ensures { λ r. ⌜ Responds (fits (length (now (out .entry)))
         (encode sequenceGraph status (graphOf held (now (es .entry)) (now (vs .entry)) (now (p .entry))))) (now (out .entry)) r (now (out .exit)) ⌝ }
 {
     let length = write_record::record_length(held, vs);
     if out.len() < length {
-        return Sent {
+        return Answer {
             number: 11,
             length: 0,
         };
     }
     let written = write_record::write_record(out, status, held, es, vs, p);
-    Sent {
+    Answer {
         number: 0,
         length: written as u32,
     }
 }
 
 // What was made of a record: the number of its refusal, or its graph, which the slices hold.
-pub fn send(read: Read, status: u32, out: &mut [u8], es: &[u32], vs: &[u32], p: &[u8]) -> Sent
+pub fn send(read: Read, status: u32, out: &mut [u8], es: &[u32], vs: &[u32], p: &[u8]) -> Answer
     requires { ⌜ GraphSendable status read (now es) (now vs) (now p) ⌝ }
     ensures { λ r. ⌜ SendsGraph status read (now (es .entry)) (now (vs .entry)) (now (p .entry)) (now (out .entry)) r (now (out .exit)) ⌝ }
 {
     let held = match read {
         Read::Graph(held) => held,
-        Read::Refused(number) => return Sent {
+        Read::Refused(number) => return Answer {
             number: number,
             length: 0,
         },

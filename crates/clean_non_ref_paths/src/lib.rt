@@ -2,13 +2,11 @@
 // that are no reference paths. Nothing is asked of the caller.
 ghost use Rattle.clean_non_ref_paths.specs.CleansPaths.{CleansPaths};
 use calls::Answer;
-use calls::Tally;
 use reading_calls::ReadingCall;
 
-pub fn clean_non_ref_paths(rec: &[u8], out: &mut [u8], tally: Tally) -> Answer
-    ensures { λ r. ⌜ CleansPaths (now (rec .entry)) (now (out .entry)) tally r (now (out .exit)) ⌝ }
+pub fn clean_non_ref_paths(rec: &[u8], out: &mut [u8], caller: u32) -> Answer
+    ensures { λ r. ⌜ CleansPaths (now (rec .entry)) (now (out .entry)) caller r (now (out .exit)) ⌝ }
 {
     let none = [0u32; 0];
-    let sent = reading_calls::answer(ReadingCall::CleanNonRefPaths, &none, rec, out);
-    calls::tally_answer(sent, tally)
+    reading_calls::answer(ReadingCall::CleanNonRefPaths, &none, rec, out, caller)
 }

@@ -1,16 +1,16 @@
 -- The promise of from_assembly_graph. Assumes nothing.
 use mathlib.Core.Path.{_≡_, refl, sym, ap, _∙_, subst}
-use mathlib.Core.List.{List}
-use Prim.Native.Nat.{ℕ, _≤_}
+use mathlib.Core.List.{List, _∷_}
+use Prim.Native.Nat.{ℕ, _≤_, _<_}
 use native.Mathlib.Omega.{arith}
 use lib.ListN.{length, take}
 use Rattle.defs.specs.Lists.{allOf}
 use Rattle.defs.specs.SeqGraph.{Graph}
 use Rattle.defs.specs.Calls as D
-use Rattle.defs.specs.Calls.{numberOf, conversionCauses}
+use Rattle.defs.specs.Calls.{callerCause, conversionCauses}
 use Rattle.defs.specs.Calls.{fromAssemblyGraphCauses, fromAssemblyGraphResponse, fromAssemblyGraphAnswer}
 use Rattle.defs.specs.Record.{kindOf, verticesOf, edgesOf, bytesOf, sequenceGraph, encode, decode}
-use Rattle.defs.specs.Refusals.{refusalOf, layoutCauses}
+use Rattle.defs.specs.Refusals.{Cause, refusalOf, layoutCauses}
 use Rattle.defs.specs.Assembly.{edgesSorted, fromAssemblyGraph, SourcesHoldKmers, RunsAreKmers}
 use Rattle.defs.specs.Simplify.{sequenceBytes}
 use Rattle.laws.proofs.Fuel.{Good}
@@ -22,18 +22,17 @@ use Rattle.reread.specs.Recordable.{SequenceInput, KmerInput}
 use Rattle.reread.proofs.Graphs.{input-reaccepted}
 use Rattle.reread.proofs.Read.{Bytes, kmer-input}
 use Rattle.convert.proofs.SortLaws.{of-sort, length-sort, single-sort}
-use Rattle.calls.specs.Answers.{tallyOf, answerOf, Tallies}
-use Rattle.calls.specs.Sending.{withOutput, Responds, GraphSendable, SendsGraph}
-use Rattle.calls.specs.declared.Tally.{Tally}
+use Rattle.calls.specs.Answers.{answerOf}
+use Rattle.calls.specs.Sending.{Responds, GraphSendable, SendsGraph}
 use Rattle.calls.specs.declared.Answer.{Answer}
-use Rattle.calls.specs.declared.Sent.{Sent}
 use Rattle.calls.proofs.ResponseLaws.{answered-holds, room-enough}
+use Rattle.calls.proofs.CallerLaws.{caller-other, caller-none, sends-above, sends-within}
 use Rattle.overlap.proofs.Runs.{order-converted, sources-hold-kmers, runs-are-kmers}
 use Rattle.read_kmers.proofs.KmerLaws.{kmer-bytes-least, kmer-bytes-most}
 use Rattle.from_kmers.specs.Conversion.{RoomToConvert, ConvertedAs}
 use Rattle.accept.specs.declared.Read.{Read}
 use Rattle.from_kmers.proofs.ConversionLaws.{conversion-numbered, none-early, none-late, all-overlap}
-use Rattle.from_assembly_graph.specs.Converts.{Converts, SizedToConvert}
+use Rattle.from_assembly_graph.specs.Converts.{conversionResponse, Converts, SizedToConvert}
 
 -- ---- the converted graph is within the limits of input
 
@@ -87,40 +86,52 @@ module _ {bs : List ℕ} {r : Read} {sorted vs p : List ℕ} (C : ConvertedAs bs
   pub converted-sendable : GraphSendable 0 r sorted vs p
   converted-sendable = record { sendable = C .sendable }
 
-  pub converted-sent : {out out′ : List ℕ} {s : Sent} → SendsGraph 0 r sorted vs p out s out′
-      → Responds (fromAssemblyGraphResponse bs (length out)) out s out′
-  unfolding fromAssemblyGraphResponse fromAssemblyGraphCauses
+  pub converted-sent : {out out′ : List ℕ} {s : Answer} → SendsGraph 0 r sorted vs p out s out′
+      → Responds (conversionResponse bs (length out)) out s out′
   converted-sent S = S .is (conversionCauses bs) (D.convertedRecord bs)
       record { numbered = conversion-numbered bs; number = C .number; is = λ h ok. ap (encode sequenceGraph 0) (C .is h ok); refused = C .refused }
 
 -- ---- the whole call
 
-module _ (bs : List ℕ) {out : List ℕ} {t : Tally} {s : Sent} {a : Answer} {out′ : List ℕ} (small : Bytes bs)
-    (S : Responds (fromAssemblyGraphResponse bs (length out)) out s out′) (T : Tallies s t a) where
-  answer-is : answerOf a ≡ fromAssemblyGraphAnswer bs (length out) (tallyOf t)
-  unfolding fromAssemblyGraphAnswer fromAssemblyGraphResponse fromAssemblyGraphCauses
-  answer-is = T .is (withOutput (conversionCauses bs) (length out) (D.convertedRecord bs)) (D.convertedRecord bs) (S .number) (S .size)
+module _ (bs : List ℕ) {out : List ℕ} {caller : ℕ} {a : Answer} {out′ : List ℕ} (small : Bytes bs) where
+  abbrev causes : List Cause
+  causes = callerCause caller ∷ conversionCauses bs
 
-  pub converts : Converts bs out t a out′
+  abbrev result : List ℕ
+  result = D.convertedRecord bs
+
+  converts : Responds (fromAssemblyGraphResponse bs (length out) caller) out a out′ → Converts bs out caller a out′
   unfolding fromAssemblyGraphAnswer fromAssemblyGraphResponse fromAssemblyGraphCauses D.answer
-  converts = record {
-    answer = answer-is;
+  converts S = record {
+    answer = λ i. record { number = S .number i; length = S .size i };
     written = S .written;
-    room = λ l i. room-enough (conversionCauses bs) out (D.convertedRecord bs) 49184 (never-11 bs) (λ ok. (again ok) .size) l (sym number-is ∙ i);
+    room = λ l i.
+        room-enough causes out result 49184 (λ e. never-11 bs (caller-other caller (conversionCauses bs) (λ z. omega (arith, z)) e))
+        (λ ok. again ok .size) l (sym (S .number) ∙ i);
     reaccepted = holds (ReacceptedAs (fromAssemblyGraph (decode bs))) again;
     sources = holds (λ rec. SourcesHoldKmers (decode bs) (decode rec)) (λ ok.
         subst (SourcesHoldKmers (decode bs)) (sym (again ok .graph)) (sources-hold-kmers (decode bs)));
-    runs = holds (λ rec. RunsAreKmers (decode bs) (decode rec)) (λ ok. subst (RunsAreKmers (decode bs)) (sym (again ok .graph)) (convert-runs bs small ok));
+    runs = holds (λ rec. RunsAreKmers (decode bs) (decode rec)) (λ ok.
+        subst (RunsAreKmers (decode bs)) (sym (again ok .graph)) (convert-runs bs small (none-of ok)));
   }
     where
-      number-is : a .number ≡ numberOf (fromAssemblyGraphResponse bs (length out))
-      number-is = ap (λ (x : D.Answer). x .number) answer-is
+      none-of : refusalOf causes ≡ 0 → refusalOf (conversionCauses bs) ≡ 0
+      none-of = caller-none caller (conversionCauses bs)
 
-      again : refusalOf (conversionCauses bs) ≡ 0 → ReacceptedAs (fromAssemblyGraph (decode bs)) (D.convertedRecord bs)
-      again = convert-reaccepted bs small
+      again : refusalOf causes ≡ 0 → ReacceptedAs (fromAssemblyGraph (decode bs)) result
+      again ok = convert-reaccepted bs small (none-of ok)
 
-      holds : (P : List ℕ → Type 0) → (refusalOf (conversionCauses bs) ≡ 0 → P (D.convertedRecord bs)) → a .number ≡ 0 → P (take (a .length) out′)
-      holds P f = answered-holds (conversionCauses bs) out (D.convertedRecord bs) P f number-is (ap (λ (x : D.Answer). x .length) answer-is) (S .written)
+      holds : (P : List ℕ → Type 0) → (refusalOf causes ≡ 0 → P result) → a .number ≡ 0 → P (take (a .length) out′)
+      holds P f = answered-holds causes out result P f (S .number) (S .size) (S .written)
+
+module _ (bs : List ℕ) {out : List ℕ} {caller : ℕ} (small : Bytes bs) where
+  pub converts-refused : 15 < caller → Converts bs out caller record { number = 18; length = 0 } out
+  unfolding fromAssemblyGraphResponse fromAssemblyGraphCauses
+  converts-refused l = converts bs small (sends-above _ _ l)
+
+  pub converts-sent : {a : Answer} {out′ : List ℕ} → caller ≤ 15 → Responds (conversionResponse bs (length out)) out a out′ → Converts bs out caller a out′
+  unfolding fromAssemblyGraphResponse fromAssemblyGraphCauses
+  converts-sent l S = converts bs small (sends-within _ _ l S)
 
 -- ---- room
 

@@ -5,23 +5,27 @@ use Prim.Native.Nat.{ℕ, _*_, _≤_}
 use lib.ListN.{length, take}
 use Rattle.defs.specs.Record.{decode}
 use Rattle.defs.specs.Assembly.{fromAssemblyGraph, SourcesHoldKmers, RunsAreKmers}
-use Rattle.defs.specs.Calls.{writtenOf, fromAssemblyGraphResponse, fromAssemblyGraphAnswer}
+use Rattle.defs.specs.Calls.{Response, writtenOf, respond, conversionCauses, convertedRecord, fromAssemblyGraphResponse, fromAssemblyGraphAnswer}
 use Rattle.reread.specs.Reread.{ReacceptedAs}
-use Rattle.calls.specs.Answers.{tallyOf, answerOf}
-use Rattle.calls.specs.declared.Tally.{Tally}
+use Rattle.calls.specs.Answers.{answerOf}
+use Rattle.calls.specs.Sending.{withOutput}
 use Rattle.calls.specs.declared.Answer.{Answer}
 
--- For any bytes bs and any lent output: the answer and the output at exit are the definition's. 49,184 bytes of output are room
+-- For any bytes bs, any lent output and any caller: the answer and the output at exit are the definition's. 49,184 bytes of output are room
 -- enough; the record written is read back as the converted graph and keeps the limits of input; handed in again, it is accepted. In the graph
 -- written a source holds the whole k-mer of the record handed in, every other vertex its last byte; and each run of k bytes of every string that
 -- it spells from end to end is one of that record's k-mers.
-pub record Converts (bs out : List ℕ) (t : Tally) (r : Answer) (out′ : List ℕ) : Type 0 where
-  pub answer : answerOf r ≡ fromAssemblyGraphAnswer bs (length out) (tallyOf t)
-  pub written : out′ ≡ writtenOf (fromAssemblyGraphResponse bs (length out)) out
+pub record Converts (bs out : List ℕ) (caller : ℕ) (r : Answer) (out′ : List ℕ) : Type 0 where
+  pub answer : answerOf r ≡ fromAssemblyGraphAnswer bs (length out) caller
+  pub written : out′ ≡ writtenOf (fromAssemblyGraphResponse bs (length out) caller) out
   pub room : 49184 ≤ length out → r .number ≡ 11 → ⊥
   pub reaccepted : r .number ≡ 0 → ReacceptedAs (fromAssemblyGraph (decode bs)) (take (r .length) out′)
   pub sources : r .number ≡ 0 → SourcesHoldKmers (decode bs) (decode (take (r .length) out′))
   pub runs : r .number ≡ 0 → RunsAreKmers (decode bs) (decode (take (r .length) out′))
+
+-- the response by the causes but for 18
+abbrev pub conversionResponse : List ℕ → ℕ → Response
+conversionResponse bs room = respond (withOutput (conversionCauses bs) room (convertedRecord bs)) (convertedRecord bs)
 
 -- the lengths of arrays for v vertices, e edges, once in the record's order and once sorted, and b bytes of k-mers; o numbers of vertices, then
 -- of edges, stand in an array

@@ -1,16 +1,14 @@
 // The public call `from_assembly_graph`: a k-mer record's graph as a sequence graph's record. Nothing is asked of the caller.
 ghost use Prim.Native.Nat.{_≤_};
 ghost use lib.ListN.{length};
-ghost use Rattle.defs.specs.Calls.{fromAssemblyGraphResponse};
 ghost use Rattle.calls.specs.Sending.{Responds};
 ghost use Rattle.from_kmers.specs.Conversion.{RoomToConvert};
-ghost use Rattle.from_assembly_graph.specs.Converts.{Converts};
+ghost use Rattle.from_assembly_graph.specs.Converts.{conversionResponse, Converts};
 use calls::Answer;
-use calls::Sent;
-use calls::Tally;
 use record::MOST_EDGES;
 use record::MOST_KMER_BYTES;
 use record::MOST_VERTICES;
+use tallies::LAST_CALLER;
 
 // For a record of at most 4,096 bytes, of which 32 are its head, nine stand for each edge, and two for each vertex beside its k-mer, which has
 // at least two: a tenth of the room, and so less time to clear it.
@@ -34,9 +32,9 @@ fn convert_in(
     scratch: &mut [u32],
     place: &mut [u32],
     sorted: &mut [u32],
-) -> Sent
+) -> Answer
     requires { ⌜ RoomToConvert (now rec) (now es) (now vs) (now p) (now heads) (now nexts) (now order) (now scratch) (now place) (now sorted) ⌝ }
-    ensures { λ r. ⌜ Responds (fromAssemblyGraphResponse (now (rec .entry)) (length (now (out .entry)))) (now (out .entry)) r (now (out .exit)) ⌝ }
+    ensures { λ r. ⌜ Responds (conversionResponse (now (rec .entry)) (length (now (out .entry)))) (now (out .entry)) r (now (out .exit)) ⌝ }
 {
     let read = from_kmers::read_and_convert(
         rec,
@@ -66,8 +64,8 @@ fn large_with(
     scratch: &mut [u32; MOST_EDGES],
     place: &mut [u32; MOST_VERTICES],
     sorted: &mut [u32; 4 * MOST_EDGES],
-) -> Sent
-    ensures { λ r. ⌜ Responds (fromAssemblyGraphResponse (now (rec .entry)) (length (now (out .entry)))) (now (out .entry)) r (now (out .exit)) ⌝ }
+) -> Answer
+    ensures { λ r. ⌜ Responds (conversionResponse (now (rec .entry)) (length (now (out .entry)))) (now (out .entry)) r (now (out .exit)) ⌝ }
 {
     convert_in(
         rec,
@@ -84,8 +82,8 @@ fn large_with(
     )
 }
 
-fn large(rec: &[u8], out: &mut [u8]) -> Sent
-    ensures { λ r. ⌜ Responds (fromAssemblyGraphResponse (now (rec .entry)) (length (now (out .entry)))) (now (out .entry)) r (now (out .exit)) ⌝ }
+fn large(rec: &[u8], out: &mut [u8]) -> Answer
+    ensures { λ r. ⌜ Responds (conversionResponse (now (rec .entry)) (length (now (out .entry)))) (now (out .entry)) r (now (out .exit)) ⌝ }
 {
     let mut es = [0u32; 4 * MOST_EDGES];
     let mut vs = [0u32; 2 * MOST_VERTICES];
@@ -123,9 +121,9 @@ fn small_with(
     scratch: &mut [u32; SMALL_VERTICES],
     place: &mut [u32; SMALL_VERTICES],
     sorted: &mut [u32; 4 * SMALL_EDGES],
-) -> Sent
+) -> Answer
     requires { ⌜ length (now rec) ≤ 4096 ⌝ }
-    ensures { λ r. ⌜ Responds (fromAssemblyGraphResponse (now (rec .entry)) (length (now (out .entry)))) (now (out .entry)) r (now (out .exit)) ⌝ }
+    ensures { λ r. ⌜ Responds (conversionResponse (now (rec .entry)) (length (now (out .entry)))) (now (out .entry)) r (now (out .exit)) ⌝ }
 {
     convert_in(
         rec,
@@ -142,9 +140,9 @@ fn small_with(
     )
 }
 
-fn small(rec: &[u8], out: &mut [u8]) -> Sent
+fn small(rec: &[u8], out: &mut [u8]) -> Answer
     requires { ⌜ length (now rec) ≤ 4096 ⌝ }
-    ensures { λ r. ⌜ Responds (fromAssemblyGraphResponse (now (rec .entry)) (length (now (out .entry)))) (now (out .entry)) r (now (out .exit)) ⌝ }
+    ensures { λ r. ⌜ Responds (conversionResponse (now (rec .entry)) (length (now (out .entry)))) (now (out .entry)) r (now (out .exit)) ⌝ }
 {
     let mut es = [0u32; 4 * SMALL_EDGES];
     let mut vs = [0u32; 2 * SMALL_VERTICES];
@@ -170,8 +168,8 @@ fn small(rec: &[u8], out: &mut [u8]) -> Sent
     )
 }
 
-fn convert(rec: &[u8], out: &mut [u8]) -> Sent
-    ensures { λ r. ⌜ Responds (fromAssemblyGraphResponse (now (rec .entry)) (length (now (out .entry)))) (now (out .entry)) r (now (out .exit)) ⌝ }
+fn convert(rec: &[u8], out: &mut [u8]) -> Answer
+    ensures { λ r. ⌜ Responds (conversionResponse (now (rec .entry)) (length (now (out .entry)))) (now (out .entry)) r (now (out .exit)) ⌝ }
 {
     if rec.len() <= SMALL_RECORD {
         return small(rec, out);
@@ -179,9 +177,15 @@ fn convert(rec: &[u8], out: &mut [u8]) -> Sent
     large(rec, out)
 }
 
-pub fn from_assembly_graph(rec: &[u8], out: &mut [u8], tally: Tally) -> Answer
-    ensures { λ r. ⌜ Converts (now (rec .entry)) (now (out .entry)) tally r (now (out .exit)) ⌝ }
+// A caller above 15 is refused before the record is looked at.
+pub fn from_assembly_graph(rec: &[u8], out: &mut [u8], caller: u32) -> Answer
+    ensures { λ r. ⌜ Converts (now (rec .entry)) (now (out .entry)) caller r (now (out .exit)) ⌝ }
 {
-    let sent = convert(rec, out);
-    calls::tally_answer(sent, tally)
+    if LAST_CALLER < caller {
+        return Answer {
+            number: 18,
+            length: 0,
+        };
+    }
+    convert(rec, out)
 }

@@ -11,10 +11,8 @@ use Rattle.defs.specs.SeqGraph.{Graph}
 use Rattle.defs.specs.Simplify.{sequenceBytes}
 use Rattle.defs.specs.Paths.{isPathOf, pathBasesBytes, referencePathBytes}
 use Rattle.defs.specs.Record.{decode}
-use Rattle.defs.specs.Refusals.{Cause, sequenceOnly, layoutCauses, recordCauses, recordRefusal}
-use Rattle.defs.specs.Calls.{Response, refused, respond, isNothing, bytesOrNone}
-use Rattle.defs.specs.Calls.{referenceCause, referencePathBytesCauses, referencePathBytesResponse}
-use Rattle.defs.specs.Calls.{pathCause, pathBasesBytesCauses, pathBasesBytesResponse}
+use Rattle.defs.specs.Refusals.{Cause, sequenceOnly, recordCauses, recordRefusal}
+use Rattle.defs.specs.Calls.{Response, refused, isNothing, bytesOrNone, referenceCause, referenceBytes, pathCause, pathBytes}
 use Rattle.laws.proofs.Walks.{byTest}
 use Rattle.laws.proofs.ListLaws.{given-some, byOrder, given-yes}
 use Rattle.laws.proofs.Whole.{no-some}
@@ -24,12 +22,12 @@ use Rattle.spell.specs.Spell.{Told}
 use Rattle.spell.specs.declared.OptionBytes.{OptionBytes}
 use Rattle.spell.specs.declared.OptionBytes.the-variants.{Some, None}
 use Rattle.spell.proofs.SpellLaws.{none-told, some-told}
-use Rattle.calls.specs.Sending.{withOutput, fits, Responds}
-use Rattle.calls.specs.declared.Sent.{Sent}
+use Rattle.calls.specs.Sending.{fits, Responds}
+use Rattle.calls.specs.declared.Answer.{Answer}
 use Rattle.calls.proofs.CauseLaws.{behind-numbered, behind-refused, behind-present, behind-absent}
 use Rattle.calls.proofs.SendLaws.{responds-refused, responds-accepted}
 use Rattle.calls.proofs.ResponseLaws.{fits-short, fits-enough, respond-refused, respond-fits}
-use Rattle.reading_calls.specs.Reading.{pathResponse, Tells, Tellable, GraphAnswered}
+use Rattle.reading_calls.specs.Reading.{referenceResponse, pathResponse, Tells, Tellable, GraphAnswered}
 use Rattle.reading_calls.proofs.LengthLaws.{path-most, reference-most}
 
 -- ---- what is sent, by what is told
@@ -41,7 +39,7 @@ byBytes None f g = g refl
 some-or-none : {A : Type 0} {b : OptionBytes} {n : ℕ} → b ≡ None → b ≡ Some n → A
 some-or-none p q = absurd (let z : _≡_ {A = ℕ} 0 1 = cc in omega arith)
 
-module _ {b : OptionBytes} {room missing : ℕ} {s : Sent} where
+module _ {b : OptionBytes} {room missing : ℕ} {s : Answer} where
   pub tell-none : b ≡ None → s ≡ record { number = missing; length = 0 } → Tells b room missing s
   tell-none f q = record { none = λ _. q; short = λ n e. some-or-none f e; whole = λ n e. some-or-none f e }
 
@@ -62,7 +60,7 @@ module _ {b : OptionBytes} {room missing : ℕ} {s : Sent} where
 -- a call that tells o, or the number n where there is none
 module _ {o : Option (List ℕ)} {out out′ : List ℕ} {b : OptionBytes} (T : Told o out b out′) {x : Response} {n : ℕ} (none-is : o ≡ none → x
     ≡ refused n) (some-is : (r : List ℕ) → o ≡ some r → x ≡ fits (length out) r)
-    {s : Sent} (e : length out′ ≡ length out) (A : Tells b (length out′) n s) where
+    {s : Answer} (e : length out′ ≡ length out) (A : Tells b (length out′) n s) where
   whole : (k : ℕ) → b ≡ Some k → Responds x out s out′
   whole k f = let y = some-told T f in byOrder k (length out′)
       (λ l. responds-accepted (y .0) (some-is (y .0) (y .1) ∙ fits-enough (length out) (y .0) (omega (arith, e, y .2 .size))) (y .2 .size)
@@ -76,58 +74,50 @@ module _ {o : Option (List ℕ)} {out out′ : List ℕ} {b : OptionBytes} (T : 
 -- ---- the responses
 
 module _ (bs : List ℕ) (room : ℕ) where
-  abbrev referenceResult : List ℕ
-  referenceResult = bytesOrNone (referencePathBytes (decode bs))
-
   -- 1 to 7, 10
   abbrev referenceCauses : List Cause
   referenceCauses = recordCauses sequenceOnly bs ++ (referenceCause bs ∷ [])
 
-  reference-is : referencePathBytesResponse bs room ≡ respond (withOutput referenceCauses room referenceResult) referenceResult
-  unfolding referencePathBytesResponse referencePathBytesCauses recordCauses layoutCauses
-  reference-is = refl
-
-  pub reference-refused : {n : ℕ} → recordRefusal sequenceOnly bs ≡ n → (n ≡ 0 → ⊥) → referencePathBytesResponse bs room ≡ refused n
-  reference-refused {n} e o = reference-is ∙ respond-refused referenceCauses room referenceResult n (behind-refused sequenceOnly bs 10 _ e o) o
+  pub reference-refused : {n : ℕ} → recordRefusal sequenceOnly bs ≡ n → (n ≡ 0 → ⊥) → referenceResponse bs room ≡ refused n
+  unfolding referenceResponse
+  reference-refused {n} e o = respond-refused referenceCauses room (referenceBytes bs) n (behind-refused sequenceOnly bs 10 _ e o) o
 
   module _ (z : recordRefusal sequenceOnly bs ≡ 0) where
-    pub reference-none : referencePathBytes (decode bs) ≡ none → referencePathBytesResponse bs room ≡ refused 10
-    unfolding isNothing
-    reference-none e = reference-is
-        ∙ respond-refused referenceCauses room referenceResult 10 (behind-present sequenceOnly bs 10 _ z (ap isNothing e)) (λ q. omega arith)
+    pub reference-none : referencePathBytes (decode bs) ≡ none → referenceResponse bs room ≡ refused 10
+    unfolding referenceResponse isNothing
+    reference-none e = respond-refused referenceCauses room (referenceBytes bs) 10 (behind-present sequenceOnly bs 10 _ z (ap isNothing e)) (λ q. omega arith)
 
-    pub reference-some : (s : List ℕ) → referencePathBytes (decode bs) ≡ some s → referencePathBytesResponse bs room ≡ fits room s
-    unfolding isNothing bytesOrNone
-    reference-some s e = reference-is
-        ∙ respond-fits referenceCauses room referenceResult (behind-numbered sequenceOnly bs 10 _ (omega arith)) (behind-absent sequenceOnly bs 10 _ z (ap isNothing e))
+    pub reference-some : (s : List ℕ) → referencePathBytes (decode bs) ≡ some s → referenceResponse bs room ≡ fits room s
+    unfolding referenceResponse isNothing bytesOrNone
+    reference-some s e =
+        respond-fits referenceCauses room (referenceBytes bs) (behind-numbered sequenceOnly bs 10 _ (omega arith))
+        (behind-absent sequenceOnly bs 10 _ z (ap isNothing e))
         ∙ ap (λ (p : Option (List ℕ)). fits room (bytesOrNone p)) e
 
 module _ (bs : List ℕ) (start : ℕ) (list : List ℕ) (room : ℕ) where
   abbrev told : Option (List ℕ)
-  told = given (isPathOf (decode bs) start list) (pathBasesBytes (decode bs) start list)
+  told = given (isPathOf (decode bs) start list) (pathBytes bs start list)
 
   -- 1 to 7, 9
   abbrev pathCauses : List Cause
   pathCauses = recordCauses sequenceOnly bs ++ (pathCause bs start list ∷ [])
 
-  path-is : pathBasesBytesResponse bs start list room
-      ≡ respond (withOutput pathCauses room (pathBasesBytes (decode bs) start list)) (pathBasesBytes (decode bs) start list)
-  unfolding pathBasesBytesResponse pathBasesBytesCauses recordCauses layoutCauses
-  path-is = refl
-
-  pub path-refused : {n : ℕ} → recordRefusal sequenceOnly bs ≡ n → (n ≡ 0 → ⊥) → pathBasesBytesResponse bs start list room ≡ refused n
-  path-refused {n} e o = path-is ∙ respond-refused pathCauses room _ n (behind-refused sequenceOnly bs 9 _ e o) o
+  pub path-refused : {n : ℕ} → recordRefusal sequenceOnly bs ≡ n → (n ≡ 0 → ⊥) → pathResponse start list bs room ≡ refused n
+  unfolding pathResponse
+  path-refused {n} e o = respond-refused pathCauses room _ n (behind-refused sequenceOnly bs 9 _ e o) o
 
   module _ (z : recordRefusal sequenceOnly bs ≡ 0) where
-    pub path-none : told ≡ none → pathBasesBytesResponse bs start list room ≡ refused 9
+    pub path-none : told ≡ none → pathResponse start list bs room ≡ refused 9
+    unfolding pathResponse
     path-none e = byTest (isPathOf (decode bs) start list)
-        (λ t. no-some e (given-yes _ (pathBasesBytes (decode bs) start list) t))
-        (λ t. path-is ∙ respond-refused pathCauses room _ 9 (behind-present sequenceOnly bs 9 _ z (ap not t)) (λ q. omega arith))
+        (λ t. no-some e (given-yes _ (pathBytes bs start list) t))
+        (λ t. respond-refused pathCauses room _ 9 (behind-present sequenceOnly bs 9 _ z (ap not t)) (λ q. omega arith))
 
-    pub path-some : (s : List ℕ) → told ≡ some s → pathBasesBytesResponse bs start list room ≡ fits room s
+    pub path-some : (s : List ℕ) → told ≡ some s → pathResponse start list bs room ≡ fits room s
+    unfolding pathResponse
     path-some s e =
-        let y = given-some (isPathOf (decode bs) start list) (pathBasesBytes (decode bs) start list) s e in
-        path-is ∙ respond-fits pathCauses room _ (behind-numbered sequenceOnly bs 9 _ (omega arith)) (behind-absent sequenceOnly bs 9 _ z (ap not (y .0)))
+        let y = given-some (isPathOf (decode bs) start list) (pathBytes bs start list) s e in
+        respond-fits pathCauses room _ (behind-numbered sequenceOnly bs 9 _ (omega arith)) (behind-absent sequenceOnly bs 9 _ z (ap not (y .0)))
         ∙ ap (fits room) (y .1)
 
 -- ---- the two calls
@@ -151,17 +141,16 @@ module _ {h : Held} {es vs p : List ℕ} where
         most (λ s e. let y = given-some (isPathOf g start list) (pathBasesBytes g start list) s e in
         omega (arith, ap length (y .1), path-most g (Q .spellable .sound) start list (y .0))) T
 
-  pub reference-answered : {out out′ : List ℕ} {b : OptionBytes} {s : Sent} → Told (referencePathBytes (graphOf h es vs p)) out b out′
-      → length out′ ≡ length out → Tells b (length out′) 10 s → GraphAnswered referencePathBytesResponse h es vs p out s out′
+  pub reference-answered : {out out′ : List ℕ} {b : OptionBytes} {s : Answer} → Told (referencePathBytes (graphOf h es vs p)) out b out′
+      → length out′ ≡ length out → Tells b (length out′) 10 s → GraphAnswered referenceResponse h es vs p out s out′
   reference-answered {out} {out′} {b} T l S = record {
     is = λ bs z e. tells (subst (λ (g : Graph). Told (referencePathBytes g) out b out′) e T) (reference-none bs (length out) z)
         (reference-some bs (length out) z) l S;
   }
 
-  pub path-answered : (start : ℕ) (list : List ℕ) {out out′ : List ℕ} {b : OptionBytes} {s : Sent}
+  pub path-answered : (start : ℕ) (list : List ℕ) {out out′ : List ℕ} {b : OptionBytes} {s : Answer}
       → Told (given (isPathOf (graphOf h es vs p) start list) (pathBasesBytes (graphOf h es vs p) start list)) out b out′
       → length out′ ≡ length out → Tells b (length out′) 9 s → GraphAnswered (pathResponse start list) h es vs p out s out′
-  unfolding pathResponse
   path-answered start list {out} {out′} {b} T l S = record {
     is = λ bs z e. tells (subst (λ (g : Graph). Told (given (isPathOf g start list) (pathBasesBytes g start list)) out b out′) e T)
         (path-none bs start list (length out) z) (path-some bs start list (length out) z) l S;

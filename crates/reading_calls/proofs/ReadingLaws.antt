@@ -1,13 +1,14 @@
 -- Reading, then what the call does with the graph. Assumes nothing.
 use mathlib.Core.Path.{_≡_, refl, sym, ap, _∙_, subst}
 use mathlib.Core.List.{List}
-use Prim.Native.Nat.{ℕ}
+use Prim.Native.Nat.{ℕ, _≤_, _<_}
 use native.Mathlib.Omega.{arith}
 use lib.ListN.{length}
 use Rattle.defs.specs.Cleanup.{cleanNonRefPaths}
 use Rattle.defs.specs.Record.{sequenceGraph, encode, decode}
-use Rattle.defs.specs.Refusals.{sequenceOnly, recordCauses, recordRefusal}
-use Rattle.defs.specs.Calls.{refused, cleanNonRefPathsCauses, cleanNonRefPathsResponse, referencePathBytesResponse}
+use Rattle.defs.specs.Refusals.{sequenceOnly, layoutCauses, recordCauses, recordRefusal}
+use Rattle.defs.specs.Calls.{refused, cleanNonRefPathsCauses, cleanNonRefPathsResponse}
+use Rattle.defs.specs.Calls.{referencePathBytesCauses, referencePathBytesResponse, pathBasesBytesCauses, pathBasesBytesResponse}
 use Rattle.compact.specs.Compact.{Compactable}
 use Rattle.index.specs.Index.{Indexable}
 use Rattle.memory.specs.Memory.{graphOf, Holds}
@@ -25,11 +26,13 @@ use Rattle.cleanup_room.proofs.ReadLean.{read-lean}
 use Rattle.cleanup_room.proofs.CleanLean.{clean-lean}
 use Rattle.arrays.specs.Sized.{LentMarks}
 use Rattle.calls.specs.Sending.{Sendable, Responds, GraphSendable, SendsGraph}
-use Rattle.calls.specs.declared.Sent.{Sent}
-use Rattle.calls.proofs.SendLaws.{held-sendable, responds-refused}
+use Rattle.calls.specs.declared.Answer.{Answer}
+use Rattle.calls.proofs.SendLaws.{held-sendable, responds-refused, responds-as}
 use Rattle.calls.proofs.ResponseLaws.{respond-refused}
 use Rattle.calls.proofs.CauseLaws.{record-numbered}
-use Rattle.reading_calls.specs.Reading.{readingResponse, pathResponse, Answerable, Tellable, GraphAnswered, ReadAnswerable, ReadAnswered}
+use Rattle.calls.proofs.CallerLaws.{respond-above, respond-within}
+use Rattle.reading_calls.specs.Reading.{cleaningResponse, referenceResponse, pathResponse, readingResponse, readingResponseTo}
+use Rattle.reading_calls.specs.Reading.{Answerable, Tellable, GraphAnswered, ReadAnswerable, ReadAnswered}
 use Rattle.reading_calls.specs.declared.ReadingCall.{ReadingCall}
 use Rattle.reading_calls.specs.declared.ReadingCall.the-variants.{CleanNonRefPaths, ReferencePathBytes, PathBasesBytes}
 use Rattle.reading_calls.proofs.BytesLaws.{reference-refused, path-refused}
@@ -75,9 +78,9 @@ module _ {h : Held} {es vs p heads nexts nodes mp tried : List ℕ} (Q : Answera
       held : Holds c es′ vs′ p heads nexts
       held = lean-holds (reduced-lean R (Q .holds) (clean-lean (graphOf h es vs p) (Q .holds .lean)))
 
-pub cleaned-answered : {h : Held} {es vs p : List ℕ} {c : Held} {es′ vs′ out out′ : List ℕ} {s : Sent} → Reduced cleanNonRefPaths h es vs c es′ vs′
-    → SendsGraph 0 (read.Graph c) es′ vs′ p out s out′ → GraphAnswered cleanNonRefPathsResponse h es vs p out s out′
-unfolding cleanNonRefPathsResponse cleanNonRefPathsCauses recordRefusal
+pub cleaned-answered : {h : Held} {es vs p : List ℕ} {c : Held} {es′ vs′ out out′ : List ℕ} {s : Answer} → Reduced cleanNonRefPaths h es vs c es′ vs′
+    → SendsGraph 0 (read.Graph c) es′ vs′ p out s out′ → GraphAnswered cleaningResponse h es vs p out s out′
+unfolding cleaningResponse recordRefusal
 cleaned-answered {p = p} {es′ = es′} {vs′ = vs′} R S = record {
   is = λ bs z e. S .is (recordCauses sequenceOnly bs) (encode sequenceGraph 0 (cleanNonRefPaths (decode bs))) record {
     numbered = record-numbered sequenceOnly bs;
@@ -89,13 +92,13 @@ cleaned-answered {p = p} {es′ = es′} {vs′ = vs′} R S = record {
 }
 
 -- a record that is refused is refused by every call
-clean-refused : (bs : List ℕ) (room : ℕ) {n : ℕ} → recordRefusal sequenceOnly bs ≡ n → (n ≡ 0 → ⊥) → cleanNonRefPathsResponse bs room ≡ refused n
-unfolding cleanNonRefPathsResponse cleanNonRefPathsCauses recordRefusal
+clean-refused : (bs : List ℕ) (room : ℕ) {n : ℕ} → recordRefusal sequenceOnly bs ≡ n → (n ≡ 0 → ⊥) → cleaningResponse bs room ≡ refused n
+unfolding cleaningResponse recordRefusal
 clean-refused bs room {n} e o = respond-refused (recordCauses sequenceOnly bs) room _ n e o
 
 call-refused : (call : ReadingCall) (list bs : List ℕ) (room : ℕ) {n : ℕ} → recordRefusal sequenceOnly bs ≡ n → (n ≡ 0 → ⊥)
     → readingResponse call list bs room ≡ refused n
-unfolding readingResponse pathResponse
+unfolding readingResponse
 call-refused CleanNonRefPaths list bs room e o = clean-refused bs room e o
 call-refused ReferencePathBytes list bs room e o = reference-refused bs room e o
 call-refused (PathBasesBytes start) list bs room e o = path-refused bs start list room e o
@@ -107,7 +110,7 @@ module _ (call : ReadingCall) (list : List ℕ) {x : Read} {es vs p out : List �
     is = λ bs heads nexts A. responds-refused (call-refused call list bs (length out) (read-number A f) (A .refused n f)) refl refl;
   }
 
-  module _ {h : Held} (ok : x ≡ read.Graph h) {s : Sent} {out′ : List ℕ} where
+  module _ {h : Held} (ok : x ≡ read.Graph h) {s : Answer} {out′ : List ℕ} where
     by-call : {which : ReadingCall} → call ≡ which → GraphAnswered (readingResponse which list) h es vs p out s out′
         → ReadAnswered (readingResponse call list) x es vs p out s out′
     by-call w G = record {
@@ -115,12 +118,12 @@ module _ (call : ReadingCall) (list : List ℕ) {x : Read} {es vs p out : List �
           (G .is bs (read-none A ok) (A .is h ok));
     }
 
-    pub answer-cleaned : call ≡ CleanNonRefPaths → GraphAnswered cleanNonRefPathsResponse h es vs p out s out′
+    pub answer-cleaned : call ≡ CleanNonRefPaths → GraphAnswered cleaningResponse h es vs p out s out′
         → ReadAnswered (readingResponse call list) x es vs p out s out′
     unfolding readingResponse
     answer-cleaned w G = by-call w G
 
-    pub answer-reference : call ≡ ReferencePathBytes → GraphAnswered referencePathBytesResponse h es vs p out s out′
+    pub answer-reference : call ≡ ReferencePathBytes → GraphAnswered referenceResponse h es vs p out s out′
         → ReadAnswered (readingResponse call list) x es vs p out s out′
     unfolding readingResponse
     answer-reference w G = by-call w G
@@ -129,3 +132,35 @@ module _ (call : ReadingCall) (list : List ℕ) {x : Read} {es vs p out : List �
         → ReadAnswered (readingResponse call list) x es vs p out s out′
     unfolding readingResponse
     answer-path w G = by-call w G
+
+-- ---- a caller
+
+reference-within : (bs : List ℕ) (room caller : ℕ) → caller ≤ 15 → referencePathBytesResponse bs room caller ≡ referenceResponse bs room
+unfolding referencePathBytesResponse referencePathBytesCauses referenceResponse recordCauses layoutCauses
+reference-within bs room caller l = respond-within caller _ _ l
+
+path-within : (bs : List ℕ) (start : ℕ) (list : List ℕ) (room caller : ℕ) → caller ≤ 15
+    → pathBasesBytesResponse bs start list room caller ≡ pathResponse start list bs room
+unfolding pathBasesBytesResponse pathBasesBytesCauses pathResponse recordCauses layoutCauses
+path-within bs start list room caller l = respond-within caller _ _ l
+
+pub response-above : (call : ReadingCall) (list bs : List ℕ) (room caller : ℕ) → 15 < caller → readingResponseTo call list bs room caller ≡ refused 18
+unfolding readingResponseTo cleanNonRefPathsResponse cleanNonRefPathsCauses referencePathBytesResponse referencePathBytesCauses pathBasesBytesResponse pathBasesBytesCauses
+response-above CleanNonRefPaths list bs room caller l = respond-above caller _ _ l
+response-above ReferencePathBytes list bs room caller l = respond-above caller _ _ l
+response-above (PathBasesBytes start) list bs room caller l = respond-above caller _ _ l
+
+pub response-within : (call : ReadingCall) (list bs : List ℕ) (room caller : ℕ) → caller ≤ 15
+    → readingResponseTo call list bs room caller ≡ readingResponse call list bs room
+unfolding readingResponseTo readingResponse cleanNonRefPathsResponse cleanNonRefPathsCauses cleaningResponse
+response-within CleanNonRefPaths list bs room caller l = respond-within caller _ _ l
+response-within ReferencePathBytes list bs room caller l = reference-within bs room caller l
+response-within (PathBasesBytes start) list bs room caller l = path-within bs start list room caller l
+
+module _ (call : ReadingCall) (list bs : List ℕ) {out : List ℕ} {caller : ℕ} where
+  pub caller-refused : 15 < caller → Responds (readingResponseTo call list bs (length out) caller) out record { number = 18; length = 0 } out
+  caller-refused l = responds-refused (response-above call list bs (length out) caller l) refl refl
+
+  pub caller-answered : {s : Answer} {out′ : List ℕ} → caller ≤ 15 → Responds (readingResponse call list bs (length out)) out s out′
+      → Responds (readingResponseTo call list bs (length out) caller) out s out′
+  caller-answered l R = responds-as (response-within call list bs (length out) caller l) R

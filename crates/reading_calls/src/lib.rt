@@ -3,19 +3,19 @@
 ghost use mathlib.Core.Path.{_≡_};
 ghost use Prim.Native.Nat.{ℕ, _≤_, _<_};
 ghost use lib.ListN.{length};
-ghost use Rattle.defs.specs.Calls.{cleanNonRefPathsResponse, referencePathBytesResponse};
 ghost use Rattle.arrays.specs.Sized.{LentMarks};
 ghost use Rattle.calls.specs.Sending.{Responds};
-ghost use Rattle.reading_calls.specs.Reading.{readingResponse, pathResponse, Answerable, Tellable, Tells, GraphAnswered, ReadAnswerable, ReadAnswered};
+ghost use Rattle.reading_calls.specs.Reading.{cleaningResponse, referenceResponse, pathResponse, readingResponse, readingResponseTo, Answerable, Tellable, Tells, GraphAnswered, ReadAnswerable, ReadAnswered};
 use accept::Read;
 use arrays::LARGE_EDGES;
 use arrays::LARGE_VERTICES;
 use arrays::SMALL_EDGES;
 use arrays::SMALL_RECORD;
 use arrays::SMALL_VERTICES;
-use calls::Sent;
+use calls::Answer;
 use memory::Held;
 use spell::OptionBytes;
+use tallies::LAST_CALLER;
 
 // A path has its start vertex here, and its edges in a list beside it.
 pub enum ReadingCall {
@@ -25,23 +25,23 @@ pub enum ReadingCall {
 }
 
 // Of bytes that are told, or none, what is sent; `missing` is the number for none.
-fn tell(told: OptionBytes, room: usize, missing: u32) -> Sent
+fn tell(told: OptionBytes, room: usize, missing: u32) -> Answer
     requires { ⌜ ((n : ℕ) → told ≡ OptionBytes.Some n → n < 4294967296) ⌝ }
     ensures { λ r. ⌜ Tells told room missing r ⌝ }
 {
     let OptionBytes::Some(len) = told else {
-        return Sent {
+        return Answer {
             number: missing,
             length: 0,
         };
     };
     if room < len {
-        return Sent {
+        return Answer {
             number: 11,
             length: 0,
         };
     }
-    Sent {
+    Answer {
         number: 0,
         length: len as u32,
     }
@@ -58,9 +58,9 @@ fn clean_in(
     nodes: &mut [u32],
     map: &mut [u32],
     tried: &mut [u8],
-) -> Sent
+) -> Answer
     requires { ⌜ Answerable held (now es) (now vs) (now p) (now heads) (now nexts) (now nodes) (now map) (now tried) ⌝ }
-    ensures { λ r. ⌜ GraphAnswered cleanNonRefPathsResponse held (now (es .entry)) (now (vs .entry)) (now (p .entry)) (now (out .entry)) r
+    ensures { λ r. ⌜ GraphAnswered cleaningResponse held (now (es .entry)) (now (vs .entry)) (now (p .entry)) (now (out .entry)) r
         (now (out .exit)) ⌝ }
 {
     let cleaned = non_ref_paths::clean_non_ref_paths(held, es, vs, heads, nexts, nodes, map, tried);
@@ -77,9 +77,9 @@ fn reference_in(
     heads: &mut [u32],
     nexts: &mut [u32],
     nodes: &mut [u32],
-) -> Sent
+) -> Answer
     requires { ⌜ Tellable held (now es) (now vs) (now p) (now heads) (now nexts) (now nodes) ⌝ }
-    ensures { λ r. ⌜ GraphAnswered referencePathBytesResponse held (now (es .entry)) (now (vs .entry)) (now (p .entry)) (now (out .entry)) r
+    ensures { λ r. ⌜ GraphAnswered referenceResponse held (now (es .entry)) (now (vs .entry)) (now (p .entry)) (now (out .entry)) r
         (now (out .exit)) ⌝ }
 {
     index::build_index(es, held.m, held.n, heads, nexts);
@@ -99,7 +99,7 @@ fn path_in(
     heads: &mut [u32],
     nexts: &mut [u32],
     nodes: &mut [u32],
-) -> Sent
+) -> Answer
     requires { ⌜ Tellable held (now es) (now vs) (now p) (now heads) (now nexts) (now nodes) ⌝ }
     ensures { λ r. ⌜ GraphAnswered (pathResponse start (now (list .entry))) held (now (es .entry)) (now (vs .entry)) (now (p .entry))
         (now (out .entry)) r (now (out .exit)) ⌝ }
@@ -122,14 +122,14 @@ fn answer_read(
     nodes: &mut [u32],
     map: &mut [u32],
     tried: &mut [u8],
-) -> Sent
+) -> Answer
     requires { ⌜ ReadAnswerable read (now es) (now vs) (now p) (now heads) (now nexts) (now nodes) (now map) (now tried) ⌝ }
     ensures { λ r. ⌜ ReadAnswered (readingResponse call (now (list .entry))) read (now (es .entry)) (now (vs .entry)) (now (p .entry))
         (now (out .entry)) r (now (out .exit)) ⌝ }
 {
     let held = match read {
         Read::Graph(held) => held,
-        Read::Refused(number) => return Sent {
+        Read::Refused(number) => return Answer {
             number: number,
             length: 0,
         },
@@ -160,7 +160,7 @@ fn answer_in(
     nodes: &mut [u32],
     map: &mut [u32],
     tried: &mut [u8],
-) -> Sent
+) -> Answer
     requires { ⌜ LentMarks (now rec) (now es) (now vs) (now p) (now heads) (now nexts) (now nodes) (now map) (now tried) ⌝ }
     ensures { λ r. ⌜ Responds (readingResponse call (now (list .entry)) (now (rec .entry)) (length (now (out .entry)))) (now (out .entry)) r (now (out .exit)) ⌝ }
 {
@@ -195,7 +195,7 @@ fn large_with(
     nodes: &mut [u32; LARGE_EDGES],
     map: &mut [u32; 2 * LARGE_VERTICES],
     tried: &mut [u8; LARGE_VERTICES],
-) -> Sent
+) -> Answer
     ensures { λ r. ⌜ Responds (readingResponse call (now (list .entry)) (now (rec .entry)) (length (now (out .entry)))) (now (out .entry)) r (now (out .exit)) ⌝ }
 {
     answer_in(
@@ -214,7 +214,7 @@ fn large_with(
     )
 }
 
-fn large(call: ReadingCall, list: &[u32], rec: &[u8], out: &mut [u8]) -> Sent
+fn large(call: ReadingCall, list: &[u32], rec: &[u8], out: &mut [u8]) -> Answer
     ensures { λ r. ⌜ Responds (readingResponse call (now (list .entry)) (now (rec .entry)) (length (now (out .entry)))) (now (out .entry)) r (now (out .exit)) ⌝ }
 {
     let mut es = [0u32; 8 * LARGE_EDGES];
@@ -254,7 +254,7 @@ fn small_with(
     nodes: &mut [u32; SMALL_EDGES],
     map: &mut [u32; 2 * SMALL_VERTICES],
     tried: &mut [u8; SMALL_VERTICES],
-) -> Sent
+) -> Answer
     requires { ⌜ length (now rec) ≤ 1024 ⌝ }
     ensures { λ r. ⌜ Responds (readingResponse call (now (list .entry)) (now (rec .entry)) (length (now (out .entry)))) (now (out .entry)) r (now (out .exit)) ⌝ }
 {
@@ -274,7 +274,7 @@ fn small_with(
     )
 }
 
-fn small(call: ReadingCall, list: &[u32], rec: &[u8], out: &mut [u8]) -> Sent
+fn small(call: ReadingCall, list: &[u32], rec: &[u8], out: &mut [u8]) -> Answer
     requires { ⌜ length (now rec) ≤ 1024 ⌝ }
     ensures { λ r. ⌜ Responds (readingResponse call (now (list .entry)) (now (rec .entry)) (length (now (out .entry)))) (now (out .entry)) r (now (out .exit)) ⌝ }
 {
@@ -302,10 +302,17 @@ fn small(call: ReadingCall, list: &[u32], rec: &[u8], out: &mut [u8]) -> Sent
     )
 }
 
-// Of a call without a list of edges the list is not read.
-pub fn answer(call: ReadingCall, list: &[u32], rec: &[u8], out: &mut [u8]) -> Sent
-    ensures { λ r. ⌜ Responds (readingResponse call (now (list .entry)) (now (rec .entry)) (length (now (out .entry)))) (now (out .entry)) r (now (out .exit)) ⌝ }
+// A caller above 15 is refused before the record is looked at. Of a call without a list of edges the list is not read.
+pub fn answer(call: ReadingCall, list: &[u32], rec: &[u8], out: &mut [u8], caller: u32) -> Answer
+    ensures { λ r. ⌜ Responds (readingResponseTo call (now (list .entry)) (now (rec .entry)) (length (now (out .entry))) caller) (now (out .entry)) r
+        (now (out .exit)) ⌝ }
 {
+    if LAST_CALLER < caller {
+        return Answer {
+            number: 18,
+            length: 0,
+        };
+    }
     if rec.len() <= SMALL_RECORD {
         return small(call, list, rec, out);
     }

@@ -1,7 +1,7 @@
 -- What was rewritten is sent. Assumes nothing.
 use mathlib.Core.Path.{_≡_, sym, ap, _∙_}
 use mathlib.Core.List.{List}
-use Prim.Native.Nat.{ℕ, _<_}
+use Prim.Native.Nat.{ℕ, _≤_, _<_}
 use native.Mathlib.Omega.{arith}
 use lib.ListN.{length}
 use Rattle.defs.specs.SeqGraph.{Graph}
@@ -17,10 +17,12 @@ use Rattle.rewriting.specs.declared.RewritingCall.the-variants.{SimplifyGraph, 
 use Rattle.arrays.specs.Sized.{Lent}
 use Rattle.arrays.proofs.SizedLaws.{lent-sendable}
 use Rattle.calls.specs.Sending.{Responds, Makes, GraphSendable, SendsGraph}
-use Rattle.calls.specs.declared.Sent.{Sent}
+use Rattle.calls.specs.declared.Answer.{Answer}
 use Rattle.calls.proofs.ResponseLaws as response
 use Rattle.calls.proofs.CauseLaws.{record-numbered}
-use Rattle.rewriting_calls.specs.Answered.{recordOf, rewritingResponse, CountedAs, RewritingAnswered}
+use Rattle.calls.proofs.CallerLaws.{sends-above, sends-within}
+use Rattle.rewriting_calls.specs.declared.RewritingAnswer.{RewritingAnswer}
+use Rattle.rewriting_calls.specs.Answered.{recordOf, rewritingCauses, rewritingResponse, CountedAs, RewritingAnswered, RewritingAnsweredTo}
 
 status-small : (s : Status) → statusNumber s < 256
 unfolding statusNumber
@@ -51,7 +53,7 @@ module _ {call : RewritingCall} {bs heads nexts : List ℕ} {r : Rewritten} {es 
     refused = A .refused;
   }
 
-  pub rewritten-answered : {out out′ : List ℕ} {s : Sent} → SendsGraph (r .status) (r .read) es vs p out s out′
+  pub rewritten-answered : {out out′ : List ℕ} {s : Answer} → SendsGraph (r .status) (r .read) es vs p out s out′
       → RewritingAnswered call bs out record { sent = s; status = r .status; rewrites = r .rewrites; rounds = r .rounds; end = r .end } out′
   rewritten-answered {out} {out′} {s} S = record { sent = sends; counted = λ z. byRead (r .read) (λ h ok. counts (A .is h ok)) (λ n f. absurd (none z f)) }
     where
@@ -69,3 +71,21 @@ module _ {call : RewritingCall} {bs heads nexts : List ℕ} {r : Rewritten} {es 
       none : s .number ≡ 0 → {n : ℕ} → r .read ≡ read.Refused n → ⊥
       none z {n} f = A .refused n f (sym (number-refused f) ∙ makes .number
           ∙ response.answered (recordCauses sequenceOnly bs) out (recordOf (resultOf call (decode bs))) (sym (sends .number) ∙ z) .0)
+
+-- ---- a caller
+
+module _ {call : RewritingCall} {bs out : List ℕ} {caller : ℕ} where
+  abbrev result : List ℕ
+  result = recordOf (resultOf call (decode bs))
+
+  pub caller-refused : {status rewrites rounds end : ℕ} → 15 < caller → RewritingAnsweredTo call bs out caller record {
+    sent = record { number = 18; length = 0 };
+    status = status;
+    rewrites = rewrites;
+    rounds = rounds;
+    end = end;
+  } out
+  caller-refused l = record { sent = sends-above (rewritingCauses call bs (length out)) result l; counted = λ z. absurd (omega (arith, z)) }
+
+  pub caller-answered : {r : RewritingAnswer} {out′ : List ℕ} → caller ≤ 15 → RewritingAnswered call bs out r out′ → RewritingAnsweredTo call bs out caller r out′
+  caller-answered l A = record { sent = sends-within (rewritingCauses call bs (length out)) result l (A .sent); counted = A .counted }

@@ -1,23 +1,28 @@
--- The promise of a call that rewrites, the tally aside. Assumes nothing.
+-- The promise of a call that rewrites. Assumes nothing.
 use mathlib.Core.Path.{_≡_}
-use mathlib.Core.List.{List}
+use mathlib.Core.List.{List, _∷_}
 use Prim.Native.Nat.{ℕ}
 use Rattle.defs.specs.Record.{sequenceGraph, encode, decode}
-use Rattle.defs.specs.Refusals.{sequenceOnly, recordCauses}
-use Rattle.defs.specs.Calls.{Response, respond}
+use Rattle.defs.specs.Refusals.{Cause, sequenceOnly, recordCauses}
+use Rattle.defs.specs.Calls.{Response, callerCause, respond}
 use lib.ListN.{length}
 use Rattle.rewriting.specs.Rewriting.{Result, resultOf}
 use Rattle.rewriting.specs.declared.RewritingCall.{RewritingCall}
 use Rattle.calls.specs.Sending.{withOutput, Responds}
 use Rattle.rewriting_calls.specs.declared.RewritingAnswer.{RewritingAnswer}
 
--- the record of what the call makes of a record's graph, and the response with it
+-- the record of what the call makes of a record's graph, and the response with it: by the causes but for 18, and to a caller
 abbrev pub recordOf : Result → List ℕ
 recordOf z = encode sequenceGraph (z .status) (z .graph)
 
+abbrev pub rewritingCauses : RewritingCall → List ℕ → ℕ → List Cause
+rewritingCauses call bs room = withOutput (recordCauses sequenceOnly bs) room (recordOf (resultOf call (decode bs)))
+
 abbrev pub rewritingResponse : RewritingCall → List ℕ → ℕ → Response
-rewritingResponse call bs room =
-    respond (withOutput (recordCauses sequenceOnly bs) room (recordOf (resultOf call (decode bs)))) (recordOf (resultOf call (decode bs)))
+rewritingResponse call bs room = respond (rewritingCauses call bs room) (recordOf (resultOf call (decode bs)))
+
+abbrev pub rewritingResponseTo : RewritingCall → List ℕ → ℕ → ℕ → Response
+rewritingResponseTo call bs room caller = respond (callerCause caller ∷ rewritingCauses call bs room) (recordOf (resultOf call (decode bs)))
 
 -- the numbers that the call counted are the result's
 pub record CountedAs (z : Result) (r : RewritingAnswer) : Type 0 where
@@ -28,4 +33,8 @@ pub record CountedAs (z : Result) (r : RewritingAnswer) : Type 0 where
 
 pub record RewritingAnswered (call : RewritingCall) (bs out : List ℕ) (r : RewritingAnswer) (out′ : List ℕ) : Type 0 where
   pub sent : Responds (rewritingResponse call bs (length out)) out (r .sent) out′
+  pub counted : r .sent .number ≡ 0 → CountedAs (resultOf call (decode bs)) r
+
+pub record RewritingAnsweredTo (call : RewritingCall) (bs out : List ℕ) (caller : ℕ) (r : RewritingAnswer) (out′ : List ℕ) : Type 0 where
+  pub sent : Responds (rewritingResponseTo call bs (length out) caller) out (r .sent) out′
   pub counted : r .sent .number ≡ 0 → CountedAs (resultOf call (decode bs)) r

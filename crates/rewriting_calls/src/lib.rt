@@ -3,18 +3,19 @@
 ghost use Prim.Native.Nat.{_≤_};
 ghost use lib.ListN.{length};
 ghost use Rattle.arrays.specs.Sized.{Lent};
-ghost use Rattle.rewriting_calls.specs.Answered.{RewritingAnswered};
+ghost use Rattle.rewriting_calls.specs.Answered.{RewritingAnswered, RewritingAnsweredTo};
 use arrays::LARGE_EDGES;
 use arrays::LARGE_VERTICES;
 use arrays::SMALL_EDGES;
 use arrays::SMALL_RECORD;
 use arrays::SMALL_VERTICES;
-use calls::Sent;
+use calls::Answer;
 use rewriting::RewritingCall;
+use tallies::LAST_CALLER;
 
-// What a call answers, the tally aside. Of a refused call only what was sent counts.
+// What a call answers. Of a refused call only what was sent counts.
 pub struct RewritingAnswer {
-    pub sent: Sent,
+    pub sent: Answer,
     pub status: u32,
     pub rewrites: u32,
     pub rounds: u32,
@@ -195,9 +196,23 @@ fn small(call: RewritingCall, rec: &[u8], out: &mut [u8]) -> RewritingAnswer
     )
 }
 
-pub fn answer(call: RewritingCall, rec: &[u8], out: &mut [u8]) -> RewritingAnswer
-    ensures { λ r. ⌜ RewritingAnswered call (now (rec .entry)) (now (out .entry)) r (now (out .exit)) ⌝ }
+// A caller above 15 is refused before the record is looked at.
+pub fn answer(call: RewritingCall, rec: &[u8], out: &mut [u8], caller: u32) -> RewritingAnswer
+    ensures { λ r. ⌜ RewritingAnsweredTo call (now (rec .entry)) (now (out .entry)) caller r (now (out .exit)) ⌝ }
 {
+    if LAST_CALLER < caller {
+        let sent = Answer {
+            number: 18,
+            length: 0,
+        };
+        return RewritingAnswer {
+            sent: sent,
+            status: 0,
+            rewrites: 0,
+            rounds: 0,
+            end: 0,
+        };
+    }
     if rec.len() <= SMALL_RECORD {
         return small(call, rec, out);
     }

@@ -6,14 +6,13 @@ use lib.ListN.{length}
 use Rattle.defs.specs.Lists.{allOf}
 use Rattle.defs.specs.Refusals.{Cause, IsNumberOf, layoutCauses, recordCauses}
 use Rattle.defs.specs.Calls as D
-use Rattle.defs.specs.Calls.{Response, numberOf, respond, outputCause, conversionCauses}
+use Rattle.defs.specs.Calls.{Response, numberOf, respond, callerCause, outputCause, conversionCauses}
 use Rattle.defs.specs.Calls.{vertexSequenceCauses, vertexSequenceNumber, fromAssemblyGraphCauses, fromAssemblyGraphResponse, fromAssemblyGraphAnswer}
 use Rattle.defs.specs.Calls.{simplifyGraphCauses, simplifyGraphResponse, simplifyGraphAnswer}
 use Rattle.defs.specs.Calls.{cleanupSeqGraphCauses, cleanupSeqGraphResponse, cleanupSeqGraphAnswer}
 use Rattle.defs.specs.Calls.{cleanNonRefPathsCauses, cleanNonRefPathsResponse, cleanNonRefPathsAnswer}
 use Rattle.defs.specs.Calls.{referencePathBytesCauses, referencePathBytesResponse, pathBasesBytesCauses, pathBasesBytesResponse}
 use Rattle.laws.proofs.Causes.{CausesNumbered, numbers-above, refusal-number, respond-number}
-use Rattle.calls.specs.declared.Tally.{Tally}
 use Rattle.calls.specs.declared.Answer.{Answer}
 use Rattle.calls.specs.declared.SimplifyAnswer.{SimplifyAnswer}
 use Rattle.calls.specs.declared.CleanupAnswer.{CleanupAnswer}
@@ -36,36 +35,36 @@ vertex-sequence-number {bs} {v} P =
     let causes = vertexSequenceCauses bs v in
     subst (IsNumberOf causes) (sym (P .number)) (refusal-number causes (numbers-above causes refl))
 
-module _ {bs out : List ℕ} {t : Tally} {out′ : List ℕ} where
-  pub from-assembly-graph-number : {r : Answer} → Converts bs out t r out′ → IsNumberOf (fromAssemblyGraphCauses bs (length out)) (r .number)
-  unfolding fromAssemblyGraphAnswer fromAssemblyGraphResponse fromAssemblyGraphCauses conversionCauses outputCause layoutCauses D.answer allOf
+module _ {bs out : List ℕ} {caller : ℕ} {out′ : List ℕ} where
+  pub from-assembly-graph-number : {r : Answer} → Converts bs out caller r out′ → IsNumberOf (fromAssemblyGraphCauses bs (length out) caller) (r .number)
+  unfolding callerCause fromAssemblyGraphAnswer fromAssemblyGraphResponse fromAssemblyGraphCauses conversionCauses outputCause layoutCauses D.answer allOf
   from-assembly-graph-number C =
-      responds-first (numbers-above (fromAssemblyGraphCauses bs (length out)) refl) _ refl (ap (λ (a : D.Answer). a .number) (C .answer))
+      responds-first (numbers-above (fromAssemblyGraphCauses bs (length out) caller) refl) _ refl (ap (λ (a : D.Answer). a .number) (C .answer))
 
-  pub simplify-graph-number : {r : SimplifyAnswer} → Simplifies bs out t r out′ → IsNumberOf (simplifyGraphCauses bs (length out)) (r .number)
-  unfolding simplifyGraphAnswer simplifyGraphResponse simplifyGraphCauses outputCause recordCauses layoutCauses allOf
+  pub simplify-graph-number : {r : SimplifyAnswer} → Simplifies bs out caller r out′ → IsNumberOf (simplifyGraphCauses bs (length out) caller) (r .number)
+  unfolding callerCause simplifyGraphAnswer simplifyGraphResponse simplifyGraphCauses outputCause recordCauses layoutCauses allOf
   simplify-graph-number C =
-      responds-first (numbers-above (simplifyGraphCauses bs (length out)) refl) _ refl (ap (λ (a : D.SimplifyAnswer). a .number) (C .answer))
+      responds-first (numbers-above (simplifyGraphCauses bs (length out) caller) refl) _ refl (ap (λ (a : D.SimplifyAnswer). a .number) (C .answer))
 
-  pub cleanup-seq-graph-number : {r : CleanupAnswer} → Cleans bs out t r out′ → IsNumberOf (cleanupSeqGraphCauses bs (length out)) (r .number)
-  unfolding cleanupSeqGraphAnswer cleanupSeqGraphResponse cleanupSeqGraphCauses outputCause recordCauses layoutCauses allOf
+  pub cleanup-seq-graph-number : {r : CleanupAnswer} → Cleans bs out caller r out′ → IsNumberOf (cleanupSeqGraphCauses bs (length out) caller) (r .number)
+  unfolding callerCause cleanupSeqGraphAnswer cleanupSeqGraphResponse cleanupSeqGraphCauses outputCause recordCauses layoutCauses allOf
   cleanup-seq-graph-number C =
-      responds-first (numbers-above (cleanupSeqGraphCauses bs (length out)) refl) _ refl (ap (λ (a : D.CleanupAnswer). a .number) (C .answer))
+      responds-first (numbers-above (cleanupSeqGraphCauses bs (length out) caller) refl) _ refl (ap (λ (a : D.CleanupAnswer). a .number) (C .answer))
 
-  pub clean-non-ref-paths-number : {r : Answer} → CleansPaths bs out t r out′ → IsNumberOf (cleanNonRefPathsCauses bs (length out)) (r .number)
-  unfolding cleanNonRefPathsAnswer cleanNonRefPathsResponse cleanNonRefPathsCauses outputCause recordCauses layoutCauses D.answer allOf
+  pub clean-non-ref-paths-number : {r : Answer} → CleansPaths bs out caller r out′ → IsNumberOf (cleanNonRefPathsCauses bs (length out) caller) (r .number)
+  unfolding callerCause cleanNonRefPathsAnswer cleanNonRefPathsResponse cleanNonRefPathsCauses outputCause recordCauses layoutCauses D.answer allOf
   clean-non-ref-paths-number C =
-      responds-first (numbers-above (cleanNonRefPathsCauses bs (length out)) refl) _ refl (ap (λ (a : D.Answer). a .number) (C .answer))
+      responds-first (numbers-above (cleanNonRefPathsCauses bs (length out) caller) refl) _ refl (ap (λ (a : D.Answer). a .number) (C .answer))
 
-module _ (bs : List ℕ) {out : List ℕ} {t : Tally} {out′ : List ℕ} {r : Answer} where
-  pub reference-path-bytes-number : TellsBytes (referencePathBytesResponse bs (length out)) out t r out′
-      → IsNumberOf (referencePathBytesCauses bs (length out)) (r .number)
-  unfolding referencePathBytesResponse referencePathBytesCauses outputCause recordCauses layoutCauses D.answer allOf
+module _ (bs : List ℕ) {out : List ℕ} {caller : ℕ} {out′ : List ℕ} {r : Answer} where
+  pub reference-path-bytes-number : TellsBytes (referencePathBytesResponse bs (length out) caller) out r out′
+      → IsNumberOf (referencePathBytesCauses bs (length out) caller) (r .number)
+  unfolding callerCause referencePathBytesResponse referencePathBytesCauses outputCause recordCauses layoutCauses D.answer allOf
   reference-path-bytes-number C =
-      responds-first (numbers-above (referencePathBytesCauses bs (length out)) refl) _ refl (ap (λ (a : D.Answer). a .number) (C .answer))
+      responds-first (numbers-above (referencePathBytesCauses bs (length out) caller) refl) _ refl (ap (λ (a : D.Answer). a .number) (C .answer))
 
-  pub path-bases-bytes-number : (start : ℕ) (edges : List ℕ) → TellsBytes (pathBasesBytesResponse bs start edges (length out)) out t r out′
-      → IsNumberOf (pathBasesBytesCauses bs start edges (length out)) (r .number)
-  unfolding pathBasesBytesResponse pathBasesBytesCauses outputCause recordCauses layoutCauses D.answer allOf
+  pub path-bases-bytes-number : (start : ℕ) (edges : List ℕ) → TellsBytes (pathBasesBytesResponse bs start edges (length out) caller) out r out′
+      → IsNumberOf (pathBasesBytesCauses bs start edges (length out) caller) (r .number)
+  unfolding callerCause pathBasesBytesResponse pathBasesBytesCauses outputCause recordCauses layoutCauses D.answer allOf
   path-bases-bytes-number start edges C =
-      responds-first (numbers-above (pathBasesBytesCauses bs start edges (length out)) refl) _ refl (ap (λ (a : D.Answer). a .number) (C .answer))
+      responds-first (numbers-above (pathBasesBytesCauses bs start edges (length out) caller) refl) _ refl (ap (λ (a : D.Answer). a .number) (C .answer))

@@ -1,16 +1,20 @@
-// The library for C: each public call under its C name, with the promise of the call itself. include/seq_graph.h declares them.
+// The library for C: each public call under its C name, with the promise of the call itself and of the table of tallies. All but
+// `sg_vertex_sequence` are their core, which does the work, and then `tallies::count_call`. include/seq_graph.h declares them.
 ghost use lib.ListN.{length};
 ghost use Rattle.defs.specs.Calls.{referencePathBytesResponse, pathBasesBytesResponse};
+ghost use Rattle.defs.specs.Calls.{fromAssemblyGraphCounted, simplifyGraphCounted, cleanupSeqGraphCounted, cleanNonRefPathsCounted};
+ghost use Rattle.defs.specs.Calls.{referencePathBytesCounted, pathBasesBytesCounted};
 ghost use Rattle.simplify_graph.specs.Simplifies.{Simplifies};
 ghost use Rattle.from_assembly_graph.specs.Converts.{Converts};
 ghost use Rattle.cleanup_seq_graph.specs.Cleans.{Cleans};
 ghost use Rattle.clean_non_ref_paths.specs.CleansPaths.{CleansPaths};
 ghost use Rattle.string_calls.specs.TellsBytes.{TellsBytes};
+ghost use Rattle.tallies.specs.Raises.{Raises};
 ghost use Rattle.vertex_sequence.specs.Handed.{Placed};
 use calls::Answer;
 use calls::CleanupAnswer;
 use calls::SimplifyAnswer;
-use calls::Tally;
+use tallies::Tallies;
 use vertex_sequence::SequencePlace;
 
 #[no_mangle]
@@ -21,38 +25,79 @@ pub extern "C" fn sg_vertex_sequence(rec: &[u8], vertex: u32, number: &mut u32) 
 }
 
 #[no_mangle]
-pub extern "C" fn sg_from_assembly_graph(rec: &[u8], out: &mut [u8], tally: Tally) -> Answer
-    ensures { λ r. ⌜ Converts (now (rec .entry)) (now (out .entry)) tally r (now (out .exit)) ⌝ }
+pub extern "C" fn sg_from_assembly_graph(
+    rec: &[u8],
+    out: &mut [u8],
+    caller: u32,
+    table: &mut Tallies,
+) -> Answer
+    ensures { λ r. ⌜ Converts (now (rec .entry)) (now (out .entry)) caller r (now (out .exit))
+        × Raises (fromAssemblyGraphCounted (now (rec .entry)) (length (now (out .entry))) caller) (now (table .entry)) (now (table .exit)) ⌝ }
 {
-    from_assembly_graph::from_assembly_graph(rec, out, tally)
+    let r = from_assembly_graph::from_assembly_graph(rec, out, caller);
+    tallies::count_call(table, caller, r.number, 0);
+    r
 }
 
 #[no_mangle]
-pub extern "C" fn sg_simplify_graph(rec: &[u8], out: &mut [u8], tally: Tally) -> SimplifyAnswer
-    ensures { λ r. ⌜ Simplifies (now (rec .entry)) (now (out .entry)) tally r (now (out .exit)) ⌝ }
+pub extern "C" fn sg_simplify_graph(
+    rec: &[u8],
+    out: &mut [u8],
+    caller: u32,
+    table: &mut Tallies,
+) -> SimplifyAnswer
+    ensures { λ r. ⌜ Simplifies (now (rec .entry)) (now (out .entry)) caller r (now (out .exit))
+        × Raises (simplifyGraphCounted (now (rec .entry)) (length (now (out .entry))) caller) (now (table .entry)) (now (table .exit)) ⌝ }
 {
-    simplify_graph::simplify_graph(rec, out, tally)
+    let r = simplify_graph::simplify_graph(rec, out, caller);
+    tallies::count_call(table, caller, r.number, r.rewrites);
+    r
+}
+
+// The rewrites are counted and not answered.
+#[no_mangle]
+pub extern "C" fn sg_cleanup_seq_graph(
+    rec: &[u8],
+    out: &mut [u8],
+    caller: u32,
+    table: &mut Tallies,
+) -> CleanupAnswer
+    ensures { λ r. ⌜ Cleans (now (rec .entry)) (now (out .entry)) caller r (now (out .exit))
+        × Raises (cleanupSeqGraphCounted (now (rec .entry)) (length (now (out .entry))) caller) (now (table .entry)) (now (table .exit)) ⌝ }
+{
+    let r = cleanup_seq_graph::cleanup_seq_graph(rec, out, caller);
+    tallies::count_call(table, caller, r.answer.number, r.rewrites);
+    r.answer
 }
 
 #[no_mangle]
-pub extern "C" fn sg_cleanup_seq_graph(rec: &[u8], out: &mut [u8], tally: Tally) -> CleanupAnswer
-    ensures { λ r. ⌜ Cleans (now (rec .entry)) (now (out .entry)) tally r (now (out .exit)) ⌝ }
+pub extern "C" fn sg_clean_non_ref_paths(
+    rec: &[u8],
+    out: &mut [u8],
+    caller: u32,
+    table: &mut Tallies,
+) -> Answer
+    ensures { λ r. ⌜ CleansPaths (now (rec .entry)) (now (out .entry)) caller r (now (out .exit))
+        × Raises (cleanNonRefPathsCounted (now (rec .entry)) (length (now (out .entry))) caller) (now (table .entry)) (now (table .exit)) ⌝ }
 {
-    cleanup_seq_graph::cleanup_seq_graph(rec, out, tally)
+    let r = clean_non_ref_paths::clean_non_ref_paths(rec, out, caller);
+    tallies::count_call(table, caller, r.number, 0);
+    r
 }
 
 #[no_mangle]
-pub extern "C" fn sg_clean_non_ref_paths(rec: &[u8], out: &mut [u8], tally: Tally) -> Answer
-    ensures { λ r. ⌜ CleansPaths (now (rec .entry)) (now (out .entry)) tally r (now (out .exit)) ⌝ }
+pub extern "C" fn sg_reference_path_bytes(
+    rec: &[u8],
+    out: &mut [u8],
+    caller: u32,
+    table: &mut Tallies,
+) -> Answer
+    ensures { λ r. ⌜ TellsBytes (referencePathBytesResponse (now (rec .entry)) (length (now (out .entry))) caller) (now (out .entry)) r (now (out .exit))
+        × Raises (referencePathBytesCounted (now (rec .entry)) (length (now (out .entry))) caller) (now (table .entry)) (now (table .exit)) ⌝ }
 {
-    clean_non_ref_paths::clean_non_ref_paths(rec, out, tally)
-}
-
-#[no_mangle]
-pub extern "C" fn sg_reference_path_bytes(rec: &[u8], out: &mut [u8], tally: Tally) -> Answer
-    ensures { λ r. ⌜ TellsBytes (referencePathBytesResponse (now (rec .entry)) (length (now (out .entry)))) (now (out .entry)) tally r (now (out .exit)) ⌝ }
-{
-    string_calls::reference_path_bytes(rec, out, tally)
+    let r = string_calls::reference_path_bytes(rec, out, caller);
+    tallies::count_call(table, caller, r.number, 0);
+    r
 }
 
 #[no_mangle]
@@ -61,10 +106,15 @@ pub extern "C" fn sg_path_bases_bytes(
     start: u32,
     edges: &[u32],
     out: &mut [u8],
-    tally: Tally,
+    caller: u32,
+    table: &mut Tallies,
 ) -> Answer
-    ensures { λ r. ⌜ TellsBytes (pathBasesBytesResponse (now (rec .entry)) start (now (edges .entry)) (length (now (out .entry))))
-        (now (out .entry)) tally r (now (out .exit)) ⌝ }
+    ensures { λ r. ⌜ TellsBytes (pathBasesBytesResponse (now (rec .entry)) start (now (edges .entry)) (length (now (out .entry))) caller)
+        (now (out .entry)) r (now (out .exit))
+        × Raises (pathBasesBytesCounted (now (rec .entry)) start (now (edges .entry)) (length (now (out .entry))) caller) (now (table .entry))
+        (now (table .exit)) ⌝ }
 {
-    string_calls::path_bases_bytes(rec, start, edges, out, tally)
+    let r = string_calls::path_bases_bytes(rec, start, edges, out, caller);
+    tallies::count_call(table, caller, r.number, 0);
+    r
 }

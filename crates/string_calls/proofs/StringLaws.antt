@@ -12,23 +12,22 @@ use Rattle.defs.specs.Paths.{isPathOf, pathBasesBytes, referencePathBytes}
 use Rattle.defs.specs.Record.{decode}
 use Rattle.defs.specs.Refusals.{sequenceOnly, recordRefusal}
 use Rattle.defs.specs.Calls.{Response, refused, numberOf, referencePathBytesResponse, pathBasesBytesResponse}
-use Rattle.laws.proofs.ListLaws.{given-some}
+use Rattle.laws.proofs.ListLaws.{given-some, byOrder}
 use Rattle.laws.proofs.Whole.{byOption}
 use Rattle.record.proofs.Accepted.{sequence-kind}
 use Rattle.sound.proofs.Accepted.{accepted-early, accepted-good, accepted-limits}
 use Rattle.reread.proofs.Read.{record-most}
 use Rattle.defs.specs.Calls as D
-use Rattle.calls.specs.Answers.{tallyOf, answerOf, Tallies}
 use Rattle.calls.specs.Sending.{fits, Responds}
-use Rattle.calls.specs.declared.Sent.{Sent}
-use Rattle.calls.specs.declared.Tally.{Tally}
 use Rattle.calls.specs.declared.Answer.{Answer}
 use Rattle.calls.proofs.ResponseLaws.{fits-enough}
 use Rattle.string_calls.specs.TellsBytes.{TellsBytes}
-use Rattle.reading_calls.specs.Reading.{readingResponse, pathResponse}
+use Rattle.reading_calls.specs.Reading.{referenceResponse, pathResponse, readingResponse, readingResponseTo}
+use Rattle.reading_calls.specs.declared.ReadingCall.{ReadingCall}
 use Rattle.reading_calls.specs.declared.ReadingCall.the-variants.{ReferencePathBytes, PathBasesBytes}
 use Rattle.reading_calls.proofs.LengthLaws.{path-most, reference-most}
 use Rattle.reading_calls.proofs.BytesLaws.{reference-refused, reference-none, reference-some, path-refused, path-none, path-some}
+use Rattle.reading_calls.proofs.ReadingLaws.{response-above, response-within}
 
 module _ {x : Response} where
   other : {n : ℕ} → x ≡ refused n → (n ≡ 11 → ⊥) → numberOf x ≡ 11 → ⊥
@@ -42,7 +41,7 @@ module _ {x : Response} where
 few : (bs : List ℕ) → recordRefusal sequenceOnly bs ≡ 0 → sequenceBytes ((decode bs) .verts) ≤ 8192
 few bs z = (accepted-limits sequenceOnly bs z (sequence-kind bs (accepted-early sequenceOnly bs z))) .few
 
-pub reference-room : (bs : List ℕ) (room : ℕ) → 8192 ≤ room → numberOf (referencePathBytesResponse bs room) ≡ 11 → ⊥
+reference-room : (bs : List ℕ) (room : ℕ) → 8192 ≤ room → numberOf (referenceResponse bs room) ≡ 11 → ⊥
 reference-room bs room l = elim (ℕ-discrete (recordRefusal sequenceOnly bs) 0) [
   | no ne ↦ other (reference-refused bs room refl ne) (λ i. omega (arith, i, record-most sequenceOnly bs))
   | yes z ↦ byOption (referencePathBytes (decode bs))
@@ -51,7 +50,7 @@ reference-room bs room l = elim (ℕ-discrete (recordRefusal sequenceOnly bs) 0)
       (omega (arith, l, few bs z, reference-most (decode bs) (accepted-good sequenceOnly bs z .0) s e)))
 ]
 
-pub path-room : (bs : List ℕ) (start : ℕ) (list : List ℕ) (room : ℕ) → 8192 ≤ room → numberOf (pathBasesBytesResponse bs start list room) ≡ 11 → ⊥
+path-room : (bs : List ℕ) (start : ℕ) (list : List ℕ) (room : ℕ) → 8192 ≤ room → numberOf (pathResponse start list bs room) ≡ 11 → ⊥
 path-room bs start list room l = elim (ℕ-discrete (recordRefusal sequenceOnly bs) 0) [
   | no ne ↦ other (path-refused bs start list room refl ne) (λ i. omega (arith, i, record-most sequenceOnly bs))
   | yes z ↦ byOption (given (isPathOf (decode bs) start list) (pathBasesBytes (decode bs) start list))
@@ -61,19 +60,26 @@ path-room bs start list room l = elim (ℕ-discrete (recordRefusal sequenceOnly 
       (omega (arith, l, few bs z, ap length (y .1), path-most (decode bs) (accepted-good sequenceOnly bs z .0) start list (y .0))))
 ]
 
+-- a caller above 15 is refused under 18, and for any other these are the call's responses
+room-to : (call : ReadingCall) (list bs : List ℕ) (room caller : ℕ) → (numberOf (readingResponse call list bs room) ≡ 11 → ⊥)
+    → numberOf (readingResponseTo call list bs room caller) ≡ 11 → ⊥
+room-to call list bs room caller f i = byOrder caller 15
+    (λ l. f (sym (ap numberOf (response-within call list bs room caller l)) ∙ i))
+    (λ l. other (response-above call list bs room caller l) (λ z. omega (arith, z)) i)
+
 -- the promise of a call, from its response and that 11 is not its number
-tells-bytes : {x : Response} {out : List ℕ} {t : Tally} {s : Sent} {a : Answer} {out′ : List ℕ} → answerOf a ≡ D.answer x (tallyOf t)
-    → Responds x out s out′ → (8192 ≤ length out → numberOf x ≡ 11 → ⊥) → TellsBytes x out t a out′
+tells-bytes : {x : Response} {out : List ℕ} {a : Answer} {out′ : List ℕ} → Responds x out a out′ → (8192 ≤ length out → numberOf x ≡ 11 → ⊥)
+    → TellsBytes x out a out′
 unfolding D.answer
-tells-bytes e S h = record { answer = e; written = S .written; room = λ l i. h l (sym (ap (λ (r : D.Answer). r .number) e) ∙ i) }
+tells-bytes S h = record { answer = λ i. record { number = S .number i; length = S .size i }; written = S .written; room = λ l i. h l (sym (S .number) ∙ i) }
 
-module _ (bs list : List ℕ) {out : List ℕ} {t : Tally} {s : Sent} {a : Answer} {out′ : List ℕ} (T : Tallies s t a) where
-  pub reference-tells : Responds (readingResponse ReferencePathBytes list bs (length out)) out s out′
-      → TellsBytes (referencePathBytesResponse bs (length out)) out t a out′
-  unfolding readingResponse referencePathBytesResponse
-  reference-tells S = tells-bytes (T .is _ _ (S .number) (S .size)) S (reference-room bs (length out))
+module _ (bs list : List ℕ) {out : List ℕ} {caller : ℕ} {a : Answer} {out′ : List ℕ} where
+  pub reference-tells : Responds (readingResponseTo ReferencePathBytes list bs (length out) caller) out a out′
+      → TellsBytes (referencePathBytesResponse bs (length out) caller) out a out′
+  unfolding readingResponseTo readingResponse
+  reference-tells S = tells-bytes S (λ l. room-to ReferencePathBytes list bs (length out) caller (reference-room bs (length out) l))
 
-  pub path-tells : (start : ℕ) → Responds (readingResponse (PathBasesBytes start) list bs (length out)) out s out′
-      → TellsBytes (pathBasesBytesResponse bs start list (length out)) out t a out′
-  unfolding readingResponse pathResponse pathBasesBytesResponse
-  path-tells start S = tells-bytes (T .is _ _ (S .number) (S .size)) S (path-room bs start list (length out))
+  pub path-tells : (start : ℕ) → Responds (readingResponseTo (PathBasesBytes start) list bs (length out) caller) out a out′
+      → TellsBytes (pathBasesBytesResponse bs start list (length out) caller) out a out′
+  unfolding readingResponseTo readingResponse
+  path-tells start S = tells-bytes S (λ l. room-to (PathBasesBytes start) list bs (length out) caller (path-room bs start list (length out) l))

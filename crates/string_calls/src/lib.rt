@@ -3,16 +3,14 @@ ghost use lib.ListN.{length};
 ghost use Rattle.defs.specs.Calls.{referencePathBytesResponse, pathBasesBytesResponse};
 ghost use Rattle.string_calls.specs.TellsBytes.{TellsBytes};
 use calls::Answer;
-use calls::Tally;
 use reading_calls::ReadingCall;
 
 // 10 where there is no reference path.
-pub fn reference_path_bytes(rec: &[u8], out: &mut [u8], tally: Tally) -> Answer
-    ensures { λ r. ⌜ TellsBytes (referencePathBytesResponse (now (rec .entry)) (length (now (out .entry)))) (now (out .entry)) tally r (now (out .exit)) ⌝ }
+pub fn reference_path_bytes(rec: &[u8], out: &mut [u8], caller: u32) -> Answer
+    ensures { λ r. ⌜ TellsBytes (referencePathBytesResponse (now (rec .entry)) (length (now (out .entry))) caller) (now (out .entry)) r (now (out .exit)) ⌝ }
 {
     let none = [0u32; 0];
-    let sent = reading_calls::answer(ReadingCall::ReferencePathBytes, &none, rec, out);
-    calls::tally_answer(sent, tally)
+    reading_calls::answer(ReadingCall::ReferencePathBytes, &none, rec, out, caller)
 }
 
 // 9 where the start or the list of edges is no path.
@@ -21,11 +19,10 @@ pub fn path_bases_bytes(
     start: u32,
     list: &[u32],
     out: &mut [u8],
-    tally: Tally,
+    caller: u32,
 ) -> Answer
-    ensures { λ r. ⌜ TellsBytes (pathBasesBytesResponse (now (rec .entry)) start (now (list .entry)) (length (now (out .entry))))
-        (now (out .entry)) tally r (now (out .exit)) ⌝ }
+    ensures { λ r. ⌜ TellsBytes (pathBasesBytesResponse (now (rec .entry)) start (now (list .entry)) (length (now (out .entry))) caller)
+        (now (out .entry)) r (now (out .exit)) ⌝ }
 {
-    let sent = reading_calls::answer(ReadingCall::PathBasesBytes(start), list, rec, out);
-    calls::tally_answer(sent, tally)
+    reading_calls::answer(ReadingCall::PathBasesBytes(start), list, rec, out, caller)
 }

@@ -12,7 +12,7 @@ returns c =
     simplifies
     (λ i. omega (arith, at-rec .shared-slice-known .given i))
     (at-answer .answer .ensures)
-    (c .tally-simplify .ensures)
+    (c .simplify-answer .ensures)
 
 pub simplify-graph-spec : {M : Type 1} → statement M
 simplify-graph-spec =

@@ -1,0 +1,4 @@
+pub mod Kind
+pub mod Answers
+pub mod SharedMut
+pub mod SharedNumberSharedMut
