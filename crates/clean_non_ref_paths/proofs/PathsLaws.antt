@@ -21,7 +21,7 @@ use Rattle.reading_calls.specs.Reading.{readingResponseTo}
 use Rattle.reading_calls.specs.declared.ReadingCall.the-variants.{CleanNonRefPaths}
 use Rattle.clean_non_ref_paths.specs.CleansPaths.{CleansPaths}
 
-module _ (bs list : List ℕ) {out : List ℕ} {caller : ℕ} {a : Answer} {out′ : List ℕ} (small : Bytes bs)
+module _ (bs list : List ℕ) (caller : ℕ) {out : List ℕ} {a : Answer} {out′ : List ℕ} (small : Bytes bs)
     (S : Responds (readingResponseTo CleanNonRefPaths list bs (length out) caller) out a out′) where
   abbrev causes : List Cause
   causes = callerCause caller ∷ recordCauses sequenceOnly bs

@@ -93,16 +93,17 @@ module _ {bs : List ℕ} {r : Read} {sorted vs p : List ℕ} (C : ConvertedAs bs
 
 -- ---- the whole call
 
-module _ (bs : List ℕ) {out : List ℕ} {caller : ℕ} {a : Answer} {out′ : List ℕ} (small : Bytes bs) where
+module _ (bs : List ℕ) (caller : ℕ) {out : List ℕ} {a : Answer} {out′ : List ℕ} (small : Bytes bs)
+    (S : Responds (fromAssemblyGraphResponse bs (length out) caller) out a out′) where
   abbrev causes : List Cause
   causes = callerCause caller ∷ conversionCauses bs
 
   abbrev result : List ℕ
   result = D.convertedRecord bs
 
-  converts : Responds (fromAssemblyGraphResponse bs (length out) caller) out a out′ → Converts bs out caller a out′
+  converts : Converts bs out caller a out′
   unfolding fromAssemblyGraphAnswer fromAssemblyGraphResponse fromAssemblyGraphCauses D.answer
-  converts S = record {
+  converts = record {
     answer = λ i. record { number = S .number i; length = S .size i };
     written = S .written;
     room = λ l i.
@@ -124,14 +125,14 @@ module _ (bs : List ℕ) {out : List ℕ} {caller : ℕ} {a : Answer} {out′ : 
       holds : (P : List ℕ → Type 0) → (refusalOf causes ≡ 0 → P result) → a .number ≡ 0 → P (take (a .length) out′)
       holds P f = answered-holds causes out result P f (S .number) (S .size) (S .written)
 
-module _ (bs : List ℕ) {out : List ℕ} {caller : ℕ} (small : Bytes bs) where
+module _ (bs : List ℕ) {caller : ℕ} {out : List ℕ} (small : Bytes bs) where
   pub converts-refused : 15 < caller → Converts bs out caller record { number = 18; length = 0 } out
   unfolding fromAssemblyGraphResponse fromAssemblyGraphCauses
-  converts-refused l = converts bs small (sends-above _ _ l)
+  converts-refused l = converts bs caller small (sends-above _ _ l)
 
   pub converts-sent : {a : Answer} {out′ : List ℕ} → caller ≤ 15 → Responds (conversionResponse bs (length out)) out a out′ → Converts bs out caller a out′
   unfolding fromAssemblyGraphResponse fromAssemblyGraphCauses
-  converts-sent l S = converts bs small (sends-within _ _ l S)
+  converts-sent l S = converts bs caller small (sends-within _ _ l S)
 
 -- ---- room
 

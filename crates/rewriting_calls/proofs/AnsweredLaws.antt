@@ -22,7 +22,7 @@ use Rattle.calls.proofs.ResponseLaws as response
 use Rattle.calls.proofs.CauseLaws.{record-numbered}
 use Rattle.calls.proofs.CallerLaws.{sends-above, sends-within}
 use Rattle.rewriting_calls.specs.declared.RewritingAnswer.{RewritingAnswer}
-use Rattle.rewriting_calls.specs.Answered.{recordOf, rewritingCauses, rewritingResponse, CountedAs, RewritingAnswered, RewritingAnsweredTo}
+use Rattle.rewriting_calls.specs.Answered.{recordOf, rewritingResponse, CountedAs, RewritingAnswered, RewritingAnsweredTo}
 
 status-small : (s : Status) → statusNumber s < 256
 unfolding statusNumber
@@ -75,9 +75,6 @@ module _ {call : RewritingCall} {bs heads nexts : List ℕ} {r : Rewritten} {es 
 -- ---- a caller
 
 module _ {call : RewritingCall} {bs out : List ℕ} {caller : ℕ} where
-  abbrev result : List ℕ
-  result = recordOf (resultOf call (decode bs))
-
   pub caller-refused : {status rewrites rounds end : ℕ} → 15 < caller → RewritingAnsweredTo call bs out caller record {
     sent = record { number = 18; length = 0 };
     status = status;
@@ -85,7 +82,7 @@ module _ {call : RewritingCall} {bs out : List ℕ} {caller : ℕ} where
     rounds = rounds;
     end = end;
   } out
-  caller-refused l = record { sent = sends-above (rewritingCauses call bs (length out)) result l; counted = λ z. absurd (omega (arith, z)) }
+  caller-refused l = record { sent = sends-above _ _ l; counted = λ z. absurd (omega (arith, z)) }
 
   pub caller-answered : {r : RewritingAnswer} {out′ : List ℕ} → caller ≤ 15 → RewritingAnswered call bs out r out′ → RewritingAnsweredTo call bs out caller r out′
-  caller-answered l A = record { sent = sends-within (rewritingCauses call bs (length out)) result l (A .sent); counted = A .counted }
+  caller-answered l A = record { sent = sends-within _ _ l (A .sent); counted = A .counted }

@@ -73,7 +73,7 @@ tells-bytes : {x : Response} {out : List ℕ} {a : Answer} {out′ : List ℕ} �
 unfolding D.answer
 tells-bytes S h = record { answer = λ i. record { number = S .number i; length = S .size i }; written = S .written; room = λ l i. h l (sym (S .number) ∙ i) }
 
-module _ (bs list : List ℕ) {out : List ℕ} {caller : ℕ} {a : Answer} {out′ : List ℕ} where
+module _ (bs list : List ℕ) (caller : ℕ) {out : List ℕ} {a : Answer} {out′ : List ℕ} where
   pub reference-tells : Responds (readingResponseTo ReferencePathBytes list bs (length out) caller) out a out′
       → TellsBytes (referencePathBytesResponse bs (length out) caller) out a out′
   unfolding readingResponseTo readingResponse

@@ -9,7 +9,7 @@ returns : tie.Need-returns
 returns c =
     let at-answer : tie.After-answer = search in
     let at-rec : tie.After-shared-slice-known = search in
-    cleans-paths _ _ (λ i. omega (arith, at-rec .shared-slice-known .given i)) (at-answer .answer .ensures)
+    cleans-paths _ _ _ (λ i. omega (arith, at-rec .shared-slice-known .given i)) (at-answer .answer .ensures)
 
 pub clean-non-ref-paths-spec : {M : Type 1} → statement M
 clean-non-ref-paths-spec = tie.close (tie.spec (λ c. search needs) (λ c κs. search needs) (λ c. search needs) returns)
