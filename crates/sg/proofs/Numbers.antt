@@ -56,7 +56,7 @@ module _ {bs out : List ℕ} {caller : ℕ} {out′ : List ℕ} where
   clean-non-ref-paths-number C =
       responds-first (numbers-above (cleanNonRefPathsCauses bs (length out) caller) refl) _ refl (ap (λ (a : D.Answer). a .number) (C .answer))
 
-module _ (bs : List ℕ) {out : List ℕ} {caller : ℕ} {out′ : List ℕ} {r : Answer} where
+module _ (bs : List ℕ) (caller : ℕ) {out out′ : List ℕ} {r : Answer} where
   pub reference-path-bytes-number : TellsBytes (referencePathBytesResponse bs (length out) caller) out r out′
       → IsNumberOf (referencePathBytesCauses bs (length out) caller) (r .number)
   unfolding callerCause referencePathBytesResponse referencePathBytesCauses outputCause recordCauses layoutCauses D.answer allOf
