@@ -13,10 +13,17 @@
  * An edge's flag is 1 for a reference edge, and 2 more for one whose support was capped: a sum of supports in it passed 2^32 - 1. A
  * capped edge stays capped through every call (docs/FORMAT.md).
  *
- * No pointer may be null, also where its length is 0, and what is lent to be written may not overlap what is read. A call keeps
- * nothing, and two may run at once on different memory. A thread of 2 MiB of stack is enough for each.
+ * Every call but sg_vertex_sequence names its caller, 0 to 15, and is counted in the table that is lent to it: sixteen tallies, one
+ * for each caller, 192 bytes. A new table is all zeros. A call raises counts of its own caller and leaves every field of the other
+ * fifteen tallies as it was. So after any row of calls on a table that nothing else writes, a caller's tally is what its own calls
+ * alone, with the same inputs, would have made of it.
  *
- * `number` is 0, or why the call was refused; all other fields of the answer but the tally are 0 then:
+ * No pointer may be null, also where its length is 0, and what is lent to be written, output and table, may overlap neither what is
+ * read nor each other. A call keeps nothing, and two may run at once on different memory. During a call nothing else may read or
+ * write its table: callers on several threads need a table each, or a lock around every call on a table that they share. A thread of
+ * 2 MiB of stack is enough for each call.
+ *
+ * `number` is 0, or why the call was refused; all other fields of the answer are 0 then:
  *
  *    1  under 32 bytes, or not the length it states
  *    2  mark, kind for this call, or status
@@ -32,9 +39,10 @@
  *   15  in conversion, an edge whose k-mers do not overlap: the last k - 1 bytes of from are not the first k - 1 bytes of to. The
  *       program that made the record sets edges between k-mers that do not follow one another: it has to be mended, and the
  *       record made again
+ *   18  the caller's number is above 15. The call is counted nowhere: output and table stay as they were. Name a caller from 0 to 15
  *
- * The causes are asked in this order: 1 to 6, 15, 7 to 11; the number is that of the first one present. 15 is asked by
- * sg_from_assembly_graph alone.
+ * The causes are asked in this order: 18, 1 to 6, 15, 7 to 11; the number is that of the first one present. 15 is asked by
+ * sg_from_assembly_graph alone, and 18 by every call that has a caller.
  */
 #ifndef SEQ_GRAPH_H
 #define SEQ_GRAPH_H
@@ -46,18 +54,22 @@
 extern "C" {
 #endif
 
-/* Calls answered, calls refused, rewrites made in the answered calls: one for all calls, handed in and handed back.
- * Each stops at 2^32 - 1. */
+/* Calls answered, calls refused, and rewrites made in the answered calls, also those of sg_cleanup_seq_graph, whose answer does not
+ * tell them. Each stops at 2^32 - 1. A call refused with 18 is not counted. */
 typedef struct {
     uint32_t answered;
     uint32_t refused;
     uint32_t rewrites;
 } sg_tally;
 
+/* The tally of caller i is callers[i]. A new table is all zeros: sg_tallies table = {0}; */
+typedef struct {
+    sg_tally callers[16];
+} sg_tallies;
+
 typedef struct {
     uint32_t number;
     uint32_t length;
-    sg_tally tally;
 } sg_answer;
 
 /* `end`: 1 quiet, a round without work; 2 repeated, a round that gave the graph of the one before, edges too; 3 full, 100 rounds. */
@@ -67,7 +79,6 @@ typedef struct {
     uint32_t rewrites;
     uint32_t rounds;
     uint32_t end;
-    sg_tally tally;
 } sg_simplify_answer;
 
 /* `status`: 1 just reference, 2 some variation. */
@@ -75,7 +86,6 @@ typedef struct {
     uint32_t number;
     uint32_t length;
     uint32_t status;
-    sg_tally tally;
 } sg_cleanup_answer;
 
 /* Where a vertex's sequence stands in the record, and how long it is: both 0 when refused. */
@@ -84,27 +94,33 @@ typedef struct {
     uint32_t length;
 } sg_sequence_place;
 
-/* A vertex's sequence in a record of either kind: bytes of the record itself. The call is not tallied; its number is put in `number`. */
+/* A vertex's sequence in a record of either kind: bytes of the record itself. The call has no caller and is not counted; its number is
+ * put in `number`. */
 sg_sequence_place sg_vertex_sequence(const uint8_t *record, size_t length, uint32_t vertex, uint32_t *number);
 
 /* A k-mer graph's record to the sequence graph's; refused with 15 where an edge's k-mers do not overlap by k - 1 bytes. */
-sg_answer sg_from_assembly_graph(const uint8_t *record, size_t length, uint8_t *out, size_t room, sg_tally tally);
+sg_answer sg_from_assembly_graph(const uint8_t *record, size_t length, uint8_t *out, size_t room,
+                                 uint32_t caller, sg_tallies *table);
 
 /* A sequence graph's record to that of the simplified graph. */
-sg_simplify_answer sg_simplify_graph(const uint8_t *record, size_t length, uint8_t *out, size_t room, sg_tally tally);
+sg_simplify_answer sg_simplify_graph(const uint8_t *record, size_t length, uint8_t *out, size_t room,
+                                     uint32_t caller, sg_tallies *table);
 
 /* A sequence graph's record to that of the cleaned graph. */
-sg_cleanup_answer sg_cleanup_seq_graph(const uint8_t *record, size_t length, uint8_t *out, size_t room, sg_tally tally);
+sg_cleanup_answer sg_cleanup_seq_graph(const uint8_t *record, size_t length, uint8_t *out, size_t room,
+                                       uint32_t caller, sg_tallies *table);
 
 /* A sequence graph's record to that of the graph without what leads to the reference source or from the reference sink. */
-sg_answer sg_clean_non_ref_paths(const uint8_t *record, size_t length, uint8_t *out, size_t room, sg_tally tally);
+sg_answer sg_clean_non_ref_paths(const uint8_t *record, size_t length, uint8_t *out, size_t room,
+                                 uint32_t caller, sg_tallies *table);
 
 /* The bytes that the graph's reference path spells; refused with 10 where it has none. */
-sg_answer sg_reference_path_bytes(const uint8_t *record, size_t length, uint8_t *out, size_t room, sg_tally tally);
+sg_answer sg_reference_path_bytes(const uint8_t *record, size_t length, uint8_t *out, size_t room,
+                                  uint32_t caller, sg_tallies *table);
 
 /* The bytes of the path that begins at the vertex `start` and goes along `edges`: `count` numbers, from and to of each edge in turn. */
 sg_answer sg_path_bases_bytes(const uint8_t *record, size_t length, uint32_t start, const uint32_t *edges, size_t count,
-                              uint8_t *out, size_t room, sg_tally tally);
+                              uint8_t *out, size_t room, uint32_t caller, sg_tallies *table);
 
 #ifdef __cplusplus
 }
