@@ -6,7 +6,9 @@ import struct
 from collections import namedtuple
 
 import graphs
-from model import Tally, encode_graph, finish, from_assembly_graph, outcome_of, vertex_sequence
+from model import (
+    CALLERS, NO_COUNTS, Tally, answer, encode_graph, finish, from_assembly_graph, outcome_of, vertex_sequence,
+)
 from sgr1 import (
     CALLS, FROM_ASSEMBLY_GRAPH, MAX_U32, PATH_BASES_BYTES, SEQUENCE, VERTEX_SEQUENCE, Refused, encode, read_record,
 )
@@ -14,15 +16,22 @@ from sgr1 import (
 LABEL = 7
 NO_OVERLAP = 15
 SEQUENCE_CALLS = [c for c in CALLS if c not in (VERTEX_SEQUENCE, FROM_ASSEMBLY_GRAPH)]
+# Callers above 15: the next ones; some whose low bits, as in a byte, are a caller's; ends of ranges; some at which twelve bytes for
+# each caller come round to the table in 32 bits.
+STRANGERS = [
+    16, 17, 31, 32, 255, 256, 263, 65536, 65551, 2**28, 2**30, 2**30 + 7, 2**31 - 1, 2**31, 2**31 + 15, MAX_U32 - 15,
+    MAX_U32 - 1, MAX_U32,
+]
 
-Case = namedtuple("Case", "call start room tally record numbers answer")
+# The tally is the caller's before the call, no counts where there is none; answer has the one after it.
+Case = namedtuple("Case", "call start room caller tally record numbers answer")
 
 
 def frame(case):
     a = case.answer
-    head = (case.call, case.start, case.room, *case.tally, a.number, a.length, *a.fields, *a.tally,
+    head = (case.call, case.start, case.room, case.caller, *case.tally, a.number, a.length, *a.fields, *a.tally,
             len(case.record), len(case.numbers), len(a.output))
-    body = struct.pack("<17I", *head) + case.record
+    body = struct.pack("<18I", *head) + case.record
     body += struct.pack("<%dI" % len(case.numbers), *case.numbers) + a.output
     return struct.pack("<I", len(body)) + body
 
@@ -32,7 +41,25 @@ def label_frame(text):
     return struct.pack("<I", len(body)) + body
 
 
-# Rooms and tallies
+# Callers, rooms and tallies
+
+
+def by_caller(case, caller):
+    """The same call by another caller. One above 15 has no tally."""
+    if caller < CALLERS:
+        return case._replace(caller=caller)
+    told = answer(case.call, case.record, case.start, case.numbers, case.room, caller, NO_COUNTS)
+    return case._replace(caller=caller, tally=NO_COUNTS, answer=told)
+
+
+def by_callers(rng, case):
+    """A tallied call by one of the sixteen callers, and now and then also by one above 15."""
+    if case.call == VERTEX_SEQUENCE:
+        yield case
+        return
+    yield by_caller(case, rng.randrange(CALLERS))
+    if rng.random() < 0.2:
+        yield by_caller(case, rng.choice(STRANGERS + [rng.randrange(CALLERS, MAX_U32)]))
 
 
 def random_tally(rng):
@@ -60,17 +87,16 @@ def converted_unasked(record):
 
 
 def cases_of(rng, call, record, start=0, numbers=(), all_rooms=False):
-    """The cases of one input: one, or one for each room."""
+    """The cases of one input: one, or one for each room. The caller is 0."""
     if call == VERTEX_SEQUENCE:
-        tally = Tally(0, 0, 0)
-        return [Case(call, start, 0, tally, record, (), vertex_sequence(record, start, tally))]
+        return [Case(call, start, 0, 0, NO_COUNTS, record, (), vertex_sequence(record, start))]
     outcome = outcome_of(call, record, start, numbers)
     # Refused with 15, it gets the rooms of what it would give else: a call that writes first, or says 11, is seen there.
     measured = converted_unasked(record) if outcome == NO_OVERLAP else outcome
     found = []
     for room in rooms_for(rng, measured, all_rooms):
         tally = random_tally(rng)
-        found.append(Case(call, start, room, tally, record, tuple(numbers), finish(outcome, room, tally)))
+        found.append(Case(call, start, room, 0, tally, record, tuple(numbers), finish(outcome, room, tally)))
     return found
 
 

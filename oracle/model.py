@@ -15,9 +15,13 @@ ZIP, DIAMOND, TAILS, SPLIT, MERGE = range(5)
 MIN_TAIL_SUFFIX = 10
 MAX_ROUNDS = 100
 FIRST_SIGNED_ROUND = 7
+CALLERS = 16
+UNKNOWN_CALLER = 18
 
 Tally = namedtuple("Tally", "answered refused rewrites")
-# fields: what a call's result holds behind the length, filled up with 0 to three numbers.
+NO_COUNTS = Tally(0, 0, 0)
+# fields: what a call's result holds behind the length, filled up with 0 to three numbers. tally: that of the caller after the
+# call, no counts where there is none. All else in the table of tallies stays as it was.
 Answer = namedtuple("Answer", "number length fields tally output")
 
 
@@ -504,15 +508,19 @@ def made(call, data, start, numbers):
     return path_bases(g, start, numbers), (0, 0, 0), 0
 
 
-def vertex_sequence(data, vertex, tally):
-    """The one call without tally and output: its part of the record stands in the place of the output."""
+def refusal(number, tally):
+    return Answer(number, 0, (0, 0, 0), tally, b"")
+
+
+def vertex_sequence(data, vertex):
+    """The one call without caller and output: its part of the record stands in the place of the output."""
     try:
         record = read_record(VERTEX_SEQUENCE, data)
         require(vertex < len(record.parts), 9)
     except Refused as refused:
-        return Answer(refused.number, 0, (0, 0, 0), tally, b"")
+        return refusal(refused.number, NO_COUNTS)
     at, length = record.parts[vertex]
-    return Answer(0, length, (at, 0, 0), tally, data[at : at + length])
+    return Answer(0, length, (at, 0, 0), NO_COUNTS, data[at : at + length])
 
 
 def counted(tally, refused, rewrites):
@@ -521,10 +529,10 @@ def counted(tally, refused, rewrites):
 
 
 def finish(outcome, room, tally):
-    """Closes a call: the outcome of `made`, or a refusal's number."""
+    """Closes a call of a caller with this tally: the outcome of `made`, or a refusal's number."""
     number = outcome if isinstance(outcome, int) else 11 if room < len(outcome[0]) else 0
     if number:
-        return Answer(number, 0, (0, 0, 0), counted(tally, True, 0), b"")
+        return refusal(number, counted(tally, True, 0))
     output, fields, rewrites = outcome
     return Answer(0, len(output), fields, counted(tally, False, rewrites), output)
 
@@ -536,7 +544,10 @@ def outcome_of(call, data, start, numbers):
         return refused.number
 
 
-def answer(call, data, start, numbers, room, tally):
+def answer(call, data, start, numbers, room, caller, tally):
+    """tally is the caller's before the call. Before all else a caller without a tally is refused, and not counted."""
     if call == VERTEX_SEQUENCE:
-        return vertex_sequence(data, start, tally)
+        return vertex_sequence(data, start)
+    if caller >= CALLERS:
+        return refusal(UNKNOWN_CALLER, NO_COUNTS)
     return finish(outcome_of(call, data, start, numbers), room, tally)

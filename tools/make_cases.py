@@ -4,7 +4,8 @@
     tools/make_cases.py short|long [SEED]
 
 The layout of a case is the one of tools/make_vectors.py; a frame of number 7 names the cases after it,
-and the last one says "end".
+and the last one says "end". Each tallied call is made by one of the sixteen callers, and about each fifth once
+more by a caller above 15.
 """
 import os
 import random
@@ -26,6 +27,8 @@ TIMES = {"short": 1, "long": 30}
 KS = [2, 3, 5, 8, 11, 25, 40]
 # The calls that take k-mers.
 KMER_CALLS = (sgr1.VERTEX_SEQUENCE, sgr1.FROM_ASSEMBLY_GRAPH)
+# Who calls: drawn apart, so that what is drawn for the inputs does not depend on it.
+CALLERS = random.Random()
 
 
 def many(count, make):
@@ -82,7 +85,8 @@ def kmer_graphs(rng):
 def emit(label, found):
     sys.stdout.buffer.write(cases.label_frame(label))
     for case in found:
-        sys.stdout.buffer.write(cases.frame(case))
+        for called in cases.by_callers(CALLERS, case):
+            sys.stdout.buffer.write(cases.frame(called))
 
 
 def emit_by_chance(rng):
@@ -180,6 +184,7 @@ def main():
         sys.exit(__doc__)
     mode, seed = sys.argv[1], sys.argv[2] if len(sys.argv) == 3 else "1"
     rng = random.Random("cases, seed " + seed)
+    CALLERS.seed("callers, seed " + seed)
     emit_by_hand(rng)
     emit_limits(rng)
     emit_large(rng, mode)

@@ -7,18 +7,20 @@ The list is the same on every run. Each graph and string in it was made by the R
 (oracle/model.py) was equal to it; numbers, counts of rewrites and tallies are the model's. Whether k-mers overlap and
 whether they have a cycle the Rust's own check has said as well.
 
-A file is a row of cases. All numbers have four bytes and are little-endian. A case has at most 65,536 bytes:
+A file is a row of cases. All numbers have four bytes and are little-endian. A case has at most 65,536 bytes, eighteen
+numbers behind the first:
 
     the length of the rest of the case
     call          0 vertex_sequence, 1 from_assembly_graph, 2 simplify_graph, 3 cleanup_seq_graph,
                   4 clean_non_ref_paths, 5 reference_path_bytes, 6 path_bases_bytes
     start         the start of call 6, the vertex of call 0, else 0
     room          length of the lent output, at most 65,536; 0 in call 0
-    answered, refused, rewrites      the tally handed in; 0 in call 0
+    caller        0 in call 0
+    answered, refused, rewrites      the caller's tally before the call; 0 for a caller above 15, and in call 0
     number, length                   the answer
     field 1, field 2, field 3        rewrites, rounds, end of call 2; status, 0, 0 of call 3;
                                      offset in the record, 0, 0 of call 0; else 0
-    answered, refused, rewrites      the tally handed back, in call 0 as handed in
+    answered, refused, rewrites      the caller's tally after the call; 0 for a caller above 15, and in call 0
     record length, count of list numbers, output length
     the record's bytes
     the list's numbers (call 6)
@@ -26,8 +28,10 @@ A file is a row of cases. All numbers have four bytes and are little-endian. A c
                   the record that is handed back
 
 Before the call every byte of the lent output is 0xA5, and those behind `length` are so afterwards: all of
-them when the call is refused.
+them when the call is refused. The tallies of the other callers i, 0 to 15, hold 3i + 1 answered, 3i + 2 refused and
+3i + 3 rewrites before the call and after it: all sixteen where the caller is above 15.
 """
+import itertools
 import os
 import random
 import sys
@@ -52,10 +56,16 @@ NAMES = [
 ]
 KS = [2, 3, 5, 8, 11, 25]
 RECORD_NUMBERS = set(range(8))
+TALLIED_NUMBERS = RECORD_NUMBERS | {11, model.UNKNOWN_CALLER}
 NUMBERS = [
-    RECORD_NUMBERS | {9}, RECORD_NUMBERS | {8, 11, 15}, RECORD_NUMBERS | {11}, RECORD_NUMBERS | {11},
-    RECORD_NUMBERS | {11}, RECORD_NUMBERS | {10, 11}, RECORD_NUMBERS | {9, 11},
+    RECORD_NUMBERS | {9}, TALLIED_NUMBERS | {8, 15}, TALLIED_NUMBERS, TALLIED_NUMBERS,
+    TALLIED_NUMBERS, TALLIED_NUMBERS | {10}, TALLIED_NUMBERS | {9},
 ]
+# Callers whose tallies come to their ends: the first, one between, the last.
+FULL_CALLERS = (0, 7, 15)
+ENDS = (sgr1.MAX_U32 - 1, sgr1.MAX_U32)
+# Of each number so many cases are made again by callers above 15.
+STRANGE_CASES = 9
 
 
 def random_graphs(rng):
@@ -215,10 +225,49 @@ def overlap(rng, call):
         yield from overlap_by_chance(rng, call)
 
 
-def stored(call):
+def drafts(call):
+    """The inputs, in an order that the callers have no part in; the caller is 0."""
     rng = random.Random("stored list, call %d" % call)
     for part in (by_hand, by_chance, faulty, at_limits, settling, capped, flags, overlap):
         yield from part(rng, call)
+
+
+def full_input(call):
+    """Record and list of an input that is answered, by simplification and cleanup with several rewrites."""
+    if call == sgr1.FROM_ASSEMBLY_GRAPH:
+        return graphs.kmer_record(*examples.KMER_GRAPHS[2]), ()
+    numbers = (0, 1, 1, 3) if call == sgr1.PATH_BASES_BYTES else ()
+    return sgr1.encode(sgr1.SEQUENCE, 0, 10, *examples.NINE[0]), numbers
+
+
+def full_tallies(call):
+    """Every count at its end and one before it: an answer, one that the output is too short for, a record cut short."""
+    record, numbers = full_input(call)
+    exact = len(model.outcome_of(call, record, 0, numbers)[0])
+    for caller, count in itertools.product(FULL_CALLERS, ENDS):
+        tally = model.Tally(count, count, count)
+        for data, room in ((record, exact), (record, exact - 1), (record[:-1], exact)):
+            answer = model.answer(call, data, 0, numbers, room, caller, tally)
+            yield cases.Case(call, 0, room, caller, tally, data, numbers, answer)
+
+
+def by_strangers(rng, call, found):
+    """Of each number that the call gives some cases again, by callers above 15; of long ones only two."""
+    strangers = itertools.cycle(cases.STRANGERS)
+    for number in sorted(NUMBERS[call]):
+        of_number = [c for c in found if c.answer.number == number]
+        some = [c for c in of_number if len(c.record) < 1000] or of_number[:2]
+        for case in rng.sample(some, min(STRANGE_CASES, len(some))):
+            yield cases.by_caller(case, next(strangers))
+
+
+def stored(call):
+    if call == sgr1.VERTEX_SEQUENCE:
+        return list(drafts(call))
+    callers = random.Random("callers of the stored list, call %d" % call)
+    found = [cases.by_caller(c, callers.randrange(model.CALLERS)) for c in drafts(call)]
+    found += full_tallies(call)
+    return found + list(by_strangers(callers, call, found))
 
 
 def check_numbers(call, found):
@@ -226,17 +275,29 @@ def check_numbers(call, found):
     assert not missing, "call %d: these numbers are missing or impossible: %s" % (call, missing)
 
 
+def check_callers(call, found):
+    """Every caller, and every one of those above 15, has a case; call 0 has none."""
+    expected = [0] if call == sgr1.VERTEX_SEQUENCE else [*range(model.CALLERS), *cases.STRANGERS]
+    assert sorted({c.caller for c in found}) == expected, call
+
+
+def raised(case):
+    """By how much the call raises each count."""
+    if case.answer.number:
+        return model.Tally(0, 1, 0)
+    return model.Tally(1, 0, model.outcome_of(case.call, case.record, case.start, case.numbers)[2])
+
+
 def check_tallies(call, found):
-    """Each count of the tally stops at its end at least once; call 0 has none."""
-    full = sgr1.MAX_U32
-    stopped = set()
+    """Each count that the call raises stops at its end, and comes to it, in tallies of each of FULL_CALLERS."""
+    counts = model.Tally._fields if call in (sgr1.SIMPLIFY_GRAPH, sgr1.CLEANUP_SEQ_GRAPH) else ("answered", "refused")
+    expected = set() if call == sgr1.VERTEX_SEQUENCE else set(itertools.product(FULL_CALLERS, counts, ENDS))
+    seen = set()
     for c in found:
-        rewrites = c.answer.fields[0] if call == sgr1.SIMPLIFY_GRAPH else 0
-        stopped |= {"answered"} if c.tally.answered == full and c.answer.number == 0 else set()
-        stopped |= {"refused"} if c.tally.refused == full and c.answer.number != 0 else set()
-        stopped |= {"rewrites"} if c.tally.rewrites + rewrites > full else set()
-    expected = {"answered", "refused"} | ({"rewrites"} if call == sgr1.SIMPLIFY_GRAPH else set())
-    assert call == sgr1.VERTEX_SEQUENCE or stopped == expected, (call, stopped)
+        if c.caller in FULL_CALLERS and set(ENDS) & set(c.tally):
+            for name, before, more in zip(model.Tally._fields, c.tally, raised(c)):
+                seen |= {(c.caller, name, before)} if more and before in ENDS else set()
+    assert seen == expected, (call, expected ^ seen)
 
 
 def check_kinds(found):
@@ -270,11 +331,12 @@ def main():
     rust, total, everything = Rust(), 0, []
     os.makedirs(sys.argv[1], exist_ok=True)
     for call in sgr1.CALLS:
-        found = list(stored(call))
+        found = stored(call)
         for case in found:
             assert len(cases.frame(case)) <= MAX_CASE and case.room <= MAX_CASE
             rust.check(case)
         check_numbers(call, found)
+        check_callers(call, found)
         check_tallies(call, found)
         total += write(sys.argv[1], call, found)
         everything += found

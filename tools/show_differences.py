@@ -102,7 +102,7 @@ def show_settling(driver, graph, expected):
     record = sgr1.encode(sgr1.SEQUENCE, 0, 10, *graph)
     made = ask(driver, rust.UNCHANGED_SIMPLIFY_GRAPH, record).stdout
     rounds, end = struct.unpack_from("<2I", made, 12)
-    here = model.answer(SIMPLIFY, record, 0, (), 10**6, model.Tally(0, 0, 0))
+    here = model.answer(SIMPLIFY, record, 0, (), 10**6, 0, model.NO_COUNTS)
     same = made[20:] == here.output
     as_written = (rounds, here.fields[1], same) == expected and end == here.fields[2] == model.REPEATED
     note = "" if as_written else "  NOT AS WRITTEN"
@@ -117,7 +117,7 @@ def main():
     wrong = 0
     for x in INPUTS:
         got = ask_rust(driver, x)
-        number = model.answer(x.call, record_of(x), x.start, x.numbers, 10**6, model.Tally(0, 0, 0)).number
+        number = model.answer(x.call, record_of(x), x.start, x.numbers, 10**6, 0, model.NO_COUNTS).number
         as_written = got == x.expected and number == x.number
         wrong += not as_written
         note = "" if as_written else "  NOT AS WRITTEN"
