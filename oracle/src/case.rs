@@ -4,9 +4,9 @@ use std::io::{self, ErrorKind, Read};
 
 /// The number of a frame that names the cases after it; its text stands where a record would.
 pub const LABEL: u32 = 7;
-const WORDS: usize = 17;
+const WORDS: usize = 18;
 
-#[derive(Debug, Clone, Copy, PartialEq, Eq)]
+#[derive(Debug, Clone, Copy, Default, PartialEq, Eq)]
 #[repr(C)]
 pub struct Tally {
     pub answered: u32,
@@ -14,8 +14,9 @@ pub struct Tally {
     pub rewrites: u32,
 }
 
-/// What a call answers: `fields` are the result fields behind the length, 0 where it has none.
-#[derive(Debug, Clone, PartialEq, Eq)]
+/// What a call answers: `fields` are the result fields behind the length, 0 where it has none. `tally` is the caller's after
+/// the call, zeros where there is none.
+#[derive(Debug, Clone, Default, PartialEq, Eq)]
 pub struct Answer {
     pub number: u32,
     pub length: u32,
@@ -28,6 +29,8 @@ pub struct Case {
     pub call: u32,
     pub start: u32,
     pub room: usize,
+    pub caller: u32,
+    /// The caller's before the call.
     pub tally: Tally,
     pub record: Vec<u8>,
     pub list: Vec<u32>,
@@ -53,21 +56,22 @@ pub fn words(bytes: &[u8]) -> Vec<u32> {
 pub fn parse(frame: &[u8]) -> Case {
     let w = words(&frame[..4 * WORDS]);
     let tally = |at: usize| Tally { answered: w[at], refused: w[at + 1], rewrites: w[at + 2] };
-    let record_end = 4 * WORDS + w[14] as usize;
-    let list_end = record_end + 4 * w[15] as usize;
-    assert!(frame.len() == list_end + w[16] as usize, "a case of another length than it states");
+    let record_end = 4 * WORDS + w[15] as usize;
+    let list_end = record_end + 4 * w[16] as usize;
+    assert!(frame.len() == list_end + w[17] as usize, "a case of another length than it states");
     Case {
         call: w[0],
         start: w[1],
         room: w[2] as usize,
-        tally: tally(3),
+        caller: w[3],
+        tally: tally(4),
         record: frame[4 * WORDS..record_end].to_vec(),
         list: words(&frame[record_end..list_end]),
         expected: Answer {
-            number: w[6],
-            length: w[7],
-            fields: [w[8], w[9], w[10]],
-            tally: tally(11),
+            number: w[7],
+            length: w[8],
+            fields: [w[9], w[10], w[11]],
+            tally: tally(12),
             output: frame[list_end..].to_vec(),
         },
     }

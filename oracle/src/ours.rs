@@ -2,10 +2,39 @@
 // Which parts of this file are in use is that list's choice.
 #![allow(dead_code)]
 use crate::case::{Answer, Case, Tally};
+use std::array::from_fn;
 
 /// What the lent output holds before a call, also behind its end, where nothing may be written.
 pub const FILL: u8 = 0xA5;
 const GUARD: usize = 64;
+
+pub type Table = [Tally; 16];
+
+/// The table that is lent, between two others that no call may write.
+#[derive(Debug, PartialEq, Eq)]
+pub struct Tables([Table; 3]);
+
+impl Tables {
+    /// The caller's tally is this one, the others are those of every stored case. A caller above 15 has none.
+    pub fn new(caller: u32, tally: Tally) -> Tables {
+        let others =
+            from_fn(|i| 3 * i as u32).map(|n| Tally { answered: n + 1, refused: n + 2, rewrites: n + 3 });
+        let mut tables = Tables([others; 3]);
+        if let Some(own) = tables.0[1].get_mut(caller as usize) {
+            *own = tally;
+        }
+        tables
+    }
+
+    /// The caller's tally; zeros for a caller above 15.
+    fn tally_of(&self, caller: u32) -> Tally {
+        self.0[1].get(caller as usize).copied().unwrap_or_default()
+    }
+
+    fn lent(&mut self) -> *mut Table {
+        self.0.as_mut_ptr().wrapping_add(1)
+    }
+}
 
 #[repr(C)]
 pub struct Part {
@@ -17,7 +46,6 @@ pub struct Part {
 pub struct Plain {
     number: u32,
     length: u32,
-    tally: Tally,
 }
 
 #[repr(C)]
@@ -27,7 +55,6 @@ pub struct Simplified {
     rewrites: u32,
     rounds: u32,
     end: u32,
-    tally: Tally,
 }
 
 #[repr(C)]
@@ -35,7 +62,6 @@ pub struct Cleaned {
     number: u32,
     length: u32,
     status: u32,
-    tally: Tally,
 }
 
 mod sg {
@@ -49,35 +75,40 @@ mod sg {
             length: usize,
             out: Out,
             room: usize,
-            tally: Tally,
+            caller: u32,
+            table: *mut Table,
         ) -> Plain;
         pub fn sg_simplify_graph(
             record: Bytes,
             length: usize,
             out: Out,
             room: usize,
-            tally: Tally,
+            caller: u32,
+            table: *mut Table,
         ) -> Simplified;
         pub fn sg_cleanup_seq_graph(
             record: Bytes,
             length: usize,
             out: Out,
             room: usize,
-            tally: Tally,
+            caller: u32,
+            table: *mut Table,
         ) -> Cleaned;
         pub fn sg_clean_non_ref_paths(
             record: Bytes,
             length: usize,
             out: Out,
             room: usize,
-            tally: Tally,
+            caller: u32,
+            table: *mut Table,
         ) -> Plain;
         pub fn sg_reference_path_bytes(
             record: Bytes,
             length: usize,
             out: Out,
             room: usize,
-            tally: Tally,
+            caller: u32,
+            table: *mut Table,
         ) -> Plain;
         pub fn sg_path_bases_bytes(
             record: Bytes,
@@ -87,31 +118,32 @@ mod sg {
             count: usize,
             out: Out,
             room: usize,
-            tally: Tally,
+            caller: u32,
+            table: *mut Table,
         ) -> Plain;
     }
 }
 
 impl Plain {
     fn answer(self) -> Answer {
-        answer(self.number, self.length, [0; 3], self.tally)
+        answer(self.number, self.length, [0; 3])
     }
 }
 
 impl Simplified {
     fn answer(self) -> Answer {
-        answer(self.number, self.length, [self.rewrites, self.rounds, self.end], self.tally)
+        answer(self.number, self.length, [self.rewrites, self.rounds, self.end])
     }
 }
 
 impl Cleaned {
     fn answer(self) -> Answer {
-        answer(self.number, self.length, [self.status, 0, 0], self.tally)
+        answer(self.number, self.length, [self.status, 0, 0])
     }
 }
 
-fn answer(number: u32, length: u32, fields: [u32; 3], tally: Tally) -> Answer {
-    Answer { number, length, fields, tally, output: Vec::new() }
+fn answer(number: u32, length: u32, fields: [u32; 3]) -> Answer {
+    Answer { number, length, fields, ..Answer::default() }
 }
 
 /// The library's answer, its output read from the lent bytes. None: the call is not linked.
@@ -119,13 +151,17 @@ pub fn run(case: &Case) -> Option<Result<Answer, String>> {
     let record = case.record.clone();
     let list = case.list.clone();
     let mut lent = vec![FILL; case.room + GUARD];
-    let mut got = call(case, &record, &list, &mut lent)?;
+    let mut tables = Tables::new(case.caller, case.tally);
+    let mut got = call(case, &record, &list, &mut lent, &mut tables)?;
     if record != case.record || list != case.list {
         return Some(Err("the call changed what it was lent to read".to_string()));
     }
     let written = if case.call == 0 { 0 } else { got.length as usize };
     if written > case.room || lent[written..].iter().any(|&b| b != FILL) {
         return Some(Err(format!("bytes behind the first {written} of the output were written")));
+    }
+    if tables != Tables::new(case.caller, got.tally) {
+        return Some(Err(format!("more than the caller's tally was written: {tables:?}")));
     }
     if case.call != 0 {
         lent.truncate(written);
@@ -135,39 +171,51 @@ pub fn run(case: &Case) -> Option<Result<Answer, String>> {
 }
 
 /// The call itself; the answer's output stays in the lent bytes. None: the call is not linked.
+pub fn call(
+    case: &Case,
+    record: &[u8],
+    list: &[u32],
+    lent: &mut [u8],
+    tables: &mut Tables,
+) -> Option<Answer> {
+    let mut got = linked_call(case, record, list, lent, tables.lent())?;
+    got.tally = tables.tally_of(case.caller);
+    Some(got)
+}
+
 #[allow(unused_variables)]
-pub fn call(case: &Case, record: &[u8], list: &[u32], lent: &mut [u8]) -> Option<Answer> {
-    let (r, n, o, room, t) = (record.as_ptr(), record.len(), lent.as_mut_ptr(), case.room, case.tally);
-    // The pointers and lengths are those of the slices above, and the calls ask nothing more.
+fn linked_call(case: &Case, record: &[u8], list: &[u32], lent: &mut [u8], t: *mut Table) -> Option<Answer> {
+    let (r, n, o, room, who) = (record.as_ptr(), record.len(), lent.as_mut_ptr(), case.room, case.caller);
+    // The pointers and lengths are those of the slices above and of the table; the calls ask nothing more.
     match case.call {
         #[cfg(sg_vertex_sequence)]
         0 => Some(vertex_sequence(case, record)),
         #[cfg(sg_from_assembly_graph)]
-        1 => Some(unsafe { sg::sg_from_assembly_graph(r, n, o, room, t) }.answer()),
+        1 => Some(unsafe { sg::sg_from_assembly_graph(r, n, o, room, who, t) }.answer()),
         #[cfg(sg_simplify_graph)]
-        2 => Some(unsafe { sg::sg_simplify_graph(r, n, o, room, t) }.answer()),
+        2 => Some(unsafe { sg::sg_simplify_graph(r, n, o, room, who, t) }.answer()),
         #[cfg(sg_cleanup_seq_graph)]
-        3 => Some(unsafe { sg::sg_cleanup_seq_graph(r, n, o, room, t) }.answer()),
+        3 => Some(unsafe { sg::sg_cleanup_seq_graph(r, n, o, room, who, t) }.answer()),
         #[cfg(sg_clean_non_ref_paths)]
-        4 => Some(unsafe { sg::sg_clean_non_ref_paths(r, n, o, room, t) }.answer()),
+        4 => Some(unsafe { sg::sg_clean_non_ref_paths(r, n, o, room, who, t) }.answer()),
         #[cfg(sg_reference_path_bytes)]
-        5 => Some(unsafe { sg::sg_reference_path_bytes(r, n, o, room, t) }.answer()),
+        5 => Some(unsafe { sg::sg_reference_path_bytes(r, n, o, room, who, t) }.answer()),
         #[cfg(sg_path_bases_bytes)]
         6 => {
             let (e, m) = (list.as_ptr(), list.len());
-            Some(unsafe { sg::sg_path_bases_bytes(r, n, case.start, e, m, o, room, t) }.answer())
+            Some(unsafe { sg::sg_path_bases_bytes(r, n, case.start, e, m, o, room, who, t) }.answer())
         }
         _ => None,
     }
 }
 
-/// The call is not tallied; the part that it names is read from the record.
+/// The call has no caller; the part that it names is read from the record.
 #[cfg(sg_vertex_sequence)]
 fn vertex_sequence(case: &Case, record: &[u8]) -> Answer {
     let mut number = u32::MAX;
     let part = unsafe { sg::sg_vertex_sequence(record.as_ptr(), record.len(), case.start, &mut number) };
     let (at, end) = (part.offset as usize, part.offset as usize + part.length as usize);
-    let mut got = answer(number, part.length, [part.offset, 0, 0], case.tally);
+    let mut got = answer(number, part.length, [part.offset, 0, 0]);
     got.output = record.get(at..end).unwrap_or_default().to_vec();
     got
 }

@@ -9,7 +9,7 @@
 //! to record: its graph is built from the record, by its own functions, and written.
 use oracle::case::{read_frame, words, Answer, Case, Tally};
 use oracle::oracle::{CLEANUP_SEQ_GRAPH, FROM_ASSEMBLY_GRAPH, SIMPLIFY_GRAPH};
-use oracle::ours;
+use oracle::ours::{self, Tables};
 use oracle::record::{assembly_graph, seq_graph, write};
 use oracle::seq_graph::{SeqGraph, SeqGraphCleanupStatus};
 use oracle::seq_graph_simplify::simplify_graph_full;
@@ -65,21 +65,22 @@ fn timed(work: impl FnOnce()) -> Duration {
 
 /// Our call's time, its answer and what it wrote.
 fn time_ours(record: &Record) -> ((f64, usize), Answer, Vec<u8>) {
-    let none = Tally { answered: 0, refused: 0, rewrites: 0 };
-    let nothing = Answer { number: 0, length: 0, fields: [0; 3], tally: none, output: vec![] };
     let case = Case {
         call: record.call,
         start: 0,
         room: ROOM,
-        tally: none,
+        caller: 0,
+        tally: Tally::default(),
         record: record.bytes.clone(),
         list: vec![],
-        expected: nothing.clone(),
+        expected: Answer::default(),
     };
-    let (mut out, mut answer) = (vec![0; ROOM], nothing);
+    let (mut out, mut answer) = (vec![0; ROOM], Answer::default());
     let time = median(|| {
+        let mut tables = Tables::new(case.caller, case.tally);
         timed(|| {
-            answer = ours::call(&case, &case.record, &[], &mut out).expect("a call that calls.txt names")
+            let got = ours::call(&case, &case.record, &[], &mut out, &mut tables);
+            answer = got.expect("a call that calls.txt names")
         })
     });
     assert!(answer.number == 0, "{}: refused {}", record.name, answer.number);

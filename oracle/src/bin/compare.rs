@@ -116,9 +116,9 @@ fn show_answer(a: &Answer) -> String {
 }
 
 fn show_input(case: &Case) -> String {
-    let (call, start, room, list, tally) = (case.call, case.start, case.room, &case.list, case.tally);
-    let record = hex(&case.record);
-    format!("call {call} start {start} room {room} list {list:?} {tally:?} record {record}")
+    let (call, start, room, list) = (case.call, case.start, case.room, &case.list);
+    let (caller, tally, record) = (case.caller, case.tally, hex(&case.record));
+    format!("call {call} start {start} room {room} list {list:?} caller {caller} {tally:?} record {record}")
 }
 
 fn differ(case: &Case, who: &str, what: &str) -> ! {
