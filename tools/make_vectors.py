@@ -13,7 +13,7 @@ numbers behind the first:
     the length of the rest of the case
     call          0 vertex_sequence, 1 from_assembly_graph, 2 simplify_graph, 3 cleanup_seq_graph,
                   4 clean_non_ref_paths, 5 reference_path_bytes, 6 path_bases_bytes
-    start         the start of call 6, the vertex of call 0, else 0
+    start         the start of call 6, the vertex of call 0; the other calls have none
     room          length of the lent output, at most 65,536; 0 in call 0
     caller        0 in call 0
     answered, refused, rewrites      the caller's tally before the call; 0 for a caller above 15, and in call 0
