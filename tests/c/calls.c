@@ -1,13 +1,26 @@
-/* Goes through each call of libsg.a: an answer, a refusal with too little room, and one with another cause. */
+/*
+ * Goes through each call of libsg.a: an answer, a refusal with too little room, one with another cause, one of a caller
+ * above 15. Each time the whole table of tallies is looked at, and the memory beside it.
+ */
 #undef NDEBUG
 #include "../../include/seq_graph.h"
 #include "records.h"
 #include <assert.h>
 #include <stdio.h>
 
-enum { ROOM = 512, FILL = 0xA5 };
+_Static_assert(sizeof(sg_tally) == 12 && sizeof(sg_tallies) == 192, "tallies without a gap");
+_Static_assert(offsetof(sg_tally, answered) == 0 && offsetof(sg_tally, refused) == 4, "counts in their order");
+_Static_assert(offsetof(sg_tally, rewrites) == 8, "counts in their order");
+_Static_assert(sizeof(sg_answer) == 8 && sizeof(sg_simplify_answer) == 20, "answers without a tally");
+_Static_assert(sizeof(sg_cleanup_answer) == 12, "answers without a tally");
+
+enum { ROOM = 512, FILL = 0xA5, CALLERS = 16 };
 
 static uint8_t rec[ROOM], want[ROOM], out[ROOM];
+
+/* The table that is lent to calls is the middle one; the others stand beside it, and no call may write them. */
+static sg_tallies tables[3];
+static sg_tallies *const table = &tables[1];
 
 static void fill(void) { memset(out, FILL, ROOM); }
 
@@ -17,8 +30,23 @@ static void check_output(size_t n) {
     for (size_t i = n; i < ROOM; i++) assert(out[i] == FILL);
 }
 
-static void check_tally(sg_tally t, uint32_t answered, uint32_t refused, uint32_t rewrites) {
-    assert(t.answered == answered && t.refused == refused && t.rewrites == rewrites);
+/* Three tables of counts that all differ; then the caller's in the middle one are these, unless it is above 15. */
+static void set_tables(sg_tallies *at, uint32_t caller, sg_tally own) {
+    for (uint32_t i = 0; i < 3 * CALLERS; i++) {
+        at[i / CALLERS].callers[i % CALLERS] = (sg_tally){3 * i + 1001, 3 * i + 1002, 3 * i + 1003};
+    }
+    if (caller < CALLERS) at[1].callers[caller] = own;
+}
+
+static void lend(uint32_t caller, uint32_t answered, uint32_t refused, uint32_t rewrites) {
+    set_tables(tables, caller, (sg_tally){answered, refused, rewrites});
+}
+
+/* These are the caller's counts, and all else in the three tables is as it was lent. */
+static void check_tables(uint32_t caller, uint32_t answered, uint32_t refused, uint32_t rewrites) {
+    sg_tallies due[3];
+    set_tables(due, caller, (sg_tally){answered, refused, rewrites});
+    assert(memcmp(tables, due, sizeof due) == 0);
 }
 
 /* Case 1 of docs/METHOD.md, section 10: a diamond. */
@@ -44,19 +72,19 @@ static void test_simplify_graph(void) {
     const char *sequences[] = {"AAC", "T", "A", "GTT"};
     const edge edges[] = {{0, 1, 5, 1}, {0, 2, 2, 0}, {1, 3, 5, 1}, {2, 3, 2, 0}};
     size_t length = diamond(rec), n = write_record(want, SEQUENCES, 10, 4, sequences, 4, edges);
-    sg_tally t = {7, 8, UINT32_MAX - 1};
+    lend(15, 7, 8, 9);
     fill();
-    sg_simplify_answer a = sg_simplify_graph(rec, length, out, n, t);
+    sg_simplify_answer a = sg_simplify_graph(rec, length, out, n, 15, table);
     assert(a.number == 0 && a.length == n && a.rewrites == 3 && a.rounds == 2 && a.end == 1);
-    check_tally(a.tally, 8, 8, UINT32_MAX);
+    check_tables(15, 8, 8, 12);
     check_output(n);
     fill();
-    a = sg_simplify_graph(rec, length, out, n - 1, a.tally);
+    a = sg_simplify_graph(rec, length, out, n - 1, 15, table);
     assert(a.number == 11 && a.length == 0 && a.rewrites == 0 && a.rounds == 0 && a.end == 0);
-    check_tally(a.tally, 8, 9, UINT32_MAX);
-    a = sg_simplify_graph(rec, length - 1, out, ROOM, a.tally);
+    check_tables(15, 8, 9, 12);
+    a = sg_simplify_graph(rec, length - 1, out, ROOM, 15, table);
     assert(a.number == 1);
-    check_tally(a.tally, 8, 10, UINT32_MAX);
+    check_tables(15, 8, 10, 12);
     check_output(0);
 }
 
@@ -78,19 +106,18 @@ static void test_capped(void) {
         {{1, 3, 3, 2}, {1, 4, 4, 0}, 7, 2},
     };
     const char *sequences[] = {"T", "C", "AG"};
-    sg_tally t = {0, 0, 0};
     for (int i = 0; i < 3; i++) {
         size_t length = joined(rec, cases[i].first, cases[i].second);
         const edge edges[] = {{0, 1, 1, 0}, {0, 2, cases[i].support, cases[i].flag}};
         size_t n = write_record(want, SEQUENCES, 10, 3, sequences, 2, edges);
         fill();
-        sg_simplify_answer a = sg_simplify_graph(rec, length, out, ROOM, t);
+        sg_simplify_answer a = sg_simplify_graph(rec, length, out, ROOM, 0, table);
         assert(a.number == 0 && a.length == n);
         check_output(n);
     }
     size_t length = joined(rec, (edge){1, 3, 1, 4}, (edge){1, 4, 1, 0});
     fill();
-    assert(sg_simplify_graph(rec, length, out, ROOM, t).number == 5);
+    assert(sg_simplify_graph(rec, length, out, ROOM, 0, table).number == 5);
     check_output(0);
 }
 
@@ -101,10 +128,9 @@ static void test_answer_past_the_limits(void) {
     const edge edges[] = {{0, 1, 1, 0}, {0, 2, 1, 0}};
     for (int i = 3; i < 2048; i++) sequences[i] = "";
     size_t length = write_record(in, SEQUENCES, 10, 2048, sequences, 2, edges);
-    sg_tally t = {0, 0, 0};
-    sg_simplify_answer a = sg_simplify_graph(in, length, answer, sizeof answer, t);
+    sg_simplify_answer a = sg_simplify_graph(in, length, answer, sizeof answer, 0, table);
     assert(length == sizeof in && a.number == 0 && a.rewrites == 1 && answer[8] + 256 * answer[9] == 2049);
-    assert(sg_simplify_graph(answer, a.length, in, sizeof in, t).number == 3);
+    assert(sg_simplify_graph(answer, a.length, in, sizeof in, 0, table).number == 3);
 }
 
 static void test_from_assembly_graph(void) {
@@ -112,18 +138,18 @@ static void test_from_assembly_graph(void) {
     const edge edges[] = {{1, 0, 5, 1}, {1, 2, 2, 0}}, sorted[] = {{1, 2, 2, 0}, {1, 0, 5, 1}};
     size_t length = write_record(rec, KMERS, 3, 3, kmers, 2, edges);
     size_t n = write_record(want, SEQUENCES, 3, 3, sequences, 2, sorted);
-    sg_tally t = {0, 0, 0};
+    lend(0, 0, 0, 0);
     fill();
-    sg_answer a = sg_from_assembly_graph(rec, length, out, ROOM, t);
+    sg_answer a = sg_from_assembly_graph(rec, length, out, ROOM, 0, table);
     assert(a.number == 0 && a.length == n);
-    check_tally(a.tally, 1, 0, 0);
+    check_tables(0, 1, 0, 0);
     check_output(n);
     fill();
-    a = sg_from_assembly_graph(rec, length, out, n - 1, a.tally);
+    a = sg_from_assembly_graph(rec, length, out, n - 1, 0, table);
     assert(a.number == 11 && a.length == 0);
-    a = sg_from_assembly_graph(out, 0, out + 1, 0, a.tally);
+    a = sg_from_assembly_graph(out, 0, out + 1, 0, 0, table);
     assert(a.number == 1);
-    check_tally(a.tally, 1, 2, 0);
+    check_tables(0, 1, 2, 0);
     check_output(0);
 }
 
@@ -140,13 +166,13 @@ static void test_overlap(void) {
         {{"AC"}, 1, {0, 0, 1, 0}, 15, 7},
         {{"AA"}, 1, {0, 0, 1, 0}, 7, 7},
     };
-    const sg_tally t = {7, 8, 9};
+    lend(1, 7, 8, 9);
     fill();
-    for (int i = 0; i < 4; i++) {
+    for (uint32_t i = 0; i < 4; i++) {
         size_t length = write_record(rec, KMERS, 2, cases[i].count, cases[i].kmers, 1, &cases[i].only);
-        sg_answer a = sg_from_assembly_graph(rec, length, out, ROOM, t);
+        sg_answer a = sg_from_assembly_graph(rec, length, out, ROOM, 1, table);
         assert(a.number == cases[i].number && a.length == 0);
-        check_tally(a.tally, 7, 9, 9);
+        check_tables(1, 7, 9 + i, 9);
         uint32_t number = 99;
         sg_vertex_sequence(rec, length, 0, &number);
         assert(number == cases[i].of_sequence);
@@ -154,27 +180,30 @@ static void test_overlap(void) {
     check_output(0);
 }
 
-/* Case 8 there: one vertex gains an empty second one. */
+/* Case 8 there: one vertex gains an empty second one. The diamond's rewrites are counted, though not answered. */
 static void test_cleanup_seq_graph(void) {
     const char *sequences[] = {"ACGT", ""};
     const edge edges[] = {{0, 1, 0, 1}};
     size_t length = write_record(rec, SEQUENCES, 10, 1, sequences, 0, edges);
     size_t n = write_record(want, SEQUENCES, 10, 2, sequences, 1, edges);
-    sg_tally t = {0, 0, 0};
+    lend(14, 0, 0, 0);
     want[5] = 2;
     fill();
-    sg_cleanup_answer a = sg_cleanup_seq_graph(rec, length, out, n, t);
+    sg_cleanup_answer a = sg_cleanup_seq_graph(rec, length, out, n, 14, table);
     assert(a.number == 0 && a.length == n && a.status == 2);
-    check_tally(a.tally, 1, 0, 0);
+    check_tables(14, 1, 0, 0);
     check_output(n);
     fill();
-    a = sg_cleanup_seq_graph(rec, length, out, n - 1, a.tally);
+    a = sg_cleanup_seq_graph(rec, length, out, n - 1, 14, table);
     assert(a.number == 11 && a.length == 0 && a.status == 0);
     rec[4] = KMERS;
-    a = sg_cleanup_seq_graph(rec, length, out, ROOM, a.tally);
+    a = sg_cleanup_seq_graph(rec, length, out, ROOM, 14, table);
     assert(a.number == 2);
-    check_tally(a.tally, 1, 2, 0);
+    check_tables(14, 1, 2, 0);
     check_output(0);
+    a = sg_cleanup_seq_graph(rec, diamond(rec), out, ROOM, 14, table);
+    assert(a.number == 0 && a.status == 2);
+    check_tables(14, 2, 2, 3);
 }
 
 /* What leads to the reference source and from the reference sink goes; the vertices left without an edge go too. */
@@ -183,17 +212,17 @@ static void test_clean_non_ref_paths(void) {
     const edge edges[] = {{0, 1, 3, 0}, {1, 2, 5, 1}, {2, 3, 3, 0}}, kept[] = {{0, 1, 5, 1}};
     size_t length = write_record(rec, SEQUENCES, 10, 4, sequences, 3, edges);
     size_t n = write_record(want, SEQUENCES, 10, 2, sequences + 1, 1, kept);
-    sg_tally t = {0, 0, 0};
+    lend(8, 0, 0, 0);
     fill();
-    sg_answer a = sg_clean_non_ref_paths(rec, length, out, ROOM, t);
+    sg_answer a = sg_clean_non_ref_paths(rec, length, out, ROOM, 8, table);
     assert(a.number == 0 && a.length == n);
     check_output(n);
     fill();
-    a = sg_clean_non_ref_paths(rec, length, out, n - 1, a.tally);
+    a = sg_clean_non_ref_paths(rec, length, out, n - 1, 8, table);
     assert(a.number == 11 && a.length == 0);
-    a = sg_clean_non_ref_paths(rec, length - 1, out, ROOM, a.tally);
+    a = sg_clean_non_ref_paths(rec, length - 1, out, ROOM, 8, table);
     assert(a.number == 1);
-    check_tally(a.tally, 1, 2, 0);
+    check_tables(8, 1, 2, 0);
     check_output(0);
 }
 
@@ -205,40 +234,189 @@ static size_t reference(uint8_t *at) {
 
 static void test_reference_path_bytes(void) {
     size_t length = diamond(rec), n = reference(want);
-    sg_tally t = {0, 0, 9};
+    lend(2, 0, 0, 9);
     fill();
-    sg_answer a = sg_reference_path_bytes(rec, length, out, n, t);
+    sg_answer a = sg_reference_path_bytes(rec, length, out, n, 2, table);
     assert(a.number == 0 && a.length == n);
     check_output(n);
     fill();
-    a = sg_reference_path_bytes(rec, length, out, n - 1, a.tally);
+    a = sg_reference_path_bytes(rec, length, out, n - 1, 2, table);
     assert(a.number == 11 && a.length == 0);
     const char *sequences[] = {"A", "C"};
     const edge edges[] = {{0, 1, 1, 0}};
     length = write_record(rec, SEQUENCES, 10, 2, sequences, 1, edges);
-    a = sg_reference_path_bytes(rec, length, out, ROOM, a.tally);
+    a = sg_reference_path_bytes(rec, length, out, ROOM, 2, table);
     assert(a.number == 10);
-    check_tally(a.tally, 1, 2, 9);
+    check_tables(2, 1, 2, 9);
     check_output(0);
 }
 
 static void test_path_bases_bytes(void) {
     const uint32_t path[] = {0, 1, 1, 3}, no_path[] = {0, 1, 2, 3};
     size_t length = diamond(rec), n = reference(want);
-    sg_tally t = {0, 0, 9};
+    lend(9, 0, 0, 9);
     fill();
-    sg_answer a = sg_path_bases_bytes(rec, length, 0, path, 4, out, n, t);
+    sg_answer a = sg_path_bases_bytes(rec, length, 0, path, 4, out, n, 9, table);
     assert(a.number == 0 && a.length == n);
     check_output(n);
     fill();
-    a = sg_path_bases_bytes(rec, length, 0, path, 4, out, n - 1, a.tally);
+    a = sg_path_bases_bytes(rec, length, 0, path, 4, out, n - 1, 9, table);
     assert(a.number == 11 && a.length == 0);
-    assert(sg_path_bases_bytes(rec, length, 0, no_path, 4, out, ROOM, t).number == 9);
-    assert(sg_path_bases_bytes(rec, length, 0, path, 3, out, ROOM, t).number == 9);
-    a = sg_path_bases_bytes(rec, length, 4, path, 0, out, ROOM, a.tally);
+    assert(sg_path_bases_bytes(rec, length, 0, no_path, 4, out, ROOM, 9, table).number == 9);
+    assert(sg_path_bases_bytes(rec, length, 0, path, 3, out, ROOM, 9, table).number == 9);
+    a = sg_path_bases_bytes(rec, length, 4, path, 0, out, ROOM, 9, table);
     assert(a.number == 9);
-    check_tally(a.tally, 1, 2, 9);
+    check_tables(9, 1, 4, 9);
     check_output(0);
+}
+
+/* The tallied calls in one form, from rec to out; an answer's fields, 0 where it has fewer than five. */
+typedef struct {
+    uint32_t fields[5];
+} told;
+
+static told convert(size_t length, size_t room, uint32_t caller, sg_tallies *t) {
+    sg_answer a = sg_from_assembly_graph(rec, length, out, room, caller, t);
+    return (told){{a.number, a.length}};
+}
+
+static told simplify(size_t length, size_t room, uint32_t caller, sg_tallies *t) {
+    sg_simplify_answer a = sg_simplify_graph(rec, length, out, room, caller, t);
+    return (told){{a.number, a.length, a.rewrites, a.rounds, a.end}};
+}
+
+static told clean_up(size_t length, size_t room, uint32_t caller, sg_tallies *t) {
+    sg_cleanup_answer a = sg_cleanup_seq_graph(rec, length, out, room, caller, t);
+    return (told){{a.number, a.length, a.status}};
+}
+
+static told clean_paths(size_t length, size_t room, uint32_t caller, sg_tallies *t) {
+    sg_answer a = sg_clean_non_ref_paths(rec, length, out, room, caller, t);
+    return (told){{a.number, a.length}};
+}
+
+static told spell_reference(size_t length, size_t room, uint32_t caller, sg_tallies *t) {
+    sg_answer a = sg_reference_path_bytes(rec, length, out, room, caller, t);
+    return (told){{a.number, a.length}};
+}
+
+static told spell_path(size_t length, size_t room, uint32_t caller, sg_tallies *t) {
+    const uint32_t path[] = {0, 1, 1, 3};
+    sg_answer a = sg_path_bases_bytes(rec, length, 0, path, 4, out, room, caller, t);
+    return (told){{a.number, a.length}};
+}
+
+enum { CALLS = 6, CONVERT = 0 };
+
+/* Each with the rewrites that it makes of its input. */
+static const struct {
+    told (*run)(size_t, size_t, uint32_t, sg_tallies *);
+    uint32_t rewrites;
+} calls[CALLS] = {{convert, 0}, {simplify, 3}, {clean_up, 3}, {clean_paths, 0}, {spell_reference, 0}, {spell_path, 0}};
+
+/* Writes an input that the call answers, k-mers or the diamond, to rec. */
+static size_t input_of(unsigned call) {
+    const char *kmers[] = {"ACG", "CGT", "CGA"};
+    const edge edges[] = {{0, 1, 5, 1}, {0, 2, 2, 0}};
+    return call == CONVERT ? write_record(rec, KMERS, 3, 3, kmers, 2, edges) : diamond(rec);
+}
+
+/* By a caller above 15: refused with 18, output and table as they were. */
+static void check_stranger(unsigned call, size_t length, size_t room, uint32_t caller) {
+    const told due = {{18}};
+    told got = calls[call].run(length, room, caller, table);
+    assert(memcmp(&got, &due, sizeof due) == 0);
+    check_tables(caller, 0, 0, 0);
+    check_output(0);
+}
+
+/* On a record that would be answered; without room; cut short; without a byte; with another mark; with a self edge. */
+static void check_inputs_of_stranger(unsigned call, uint32_t caller) {
+    size_t length = input_of(call);
+    check_stranger(call, length, ROOM, caller);
+    check_stranger(call, length, 0, caller);
+    check_stranger(call, length - 1, ROOM, caller);
+    check_stranger(call, 0, 0, caller);
+    rec[0] = 'T';
+    check_stranger(call, length, ROOM, caller);
+    input_of(call);
+    put_edge(rec, call == CONVERT ? 3 : 4, 0, (edge){0, 0, 1, 0});
+    check_stranger(call, length, 0, caller);
+}
+
+/* 18 comes before all else. */
+static void test_callers_above_15(void) {
+    const uint32_t above[] = {16, 17, 31, 256, 65536, 1u << 30, (1u << 30) + 7, 1u << 31, UINT32_MAX - 1, UINT32_MAX};
+    lend(CALLERS, 0, 0, 0);
+    fill();
+    for (unsigned call = 0; call < CALLS; call++) {
+        for (unsigned i = 0; i < sizeof above / sizeof *above; i++) check_inputs_of_stranger(call, above[i]);
+    }
+}
+
+static uint32_t sum(uint32_t n, uint32_t more) { return n > UINT32_MAX - more ? UINT32_MAX : n + more; }
+
+/* A call by a caller whose counts are all n: once answered, once refused with 1, once with 11. */
+static void check_counts(unsigned call, uint32_t caller, uint32_t n) {
+    size_t length = input_of(call);
+    lend(caller, n, n, n);
+    assert(calls[call].run(length, ROOM, caller, table).fields[0] == 0);
+    check_tables(caller, sum(n, 1), n, sum(n, calls[call].rewrites));
+    lend(caller, n, n, n);
+    assert(calls[call].run(length - 1, ROOM, caller, table).fields[0] == 1);
+    check_tables(caller, n, sum(n, 1), n);
+    lend(caller, n, n, n);
+    assert(calls[call].run(length, 0, caller, table).fields[0] == 11);
+    check_tables(caller, n, sum(n, 1), n);
+}
+
+/* Every call by every caller, from counts that it raises, that it brings to 2^32 - 1, and that stay there. */
+static void test_counts(void) {
+    const uint32_t before[] = {0, 5, UINT32_MAX - 4, UINT32_MAX - 3, UINT32_MAX - 2, UINT32_MAX - 1, UINT32_MAX};
+    for (unsigned i = 0; i < CALLS * CALLERS; i++) {
+        for (unsigned j = 0; j < sizeof before / sizeof *before; j++) check_counts(i % CALLS, i / CALLS, before[j]);
+    }
+}
+
+/* A row of calls, some refused with 1 or 11: those of eight callers mixed, and of 16, which is none. */
+enum { STEPS = 5 * 6 * 7 * 17 };
+
+static uint32_t caller_of(unsigned step) { return step * step % 17; }
+
+static void make_step(unsigned step, sg_tallies *t) {
+    const unsigned cut = step % 5 == 0, no_room = step % 7 == 0;
+    const size_t length = input_of(step % CALLS) - cut, room = no_room ? 0 : ROOM;
+    told got = calls[step % CALLS].run(length, room, caller_of(step), t);
+    assert(got.fields[0] == (caller_of(step) == 16 ? 18u : cut ? 1u : no_room ? 11u : 0u));
+}
+
+/* Makes this caller's calls alone, and gives their number. */
+static unsigned make_steps_of(uint32_t caller, sg_tallies *t) {
+    unsigned count = 0;
+    for (unsigned step = 0; step < STEPS; step++) {
+        if (caller_of(step) == caller) {
+            make_step(step, t);
+            count++;
+        }
+    }
+    return count;
+}
+
+/* What the calls of all make of a table is, for each caller, what its own calls alone make of it. */
+static void test_callers_together(void) {
+    const sg_tally high = {UINT32_MAX - 10, UINT32_MAX - 10, UINT32_MAX - 10};
+    const sg_tallies start = {.callers = {[4] = high, [15] = {1, 2, 3}}};
+    sg_tallies together = start;
+    unsigned counted = 0;
+    for (unsigned step = 0; step < STEPS; step++) make_step(step, &together);
+    for (uint32_t caller = 0; caller < CALLERS; caller++) {
+        sg_tallies alone = start, due = start;
+        counted += make_steps_of(caller, &alone);
+        due.callers[caller] = together.callers[caller];
+        assert(memcmp(&alone, &due, sizeof due) == 0);
+    }
+    assert(counted == STEPS / 17 * 15);
+    assert(together.callers[4].answered == UINT32_MAX && together.callers[15].rewrites > 3);
 }
 
 int main(void) {
@@ -252,6 +430,9 @@ int main(void) {
     test_clean_non_ref_paths();
     test_reference_path_bytes();
     test_path_bases_bytes();
-    puts("C: each call answered and refused as it must");
+    test_callers_above_15();
+    test_counts();
+    test_callers_together();
+    puts("C: each call answered, refused and counted as it must");
     return 0;
 }

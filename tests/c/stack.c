@@ -34,7 +34,9 @@ static size_t chain(unsigned v, unsigned kind, unsigned each) {
     return HEADER + 2 * v + 9 * e + v * each;
 }
 
-static const sg_tally none = {0, 0, 0};
+enum { CALLER = 15 };
+
+static sg_tallies table;
 
 static void *vertex_sequence(void *unused) {
     uint32_t number = 99;
@@ -43,12 +45,12 @@ static void *vertex_sequence(void *unused) {
 }
 
 static void *from_assembly_graph(void *unused) {
-    assert(sg_from_assembly_graph(rec, chain(VERTICES, KMERS, K), out, ROOM, none).number == 0);
+    assert(sg_from_assembly_graph(rec, chain(VERTICES, KMERS, K), out, ROOM, CALLER, &table).number == 0);
     return unused;
 }
 
 static void *simplify_graph(void *unused) {
-    sg_simplify_answer a = sg_simplify_graph(rec, chain(VERTICES, SEQUENCES, 4), out, ROOM, none);
+    sg_simplify_answer a = sg_simplify_graph(rec, chain(VERTICES, SEQUENCES, 4), out, ROOM, CALLER, &table);
     assert(a.number == 0 && a.rewrites == 1);
     return unused;
 }
@@ -56,32 +58,34 @@ static void *simplify_graph(void *unused) {
 static void *simplify_short_record(void *unused) {
     size_t length = chain(FEW, SEQUENCES, 4);
     assert(length <= 1024);
-    sg_simplify_answer a = sg_simplify_graph(rec, length, out, ROOM, none);
+    sg_simplify_answer a = sg_simplify_graph(rec, length, out, ROOM, CALLER, &table);
     assert(a.number == 0 && a.rewrites == 1);
     return unused;
 }
 
 static void *cleanup_seq_graph(void *unused) {
-    sg_cleanup_answer a = sg_cleanup_seq_graph(rec, chain(VERTICES, SEQUENCES, 4), out, ROOM, none);
+    sg_cleanup_answer a = sg_cleanup_seq_graph(rec, chain(VERTICES, SEQUENCES, 4), out, ROOM, CALLER, &table);
     assert(a.number == 0 && a.status == 2);
     return unused;
 }
 
 static void *clean_non_ref_paths(void *unused) {
     size_t length = chain(VERTICES, SEQUENCES, 4);
-    assert(sg_clean_non_ref_paths(rec, length, out, ROOM, none).length == length);
+    assert(sg_clean_non_ref_paths(rec, length, out, ROOM, CALLER, &table).length == length);
     return unused;
 }
 
 static void *reference_path_bytes(void *unused) {
-    assert(sg_reference_path_bytes(rec, chain(VERTICES, SEQUENCES, 4), out, ROOM, none).length == 4 * VERTICES);
+    sg_answer a = sg_reference_path_bytes(rec, chain(VERTICES, SEQUENCES, 4), out, ROOM, CALLER, &table);
+    assert(a.length == 4 * VERTICES);
     return unused;
 }
 
 static void *path_bases_bytes(void *unused) {
     static uint32_t path[2 * (VERTICES - 1)];
     for (unsigned i = 0; i < 2 * (VERTICES - 1); i++) path[i] = (i + 1) / 2;
-    sg_answer a = sg_path_bases_bytes(rec, chain(VERTICES, SEQUENCES, 4), 0, path, 2 * (VERTICES - 1), out, ROOM, none);
+    size_t length = chain(VERTICES, SEQUENCES, 4);
+    sg_answer a = sg_path_bases_bytes(rec, length, 0, path, 2 * (VERTICES - 1), out, ROOM, CALLER, &table);
     assert(a.length == 4 * VERTICES);
     return unused;
 }
@@ -109,5 +113,6 @@ int main(void) {
     run("reference_path_bytes", reference_path_bytes);
     run("path_bases_bytes", path_bases_bytes);
     run("simplify_graph, a record of at most 1,024 bytes", simplify_short_record);
+    assert(table.callers[CALLER].answered == 7 && table.callers[CALLER].refused == 0);
     return 0;
 }
