@@ -1,19 +1,10 @@
-//! The declarations of include/seq_graph.h.
-
-/// Calls answered, calls refused, rewrites made in the answered calls; each stops at 2^32 - 1.
-#[derive(Debug, Clone, Copy, Default, PartialEq, Eq)]
-#[repr(C)]
-pub struct Tally {
-    pub answered: u32,
-    pub refused: u32,
-    pub rewrites: u32,
-}
+//! The declarations of include/seq_graph.h, but for the tallies.
+use crate::tallies::Tallies;
 
 #[repr(C)]
 pub struct Answer {
     pub number: u32,
     pub length: u32,
-    pub tally: Tally,
 }
 
 #[repr(C)]
@@ -23,7 +14,6 @@ pub struct SimplifyAnswer {
     pub rewrites: u32,
     pub rounds: u32,
     pub end: u32,
-    pub tally: Tally,
 }
 
 #[repr(C)]
@@ -31,7 +21,6 @@ pub struct CleanupAnswer {
     pub number: u32,
     pub length: u32,
     pub status: u32,
-    pub tally: Tally,
 }
 
 #[repr(C)]
@@ -52,35 +41,40 @@ extern "C" {
         length: usize,
         out: *mut u8,
         room: usize,
-        tally: Tally,
+        caller: u32,
+        table: *mut Tallies,
     ) -> Answer;
     pub fn sg_simplify_graph(
         record: *const u8,
         length: usize,
         out: *mut u8,
         room: usize,
-        tally: Tally,
+        caller: u32,
+        table: *mut Tallies,
     ) -> SimplifyAnswer;
     pub fn sg_cleanup_seq_graph(
         record: *const u8,
         length: usize,
         out: *mut u8,
         room: usize,
-        tally: Tally,
+        caller: u32,
+        table: *mut Tallies,
     ) -> CleanupAnswer;
     pub fn sg_clean_non_ref_paths(
         record: *const u8,
         length: usize,
         out: *mut u8,
         room: usize,
-        tally: Tally,
+        caller: u32,
+        table: *mut Tallies,
     ) -> Answer;
     pub fn sg_reference_path_bytes(
         record: *const u8,
         length: usize,
         out: *mut u8,
         room: usize,
-        tally: Tally,
+        caller: u32,
+        table: *mut Tallies,
     ) -> Answer;
     pub fn sg_path_bases_bytes(
         record: *const u8,
@@ -90,6 +84,7 @@ extern "C" {
         count: usize,
         out: *mut u8,
         room: usize,
-        tally: Tally,
+        caller: u32,
+        table: *mut Tallies,
     ) -> Answer;
 }

@@ -1,12 +1,14 @@
 //! The sequence graph's calls from Rust, over libsg.a. Every function is safe and takes any bytes.
 //!
 //! A call that makes a record or a string writes it to the start of `out` and tells its length. A refused call
-//! leaves `out` as it was. Every call but `vertex_sequence` is counted in the tally handed in.
+//! leaves `out` as it was. Every call but `vertex_sequence` has a caller, 0 to 15, and is counted in that caller's
+//! tally in the table lent to it; the other fifteen tallies stay as they were.
 mod ffi;
 mod refusal;
+mod tallies;
 
-pub use ffi::Tally;
 pub use refusal::Refusal;
+pub use tallies::{Caller, Tallies, Tally};
 
 /// How a simplification came to its end.
 #[derive(Debug, Clone, Copy, PartialEq, Eq)]
@@ -72,31 +74,43 @@ pub fn vertex_sequence(record: &[u8], vertex: u32) -> Result<&[u8], Refusal> {
 
 /// A k-mer graph's record to the sequence graph's; the length written. Of each edge the last k - 1 bytes of from must
 /// be the first k - 1 bytes of to.
-pub fn from_assembly_graph(record: &[u8], out: &mut [u8], tally: &mut Tally) -> Result<usize, Refusal> {
+pub fn from_assembly_graph(
+    record: &[u8],
+    out: &mut [u8],
+    caller: Caller,
+    table: &mut Tallies,
+) -> Result<usize, Refusal> {
     let (r, o, room) = (record.as_ptr(), out.as_mut_ptr(), out.len());
-    // The pointers and lengths are those of two slices that do not overlap; the call asks nothing more.
-    let a = unsafe { ffi::sg_from_assembly_graph(r, record.len(), o, room, *tally) };
-    *tally = a.tally;
+    // The pointers and lengths are those of two slices and a table that do not overlap; the call asks nothing more.
+    let a = unsafe { ffi::sg_from_assembly_graph(r, record.len(), o, room, caller.number(), table) };
     answered(a.number, a.length as usize)
 }
 
 /// A sequence graph's record to that of the simplified graph.
-pub fn simplify_graph(record: &[u8], out: &mut [u8], tally: &mut Tally) -> Result<Simplified, Refusal> {
+pub fn simplify_graph(
+    record: &[u8],
+    out: &mut [u8],
+    caller: Caller,
+    table: &mut Tallies,
+) -> Result<Simplified, Refusal> {
     let (r, o, room) = (record.as_ptr(), out.as_mut_ptr(), out.len());
     // As above.
-    let a = unsafe { ffi::sg_simplify_graph(r, record.len(), o, room, *tally) };
-    *tally = a.tally;
+    let a = unsafe { ffi::sg_simplify_graph(r, record.len(), o, room, caller.number(), table) };
     answered(a.number, ())?;
     let end = End::of(a.end).ok_or(Refusal::UnknownEnd(a.end))?;
     Ok(Simplified { length: a.length as usize, rewrites: a.rewrites, rounds: a.rounds, end })
 }
 
 /// A sequence graph's record to that of the cleaned graph.
-pub fn cleanup_seq_graph(record: &[u8], out: &mut [u8], tally: &mut Tally) -> Result<Cleaned, Refusal> {
+pub fn cleanup_seq_graph(
+    record: &[u8],
+    out: &mut [u8],
+    caller: Caller,
+    table: &mut Tallies,
+) -> Result<Cleaned, Refusal> {
     let (r, o, room) = (record.as_ptr(), out.as_mut_ptr(), out.len());
     // As above.
-    let a = unsafe { ffi::sg_cleanup_seq_graph(r, record.len(), o, room, *tally) };
-    *tally = a.tally;
+    let a = unsafe { ffi::sg_cleanup_seq_graph(r, record.len(), o, room, caller.number(), table) };
     answered(a.number, ())?;
     let status = Status::of(a.status).ok_or(Refusal::UnknownStatus(a.status))?;
     Ok(Cleaned { length: a.length as usize, status })
@@ -104,20 +118,28 @@ pub fn cleanup_seq_graph(record: &[u8], out: &mut [u8], tally: &mut Tally) -> Re
 
 /// A sequence graph's record to that of the graph without what leads to the reference source or from the reference
 /// sink; the length written.
-pub fn clean_non_ref_paths(record: &[u8], out: &mut [u8], tally: &mut Tally) -> Result<usize, Refusal> {
+pub fn clean_non_ref_paths(
+    record: &[u8],
+    out: &mut [u8],
+    caller: Caller,
+    table: &mut Tallies,
+) -> Result<usize, Refusal> {
     let (r, o, room) = (record.as_ptr(), out.as_mut_ptr(), out.len());
     // As above.
-    let a = unsafe { ffi::sg_clean_non_ref_paths(r, record.len(), o, room, *tally) };
-    *tally = a.tally;
+    let a = unsafe { ffi::sg_clean_non_ref_paths(r, record.len(), o, room, caller.number(), table) };
     answered(a.number, a.length as usize)
 }
 
 /// The bytes that the graph's reference path spells; the length written.
-pub fn reference_path_bytes(record: &[u8], out: &mut [u8], tally: &mut Tally) -> Result<usize, Refusal> {
+pub fn reference_path_bytes(
+    record: &[u8],
+    out: &mut [u8],
+    caller: Caller,
+    table: &mut Tallies,
+) -> Result<usize, Refusal> {
     let (r, o, room) = (record.as_ptr(), out.as_mut_ptr(), out.len());
     // As above.
-    let a = unsafe { ffi::sg_reference_path_bytes(r, record.len(), o, room, *tally) };
-    *tally = a.tally;
+    let a = unsafe { ffi::sg_reference_path_bytes(r, record.len(), o, room, caller.number(), table) };
     answered(a.number, a.length as usize)
 }
 
@@ -127,13 +149,15 @@ pub fn path_bases_bytes(
     start: u32,
     edges: &[u32],
     out: &mut [u8],
-    tally: &mut Tally,
+    caller: Caller,
+    table: &mut Tallies,
 ) -> Result<usize, Refusal> {
     let (r, o, room) = (record.as_ptr(), out.as_mut_ptr(), out.len());
     let (e, count) = (edges.as_ptr(), edges.len());
     // As above, with a third slice.
-    let a = unsafe { ffi::sg_path_bases_bytes(r, record.len(), start, e, count, o, room, *tally) };
-    *tally = a.tally;
+    let a = unsafe {
+        ffi::sg_path_bases_bytes(r, record.len(), start, e, count, o, room, caller.number(), table)
+    };
     answered(a.number, a.length as usize)
 }
 

@@ -17,6 +17,8 @@ pub enum Refusal {
     Room,
     /// Of conversion alone; asked behind `Doubled` and before `Cycle`.
     Overlap,
+    /// Asked before all else; the call is not counted. A `Caller` that `Caller::new` gave does not meet it.
+    Caller,
     /// A refusal number that this crate does not know: the library is another one than it was written for.
     UnknownNumber(u32),
     /// Accepted, with an end of simplification that this crate does not know.
@@ -25,8 +27,8 @@ pub enum Refusal {
     UnknownStatus(u32),
 }
 
-/// Each refusal with its number and its cause. A call asks in the order 1 to 6, 15, 7 to 11.
-const KNOWN: [(Refusal, u32, &str); 12] = [
+/// Each refusal with its number and its cause. A call asks in the order 18, 1 to 6, 15, 7 to 11.
+const KNOWN: [(Refusal, u32, &str); 13] = [
     (Refusal::Length, 1, "under 32 bytes, or not the length it states"),
     (Refusal::Mark, 2, "mark, kind for this call, or status"),
     (Refusal::Limit, 3, "a count or k past a limit"),
@@ -39,6 +41,7 @@ const KNOWN: [(Refusal, u32, &str); 12] = [
     (Refusal::NoReference, 10, "there is no reference path"),
     (Refusal::Room, 11, "the output is shorter than the result"),
     (Refusal::Overlap, 15, "in conversion, an edge whose k-mers do not overlap by k - 1 bytes"),
+    (Refusal::Caller, 18, "the caller's number is above 15"),
 ];
 
 impl Refusal {
