@@ -16,7 +16,7 @@ from sgr1 import (
 LABEL = 7
 NO_OVERLAP = 15
 SEQUENCE_CALLS = [c for c in CALLS if c not in (VERTEX_SEQUENCE, FROM_ASSEMBLY_GRAPH)]
-# Callers above 15: the next ones; some whose low bits, as in a byte, are a caller's; ends of ranges; some at which twelve bytes for
+# Callers above 15: the next ones; some whose low bits are a caller's; ends of ranges; some at which twelve bytes for
 # each caller come round to the table in 32 bits.
 STRANGERS = [
     16, 17, 31, 32, 255, 256, 263, 65536, 65551, 2**28, 2**30, 2**30 + 7, 2**31 - 1, 2**31, 2**31 + 15, MAX_U32 - 15,

@@ -20,8 +20,8 @@ UNKNOWN_CALLER = 18
 
 Tally = namedtuple("Tally", "answered refused rewrites")
 NO_COUNTS = Tally(0, 0, 0)
-# fields: what a call's result holds behind the length, filled up with 0 to three numbers. tally: that of the caller after the
-# call, no counts where there is none. All else in the table of tallies stays as it was.
+# fields: what a call's result holds behind the length, filled up with 0 to three numbers. tally: that of the caller
+# after the call, no counts where there is none. All else in the table of tallies stays as it was.
 Answer = namedtuple("Answer", "number length fields tally output")
 
 

@@ -14,8 +14,8 @@ pub struct Tally {
     pub rewrites: u32,
 }
 
-/// What a call answers: `fields` are the result fields behind the length, 0 where it has none. `tally` is the caller's after
-/// the call, zeros where there is none.
+/// What a call answers: `fields` are the result fields behind the length, 0 where it has none. `tally` is the
+/// caller's after the call, zeros where there is none.
 #[derive(Debug, Clone, Default, PartialEq, Eq)]
 pub struct Answer {
     pub number: u32,

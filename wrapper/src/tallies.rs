@@ -1,5 +1,5 @@
-/// Calls answered, calls refused, and rewrites made in the answered calls, also those of `cleanup_seq_graph`, whose answer
-/// does not tell them. Each stops at 2^32 - 1. A call refused with `Refusal::Caller` is not counted.
+/// Calls answered, calls refused, and rewrites made in the answered calls, also those of `cleanup_seq_graph`, whose
+/// answer does not tell them. Each stops at 2^32 - 1. A call refused with `Refusal::Caller` is not counted.
 #[derive(Debug, Clone, Copy, Default, PartialEq, Eq)]
 #[repr(C)]
 pub struct Tally {
@@ -8,8 +8,9 @@ pub struct Tally {
     pub rewrites: u32,
 }
 
-/// The table of sixteen tallies, that of caller i at i; a new one is all zeros. A call raises counts of its own caller and
-/// leaves the other fifteen tallies as they were, so that each is what its own caller's calls alone make of it.
+/// The table of sixteen tallies, that of caller i at i; a new one is all zeros. A call raises counts of its own caller
+/// and leaves every field of the other fifteen tallies as it was, so that on a table that nothing else writes each is
+/// what its own caller's calls alone make of it.
 #[derive(Debug, Clone, Default, PartialEq, Eq)]
 #[repr(C)]
 pub struct Tallies {
@@ -37,8 +38,8 @@ impl Caller {
         }
     }
 
-    /// The number unchecked. Above 15 every call gives `Refusal::Caller` and leaves its output and the whole table as they
-    /// were.
+    /// The number unchecked. Above 15 every call gives `Refusal::Caller` and leaves its output and the whole table as
+    /// they were.
     pub const fn raw(number: u32) -> Caller {
         Caller(number)
     }

@@ -271,8 +271,8 @@ fn counts_for_its_caller_alone() {
     }
 }
 
-/// A row of calls of eight callers mixed, and of 16, which is none: on one table they make of each caller's tally what its
-/// own calls alone make of it.
+/// A row of calls of eight callers mixed, and of 16, which is none: on one table they make of each caller's tally what
+/// its own calls alone make of it.
 #[test]
 fn keeps_callers_apart() {
     let calls = tallied_calls();
