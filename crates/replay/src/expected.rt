@@ -1,61 +1,39 @@
 // The numbers of a stored case, and what an answer must have in common with them.
-use calls::Tally;
 
-// Result fields behind the length that a call does not have are 0.
+// Result fields behind the length that a call does not have are 0. The rewrites are those that the tally counts.
 pub struct Got {
     pub number: u32,
     pub length: u32,
     pub field1: u32,
     pub field2: u32,
     pub field3: u32,
-    pub tally: Tally,
+    pub rewrites: u32,
 }
 
-// The case's number i of 17; 0 where the case is too short.
+// The case's number i of 18; 0 where the case is too short.
 pub fn word(case: &[u8], i: usize) -> u32 {
-    if i < 17 {
-        if 68 <= case.len() {
+    if i < 18 {
+        if 72 <= case.len() {
             return le::u32_at(case, 4 * i);
         }
     }
     0
 }
 
-pub fn tally_of(case: &[u8]) -> Tally {
-    Tally {
-        answered: word(case, 3),
-        refused: word(case, 4),
-        rewrites: word(case, 5),
-    }
-}
-
-fn same_tally(case: &[u8], t: Tally) -> bool {
-    if t.answered != word(case, 11) {
-        return false;
-    }
-    if t.refused != word(case, 12) {
-        return false;
-    }
-    t.rewrites == word(case, 13)
-}
-
 pub fn same_answer(case: &[u8], got: Got) -> bool {
-    if got.number != word(case, 6) {
+    if got.number != word(case, 7) {
         return false;
     }
-    if got.length != word(case, 7) {
+    if got.length != word(case, 8) {
         return false;
     }
-    if got.field1 != word(case, 8) {
+    if got.field1 != word(case, 9) {
         return false;
     }
-    if got.field2 != word(case, 9) {
+    if got.field2 != word(case, 10) {
         return false;
     }
-    if got.field3 != word(case, 10) {
-        return false;
-    }
-    same_tally(case, got.tally)
+    got.field3 == word(case, 11)
 }
 
 pub fn begins_with(out: &[u8], expected: &[u8]) -> bool {

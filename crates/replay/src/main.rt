@@ -2,6 +2,7 @@
 // tools/make_vectors.py writes them and sets out their layout.
 mod expected;
 mod run;
+mod table;
 
 use libc::STDOUT_FILENO;
 use run::Outcome;

@@ -1,15 +1,14 @@
-// Makes the call of a stored case.
+// Makes the call of a stored case: its core, and then the table by value. The call under its C name is these two.
 use crate::expected::BEFORE;
 use crate::expected::Got;
 use crate::expected::begins_with;
 use crate::expected::same_answer;
 use crate::expected::same_output;
-use crate::expected::tally_of;
 use crate::expected::word;
+use crate::table::same_table;
 use calls::Answer;
-use calls::CleanupAnswer;
+use calls::CountedCleanup;
 use calls::SimplifyAnswer;
-use calls::Tally;
 
 // What a case came to; End: there was none.
 pub enum Outcome {
@@ -20,60 +19,58 @@ pub enum Outcome {
 }
 
 fn plain(r: Answer) -> Got {
-    let tally = r.tally;
     Got {
         number: r.number,
         length: r.length,
         field1: 0,
         field2: 0,
         field3: 0,
-        tally: tally,
+        rewrites: 0,
     }
 }
 
 fn simplified(r: SimplifyAnswer) -> Got {
-    let tally = r.tally;
     Got {
         number: r.number,
         length: r.length,
         field1: r.rewrites,
         field2: r.rounds,
         field3: r.end,
-        tally: tally,
+        rewrites: r.rewrites,
     }
 }
 
-fn cleaned(r: CleanupAnswer) -> Got {
-    let tally = r.tally;
+fn cleaned(r: CountedCleanup) -> Got {
+    let a = r.answer;
     Got {
-        number: r.number,
-        length: r.length,
-        field1: r.status,
+        number: a.number,
+        length: a.length,
+        field1: a.status,
         field2: 0,
         field3: 0,
-        tally: tally,
+        rewrites: r.rewrites,
     }
 }
 
-// The call of that number; a number that no case has where there is no such call.
-fn call(call: u32, start: u32, rec: &[u8], list: &[u32], out: &mut [u8], tally: Tally) -> Got {
+// The core of the call of that number; a number that no case has where there is no such call.
+fn call(call: u32, start: u32, rec: &[u8], list: &[u32], out: &mut [u8], caller: u32) -> Got {
     if call == 1 {
-        return plain(sg::sg_from_assembly_graph(rec, out, tally));
+        return plain(from_assembly_graph::from_assembly_graph(rec, out, caller));
     }
     if call == 2 {
-        return simplified(sg::sg_simplify_graph(rec, out, tally));
+        return simplified(simplify_graph::simplify_graph(rec, out, caller));
     }
     if call == 3 {
-        return cleaned(sg::sg_cleanup_seq_graph(rec, out, tally));
+        return cleaned(cleanup_seq_graph::cleanup_seq_graph(rec, out, caller));
     }
     if call == 4 {
-        return plain(sg::sg_clean_non_ref_paths(rec, out, tally));
+        return plain(clean_non_ref_paths::clean_non_ref_paths(rec, out, caller));
     }
     if call == 5 {
-        return plain(sg::sg_reference_path_bytes(rec, out, tally));
+        return plain(string_calls::reference_path_bytes(rec, out, caller));
     }
     if call == 6 {
-        return plain(sg::sg_path_bases_bytes(rec, start, list, out, tally));
+        return plain(string_calls::path_bases_bytes(rec, start, list, out, caller));
     }
     Got {
         number: 4294967295,
@@ -81,7 +78,7 @@ fn call(call: u32, start: u32, rec: &[u8], list: &[u32], out: &mut [u8], tally: 
         field1: 0,
         field2: 0,
         field3: 0,
-        tally: tally,
+        rewrites: 0,
     }
 }
 
@@ -94,6 +91,9 @@ fn accepted(number: u32) -> Outcome {
 
 fn compare(case: &[u8], got: Got, out: &[u8], expected: &[u8]) -> Outcome {
     let number = got.number;
+    if !same_table(case, number, got.rewrites) {
+        return Outcome::Differs;
+    }
     if !same_answer(case, got) {
         return Outcome::Differs;
     }
@@ -120,14 +120,13 @@ fn same_part(vertex: u32, rec: &[u8], expected: &[u8], number: u32) -> bool {
 fn run_vertex(case: &[u8], rec: &[u8], expected: &[u8]) -> Outcome {
     let mut number = 0;
     let place = sg::sg_vertex_sequence(rec, word(case, 1), &mut number);
-    let tally = tally_of(case);
     let got = Got {
         number: number,
         length: place.length,
         field1: place.offset,
         field2: 0,
         field3: 0,
-        tally: tally,
+        rewrites: 0,
     };
     if !same_answer(case, got) {
         return Outcome::Differs;
@@ -140,7 +139,7 @@ fn run_vertex(case: &[u8], rec: &[u8], expected: &[u8]) -> Outcome {
 
 // Makes the call with as much of list and room of out as the case says, and compares all that it answers and writes.
 fn run_in(case: &[u8], rec: &[u8], list: &[u32], expected: &[u8], out: &mut [u8]) -> Outcome {
-    let count = word(case, 15) as usize;
+    let count = word(case, 16) as usize;
     let room = word(case, 2) as usize;
     if list.len() < count {
         return Outcome::Differs;
@@ -148,14 +147,13 @@ fn run_in(case: &[u8], rec: &[u8], list: &[u32], expected: &[u8], out: &mut [u8]
     if out.len() < room {
         return Outcome::Differs;
     }
-    let tally = tally_of(case);
     let got = call(
         word(case, 0),
         word(case, 1),
         rec,
         &list[0..count],
         &mut out[0..room],
-        tally,
+        word(case, 3),
     );
     compare(case, got, out, expected)
 }
@@ -189,25 +187,25 @@ fn run(case: &[u8], rec: &[u8], numbers: &[u8], expected: &[u8]) -> Outcome {
     run_in(case, rec, &list, expected, &mut out)
 }
 
-// Takes a case apart: 17 numbers, the record, the list's numbers, the output's bytes.
+// Takes a case apart: 18 numbers, the record, the list's numbers, the output's bytes.
 pub fn replay(case: &[u8]) -> Outcome {
-    if case.len() < 68 {
+    if case.len() < 72 {
         return Outcome::Differs;
     }
-    let rest = case.len() - 68;
-    let length = word(case, 14) as usize;
+    let rest = case.len() - 72;
+    let length = word(case, 15) as usize;
     if rest < length {
         return Outcome::Differs;
     }
-    let record_end = 68 + length;
-    let count = word(case, 15) as usize;
+    let record_end = 72 + length;
+    let count = word(case, 16) as usize;
     if (rest - length) / 4 < count {
         return Outcome::Differs;
     }
     let list_end = record_end + 4 * count;
     run(
         case,
-        &case[68..record_end],
+        &case[72..record_end],
         &case[record_end..list_end],
         &case[list_end..],
     )
