@@ -15,7 +15,7 @@ use Rattle.defs.specs.Refusals.{Cause, refusalOf, kmerOnly, sequenceOnly
 use Rattle.defs.specs.Refusals.{layoutCauses, doubledCause, overlapCause, cycleCause, recordCauses}
 use Rattle.defs.specs.Assembly.{fromAssemblyGraph}
 use Rattle.defs.specs.Paths.{isPathOf, pathBasesBytes, referencePathBytes}
-use Rattle.defs.specs.Tallies.{Counted}
+use Rattle.defs.specs.Tallies.{CountedCall}
 
 -- What a call makes of its input: a refusal, or the bytes of its result.
 pub data Response : Type 0 where
@@ -66,7 +66,7 @@ unfoldable pub answer : Response → Answer
 answer r = record { number = numberOf r; length = lengthOf r }
 
 -- what is counted of a call that, where it is answered, made so many rewrites
-unfoldable pub countedOf : ℕ → Response → ℕ → Counted
+unfoldable pub countedOf : ℕ → Response → ℕ → CountedCall
 countedOf caller r rewrites = record { caller = caller; number = numberOf r; rewrites = fieldOf r rewrites }
 
 -- vertex_sequence: 1 to 7, 9; the number for the lent cell, and the part handed back
@@ -101,7 +101,7 @@ fromAssemblyGraphResponse bs room caller = respond (fromAssemblyGraphCauses bs r
 unfoldable pub fromAssemblyGraphAnswer : List ℕ → ℕ → ℕ → Answer
 fromAssemblyGraphAnswer bs room caller = answer (fromAssemblyGraphResponse bs room caller)
 
-unfoldable pub fromAssemblyGraphCounted : List ℕ → ℕ → ℕ → Counted
+unfoldable pub fromAssemblyGraphCounted : List ℕ → ℕ → ℕ → CountedCall
 fromAssemblyGraphCounted bs room caller = countedOf caller (fromAssemblyGraphResponse bs room caller) 0
 
 -- simplify_graph: 18, 1 to 7, 11
@@ -133,7 +133,7 @@ simplifyAnswer r s = record {
 unfoldable pub simplifyGraphAnswer : List ℕ → ℕ → ℕ → SimplifyAnswer
 simplifyGraphAnswer bs room caller = simplifyAnswer (simplifyGraphResponse bs room caller) (simplifyGraphFull minTailSuffixLen (decode bs))
 
-unfoldable pub simplifyGraphCounted : List ℕ → ℕ → ℕ → Counted
+unfoldable pub simplifyGraphCounted : List ℕ → ℕ → ℕ → CountedCall
 simplifyGraphCounted bs room caller = countedOf caller (simplifyGraphResponse bs room caller) ((simplifyGraphFull minTailSuffixLen (decode bs)) .rewrites)
 
 -- cleanup_seq_graph: 18, 1 to 7, 11; its rewrites are counted and not answered
@@ -157,7 +157,7 @@ cleanupAnswer r c = record { number = numberOf r; length = lengthOf r; status = 
 unfoldable pub cleanupSeqGraphAnswer : List ℕ → ℕ → ℕ → CleanupAnswer
 cleanupSeqGraphAnswer bs room caller = cleanupAnswer (cleanupSeqGraphResponse bs room caller) (cleanupSeqGraph (decode bs))
 
-unfoldable pub cleanupSeqGraphCounted : List ℕ → ℕ → ℕ → Counted
+unfoldable pub cleanupSeqGraphCounted : List ℕ → ℕ → ℕ → CountedCall
 cleanupSeqGraphCounted bs room caller = countedOf caller (cleanupSeqGraphResponse bs room caller) ((cleanupSeqGraph (decode bs)) .rewrites)
 
 -- clean_non_ref_paths: 18, 1 to 7, 11
@@ -173,7 +173,7 @@ cleanNonRefPathsResponse bs room caller = respond (cleanNonRefPathsCauses bs roo
 unfoldable pub cleanNonRefPathsAnswer : List ℕ → ℕ → ℕ → Answer
 cleanNonRefPathsAnswer bs room caller = answer (cleanNonRefPathsResponse bs room caller)
 
-unfoldable pub cleanNonRefPathsCounted : List ℕ → ℕ → ℕ → Counted
+unfoldable pub cleanNonRefPathsCounted : List ℕ → ℕ → ℕ → CountedCall
 cleanNonRefPathsCounted bs room caller = countedOf caller (cleanNonRefPathsResponse bs room caller) 0
 
 -- reference_path_bytes: 18, 1 to 7, 10, 11; 10 where there is no reference path
@@ -198,7 +198,7 @@ referencePathBytesCauses bs room caller =
 unfoldable pub referencePathBytesResponse : List ℕ → ℕ → ℕ → Response
 referencePathBytesResponse bs room caller = respond (referencePathBytesCauses bs room caller) (referenceBytes bs)
 
-unfoldable pub referencePathBytesCounted : List ℕ → ℕ → ℕ → Counted
+unfoldable pub referencePathBytesCounted : List ℕ → ℕ → ℕ → CountedCall
 referencePathBytesCounted bs room caller = countedOf caller (referencePathBytesResponse bs room caller) 0
 
 -- path_bases_bytes: 18, 1 to 7, 9, 11; 9 where the start or the list of edges is no path
@@ -215,5 +215,5 @@ pathBasesBytesCauses bs start edges room caller =
 unfoldable pub pathBasesBytesResponse : List ℕ → ℕ → List ℕ → ℕ → ℕ → Response
 pathBasesBytesResponse bs start edges room caller = respond (pathBasesBytesCauses bs start edges room caller) (pathBytes bs start edges)
 
-unfoldable pub pathBasesBytesCounted : List ℕ → ℕ → List ℕ → ℕ → ℕ → Counted
+unfoldable pub pathBasesBytesCounted : List ℕ → ℕ → List ℕ → ℕ → ℕ → CountedCall
 pathBasesBytesCounted bs start edges room caller = countedOf caller (pathBasesBytesResponse bs start edges room caller) 0

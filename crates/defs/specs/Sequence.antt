@@ -4,7 +4,7 @@ use Prim.Native.Nat.{ℕ}
 use mathlib.Core.List.{List, [], _∷_}
 use lib.Dec.{eqb}
 use Rattle.defs.specs.Lists.{keepIf}
-use Rattle.defs.specs.Tallies.{Tally, Counted, raised}
+use Rattle.defs.specs.Tallies.{Tally, CountedCall, afterCall}
 use Rattle.defs.specs.Calls.{fromAssemblyGraphCounted, simplifyGraphCounted, cleanupSeqGraphCounted}
 use Rattle.defs.specs.Calls.{cleanNonRefPathsCounted, referencePathBytesCounted, pathBasesBytesCounted}
 
@@ -17,7 +17,7 @@ pub data TalliedCall : Type 0 where
   referencePathBytesCall : List ℕ → ℕ → ℕ → TalliedCall
   pathBasesBytesCall : List ℕ → ℕ → List ℕ → ℕ → ℕ → TalliedCall
 
-unfoldable pub countedBy : TalliedCall → Counted
+unfoldable pub countedBy : TalliedCall → CountedCall
 countedBy (fromAssemblyGraphCall bs room caller) = fromAssemblyGraphCounted bs room caller
 countedBy (simplifyGraphCall bs room caller) = simplifyGraphCounted bs room caller
 countedBy (cleanupSeqGraphCall bs room caller) = cleanupSeqGraphCounted bs room caller
@@ -27,7 +27,7 @@ countedBy (pathBasesBytesCall bs start edges room caller) = pathBasesBytesCounte
 
 unfoldable pub afterCalls : List TalliedCall → List Tally → List Tally
 afterCalls [] table = table
-afterCalls (call ∷ calls) table = afterCalls calls (raised (countedBy call) table)
+afterCalls (call ∷ calls) table = afterCalls calls (afterCall (countedBy call) table)
 
 -- the calls of one caller alone
 unfoldable pub ownCalls : ℕ → List TalliedCall → List TalliedCall

@@ -14,13 +14,13 @@ pub record Tally : Type 0 where
   pub rewrites : ℕ
 
 -- what is counted of a call: who called, its number, and its rewrites
-pub record Counted : Type 0 where
+pub record CountedCall : Type 0 where
   pub caller : ℕ
   pub number : ℕ
   pub rewrites : ℕ
 
 -- a tally behind one call more, which is answered with number 0 and refused with any other; each figure stops at 2^32 − 1
-unfoldable pub tallied : Counted → Tally → Tally
+unfoldable pub tallied : CountedCall → Tally → Tally
 tallied c t =
     cond (eqb (c .number) 0)
     (record { answered = saturatingAdd (t .answered) 1; refused = t .refused; rewrites = saturatingAdd (t .rewrites) (c .rewrites) })
@@ -33,5 +33,5 @@ unfoldable pub callerTally : List Tally → ℕ → Tally
 callerTally table caller = getD table caller noCalls
 
 -- the table behind a call: its caller's tally has counted it, the others are as they were; a caller above 15 has no tally
-unfoldable pub raised : Counted → List Tally → List Tally
-raised c table = cond (ltb 15 (c .caller)) table (set table (c .caller) (tallied c (callerTally table (c .caller))))
+unfoldable pub afterCall : CountedCall → List Tally → List Tally
+afterCall c table = cond (ltb 15 (c .caller)) table (set table (c .caller) (tallied c (callerTally table (c .caller))))

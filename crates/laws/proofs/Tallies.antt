@@ -11,13 +11,13 @@ use lib.Seq.{set-out, getD-set-same, getD-set-other}
 use borrow.Author.Tests.{eq-eqb, ne-eqb, eqb-true, eqb-false, ltb-true, ltb-false, lt-ltb, le-ltb}
 use Rattle.defs.specs.Lists.{keepIf}
 use Rattle.defs.specs.SeqGraph.{saturatingAdd}
-use Rattle.defs.specs.Tallies.{Tally, Counted, tallied, noCalls, callerTally, raised}
+use Rattle.defs.specs.Tallies.{Tally, CountedCall, tallied, noCalls, callerTally, afterCall}
 use Rattle.defs.specs.Sequence.{TalliedCall, countedBy, afterCalls, ownCalls}
 use Rattle.laws.proofs.Walks.{byTest}
 
 -- ---- one tally
 
-module _ (c : Counted) (t : Tally) where
+module _ (c : CountedCall) (t : Tally) where
   abbrev answered : Tally
   answered = record {
     answered = saturatingAdd (t .answered) 1;
@@ -38,40 +38,40 @@ module _ (c : Counted) (t : Tally) where
 
 -- ---- one call
 
-module _ (c : Counted) (table : List Tally) where
+module _ (c : CountedCall) (table : List Tally) where
   -- the table with the caller's tally counted
   abbrev counted : List Tally
   counted = set table (c .caller) (tallied c (callerTally table (c .caller)))
 
-  pub raised-above : 15 < c .caller → raised c table ≡ table
-  unfolding raised
-  raised-above l = ap (λ (b : Bool). cond b table counted) (lt-ltb 15 (c .caller) l)
+  pub after-above : 15 < c .caller → afterCall c table ≡ table
+  unfolding afterCall
+  after-above l = ap (λ (b : Bool). cond b table counted) (lt-ltb 15 (c .caller) l)
 
-  pub raised-within : c .caller ≤ 15 → raised c table ≡ counted
-  unfolding raised
-  raised-within l = ap (λ (b : Bool). cond b table counted) (le-ltb 15 (c .caller) l)
+  pub after-within : c .caller ≤ 15 → afterCall c table ≡ counted
+  unfolding afterCall
+  after-within l = ap (λ (b : Bool). cond b table counted) (le-ltb 15 (c .caller) l)
 
-  by-caller : {A : Type 0} → (raised c table ≡ table → A) → (raised c table ≡ counted → A) → A
+  by-caller : {A : Type 0} → (afterCall c table ≡ table → A) → (afterCall c table ≡ counted → A) → A
   by-caller f g = byTest (ltb 15 (c .caller))
-      (λ t. f (raised-above (ltb-true 15 (c .caller) t)))
-      (λ t. g (raised-within (ltb-false 15 (c .caller) t)))
+      (λ t. f (after-above (ltb-true 15 (c .caller) t)))
+      (λ t. g (after-within (ltb-false 15 (c .caller) t)))
 
-  pub raised-length : length (raised c table) ≡ length table
-  raised-length = by-caller
+  pub after-length : length (afterCall c table) ≡ length table
+  after-length = by-caller
       (λ e. ap length e)
       (λ e. ap length e ∙ length-set table (c .caller) (tallied c (callerTally table (c .caller))))
 
   -- the caller's tally has counted the call
-  pub raised-own : length table ≡ 16 → c .caller ≤ 15 → callerTally (raised c table) (c .caller) ≡ tallied c (callerTally table (c .caller))
+  pub after-own : length table ≡ 16 → c .caller ≤ 15 → callerTally (afterCall c table) (c .caller) ≡ tallied c (callerTally table (c .caller))
   unfolding callerTally
-  raised-own s l =
-      ap (λ (t : List Tally). getD t (c .caller) noCalls) (raised-within l)
+  after-own s l =
+      ap (λ (t : List Tally). getD t (c .caller) noCalls) (after-within l)
       ∙ getD-set-same table (c .caller) (tallied c (getD table (c .caller) noCalls)) noCalls (omega (arith, s))
 
   -- every other keeps each of its fields
-  pub raised-other : (caller : ℕ) → (caller ≡ c .caller → ⊥) → callerTally (raised c table) caller ≡ callerTally table caller
+  pub after-other : (caller : ℕ) → (caller ≡ c .caller → ⊥) → callerTally (afterCall c table) caller ≡ callerTally table caller
   unfolding callerTally
-  raised-other caller ne = by-caller
+  after-other caller ne = by-caller
       (λ e. ap (λ (t : List Tally). getD t caller noCalls) e)
       (λ e. ap (λ (t : List Tally). getD t caller noCalls) e
       ∙ getD-set-other table (c .caller) caller (tallied c (getD table (c .caller) noCalls)) noCalls ne)
@@ -82,7 +82,7 @@ pub record SameTally (caller : ℕ) (t u : List Tally) : Type 0 where
   pub size : length t ≡ length u
   pub tally : callerTally t caller ≡ callerTally u caller
 
-module _ {caller : ℕ} {t u : List Tally} (S : SameTally caller t u) (c : Counted) where
+module _ {caller : ℕ} {t u : List Tally} (S : SameTally caller t u) (c : CountedCall) where
   -- a tally put in the place of one that is the same in both, or past the end of both
   same-set : {x y : Tally} → x ≡ y → callerTally (set t caller x) caller ≡ callerTally (set u caller y) caller
   unfolding callerTally
@@ -94,21 +94,21 @@ module _ {caller : ℕ} {t u : List Tally} (S : SameTally caller t u) (c : Count
       ∙ sym (ap (λ (r : List Tally). getD r caller noCalls) (set-out u caller y (omega (arith, l, S .size)))))
 
   -- a call of that caller counts the same in both
-  same-own : c .caller ≡ caller → callerTally (raised c t) caller ≡ callerTally (raised c u) caller
+  same-own : c .caller ≡ caller → callerTally (afterCall c t) caller ≡ callerTally (afterCall c u) caller
   same-own e = byTest (ltb 15 (c .caller))
       (λ b. let l = ltb-true 15 (c .caller) b in
-      ap (λ (r : List Tally). callerTally r caller) (raised-above c t l) ∙ S .tally ∙ sym (ap (λ (r : List Tally). callerTally r caller) (raised-above c u l)))
+      ap (λ (r : List Tally). callerTally r caller) (after-above c t l) ∙ S .tally ∙ sym (ap (λ (r : List Tally). callerTally r caller) (after-above c u l)))
       (λ b. let l = ltb-false 15 (c .caller) b in
-      ap (λ (r : List Tally). callerTally r caller) (raised-within c t l)
+      ap (λ (r : List Tally). callerTally r caller) (after-within c t l)
       ∙ subst (λ (i : ℕ). callerTally (set t i (tallied c (callerTally t i))) caller ≡ callerTally (set u i (tallied c (callerTally u i))) caller) (sym e)
       (same-set (ap (tallied c) (S .tally)))
-      ∙ sym (ap (λ (r : List Tally). callerTally r caller) (raised-within c u l)))
+      ∙ sym (ap (λ (r : List Tally). callerTally r caller) (after-within c u l)))
 
-  both-raised : c .caller ≡ caller → SameTally caller (raised c t) (raised c u)
-  both-raised e = record { size = raised-length c t ∙ S .size ∙ sym (raised-length c u); tally = same-own e }
+  same-both : c .caller ≡ caller → SameTally caller (afterCall c t) (afterCall c u)
+  same-both e = record { size = after-length c t ∙ S .size ∙ sym (after-length c u); tally = same-own e }
 
-  one-raised : (caller ≡ c .caller → ⊥) → SameTally caller (raised c t) u
-  one-raised ne = record { size = raised-length c t ∙ S .size; tally = raised-other c t caller ne ∙ S .tally }
+  same-one : (caller ≡ c .caller → ⊥) → SameTally caller (afterCall c t) u
+  same-one ne = record { size = after-length c t ∙ S .size; tally = after-other c t caller ne ∙ S .tally }
 
 -- ---- rows of calls
 
@@ -129,9 +129,9 @@ module _ (caller : ℕ) where
   same-after [] S = S
   same-after (call ∷ calls) {t} {u} S = byTest (eqb ((countedBy call) .caller) caller)
       (λ e. subst (λ (l : List TalliedCall). SameTally caller (afterCalls (call ∷ calls) t) (afterCalls l u)) (sym (own-kept call calls e))
-      (same-after calls (both-raised S (countedBy call) (eqb-true _ caller e))))
+      (same-after calls (same-both S (countedBy call) (eqb-true _ caller e))))
       (λ e. subst (λ (l : List TalliedCall). SameTally caller (afterCalls (call ∷ calls) t) (afterCalls l u)) (sym (own-left-out call calls e))
-      (same-after calls (one-raised S (countedBy call) (λ q. eqb-false _ caller e (sym q)))))
+      (same-after calls (same-one S (countedBy call) (λ q. eqb-false _ caller e (sym q)))))
 
   -- A CALLER'S TALLY AFTER ANY CALLS IS WHAT ITS OWN CALLS ALONE MAKE OF IT
   pub calls-alone : (calls : List TalliedCall) (table : List Tally)

@@ -5,7 +5,8 @@ ghost use Prim.Native.Nat.{ℕ, _≤_, _<_};
 ghost use lib.ListN.{length};
 ghost use Rattle.arrays.specs.Sized.{LentMarks};
 ghost use Rattle.calls.specs.Sending.{Responds};
-ghost use Rattle.reading_calls.specs.Reading.{cleaningResponse, referenceResponse, pathResponse, readingResponse, readingResponseTo, Answerable, Tellable, Tells, GraphAnswered, ReadAnswerable, ReadAnswered};
+ghost use Rattle.reading_calls.specs.Reading.{cleaningResponse, referenceResponse, pathResponse, readingResponse, readingResponseTo};
+ghost use Rattle.reading_calls.specs.Reading.{Answerable, Tellable, Tells, GraphAnswered, ReadAnswerable, ReadAnswered};
 use accept::Read;
 use arrays::LARGE_EDGES;
 use arrays::LARGE_VERTICES;
@@ -162,7 +163,8 @@ fn answer_in(
     tried: &mut [u8],
 ) -> Answer
     requires { ⌜ LentMarks (now rec) (now es) (now vs) (now p) (now heads) (now nexts) (now nodes) (now map) (now tried) ⌝ }
-    ensures { λ r. ⌜ Responds (readingResponse call (now (list .entry)) (now (rec .entry)) (length (now (out .entry)))) (now (out .entry)) r (now (out .exit)) ⌝ }
+    ensures { λ r. ⌜ Responds (readingResponse call (now (list .entry)) (now (rec .entry)) (length (now (out .entry)))) (now (out .entry)) r
+        (now (out .exit)) ⌝ }
 {
     let read = accept::read_sequence_graph(rec, es, vs, p, heads, nexts, nodes, map);
     answer_read(
@@ -196,7 +198,8 @@ fn large_with(
     map: &mut [u32; 2 * LARGE_VERTICES],
     tried: &mut [u8; LARGE_VERTICES],
 ) -> Answer
-    ensures { λ r. ⌜ Responds (readingResponse call (now (list .entry)) (now (rec .entry)) (length (now (out .entry)))) (now (out .entry)) r (now (out .exit)) ⌝ }
+    ensures { λ r. ⌜ Responds (readingResponse call (now (list .entry)) (now (rec .entry)) (length (now (out .entry)))) (now (out .entry)) r
+        (now (out .exit)) ⌝ }
 {
     answer_in(
         call,
@@ -215,7 +218,8 @@ fn large_with(
 }
 
 fn large(call: ReadingCall, list: &[u32], rec: &[u8], out: &mut [u8]) -> Answer
-    ensures { λ r. ⌜ Responds (readingResponse call (now (list .entry)) (now (rec .entry)) (length (now (out .entry)))) (now (out .entry)) r (now (out .exit)) ⌝ }
+    ensures { λ r. ⌜ Responds (readingResponse call (now (list .entry)) (now (rec .entry)) (length (now (out .entry)))) (now (out .entry)) r
+        (now (out .exit)) ⌝ }
 {
     let mut es = [0u32; 8 * LARGE_EDGES];
     let mut vs = [0u32; 4 * LARGE_VERTICES];
@@ -256,7 +260,8 @@ fn small_with(
     tried: &mut [u8; SMALL_VERTICES],
 ) -> Answer
     requires { ⌜ length (now rec) ≤ 1024 ⌝ }
-    ensures { λ r. ⌜ Responds (readingResponse call (now (list .entry)) (now (rec .entry)) (length (now (out .entry)))) (now (out .entry)) r (now (out .exit)) ⌝ }
+    ensures { λ r. ⌜ Responds (readingResponse call (now (list .entry)) (now (rec .entry)) (length (now (out .entry)))) (now (out .entry)) r
+        (now (out .exit)) ⌝ }
 {
     answer_in(
         call,
@@ -276,7 +281,8 @@ fn small_with(
 
 fn small(call: ReadingCall, list: &[u32], rec: &[u8], out: &mut [u8]) -> Answer
     requires { ⌜ length (now rec) ≤ 1024 ⌝ }
-    ensures { λ r. ⌜ Responds (readingResponse call (now (list .entry)) (now (rec .entry)) (length (now (out .entry)))) (now (out .entry)) r (now (out .exit)) ⌝ }
+    ensures { λ r. ⌜ Responds (readingResponse call (now (list .entry)) (now (rec .entry)) (length (now (out .entry)))) (now (out .entry)) r
+        (now (out .exit)) ⌝ }
 {
     let mut es = [0u32; 8 * SMALL_EDGES];
     let mut vs = [0u32; 4 * SMALL_VERTICES];

@@ -8,7 +8,9 @@ use Rattle.defs.specs.Calls.{Response, refused, accepted, numberOf, fieldOf, co
 use Rattle.defs.specs.Calls.{fromAssemblyGraphAnswer, fromAssemblyGraphCounted, simplifyGraphAnswer, simplifyGraphCounted}
 use Rattle.defs.specs.Calls.{cleanupSeqGraphAnswer, cleanupSeqGraphCounted, cleanNonRefPathsAnswer, cleanNonRefPathsCounted}
 use Rattle.defs.specs.Calls.{referencePathBytesResponse, referencePathBytesCounted, pathBasesBytesResponse, pathBasesBytesCounted}
-use Rattle.defs.specs.Tallies.{Counted}
+use Rattle.defs.specs.Sequence.{countedBy, fromAssemblyGraphCall, simplifyGraphCall, cleanupSeqGraphCall, cleanNonRefPathsCall}
+use Rattle.defs.specs.Sequence.{referencePathBytesCall, pathBasesBytesCall}
+use Rattle.defs.specs.Tallies.{CountedCall}
 use Rattle.calls.specs.Answers.{answerOf}
 use Rattle.calls.specs.declared.Answer.{Answer}
 use Rattle.calls.specs.declared.SimplifyAnswer.{SimplifyAnswer}
@@ -31,7 +33,7 @@ module _ {caller : ℕ} {table table′ : Tallies} where
     raises-counted : {number rewrites : ℕ} (made : ℕ) → number ≡ numberOf x → rewrites ≡ fieldOf x made
         → Raises (counted caller number rewrites) table table′ → Raises (countedOf caller x made) table table′
     unfolding countedOf
-    raises-counted made n w R = subst (λ (c : Counted). Raises c table table′) (λ i. record { caller = caller; number = n i; rewrites = w i }) R
+    raises-counted made n w R = subst (λ (c : CountedCall). Raises c table table′) (λ i. record { caller = caller; number = n i; rewrites = w i }) R
 
     -- of a call that makes no rewrites
     raises-answer : {a : Answer} → answerOf a ≡ D.answer x → Raises (counted caller (a .number) 0) table table′
@@ -41,33 +43,33 @@ module _ {caller : ℕ} {table table′ : Tallies} where
 
   module _ {bs out out′ : List ℕ} where
     pub converts-raises : {r : Answer} → Converts bs out caller r out′ → Raises (counted caller (r .number) 0) table table′
-        → Raises (fromAssemblyGraphCounted bs (length out) caller) table table′
-    unfolding fromAssemblyGraphCounted fromAssemblyGraphAnswer
+        → Raises (countedBy (fromAssemblyGraphCall bs (length out) caller)) table table′
+    unfolding countedBy fromAssemblyGraphCounted fromAssemblyGraphAnswer
     converts-raises C R = raises-answer _ (C .answer) R
 
     pub simplifies-raises : {r : SimplifyAnswer} → Simplifies bs out caller r out′ → Raises (counted caller (r .number) (r .rewrites)) table table′
-        → Raises (simplifyGraphCounted bs (length out) caller) table table′
-    unfolding simplifyGraphCounted simplifyGraphAnswer
+        → Raises (countedBy (simplifyGraphCall bs (length out) caller)) table table′
+    unfolding countedBy simplifyGraphCounted simplifyGraphAnswer
     simplifies-raises C R =
         raises-counted _ _ (ap (λ (y : D.SimplifyAnswer). y .number) (C .answer)) (ap (λ (y : D.SimplifyAnswer). y .rewrites) (C .answer)) R
 
     pub cleans-raises : {r : CountedCleanup} → CleansCounted bs out caller r out′ → Raises (counted caller (r .answer .number) (r .rewrites)) table table′
-        → Raises (cleanupSeqGraphCounted bs (length out) caller) table table′
-    unfolding cleanupSeqGraphCounted cleanupSeqGraphAnswer
+        → Raises (countedBy (cleanupSeqGraphCall bs (length out) caller)) table table′
+    unfolding countedBy cleanupSeqGraphCounted cleanupSeqGraphAnswer
     cleans-raises C R = raises-counted _ _ (ap (λ (y : D.CleanupAnswer). y .number) (C .cleans .answer)) (C .rewrites) R
 
     pub cleans-paths-raises : {r : Answer} → CleansPaths bs out caller r out′ → Raises (counted caller (r .number) 0) table table′
-        → Raises (cleanNonRefPathsCounted bs (length out) caller) table table′
-    unfolding cleanNonRefPathsCounted cleanNonRefPathsAnswer
+        → Raises (countedBy (cleanNonRefPathsCall bs (length out) caller)) table table′
+    unfolding countedBy cleanNonRefPathsCounted cleanNonRefPathsAnswer
     cleans-paths-raises C R = raises-answer _ (C .answer) R
 
   module _ (bs : List ℕ) {out out′ : List ℕ} {r : Answer} where
     pub reference-raises : TellsBytes (referencePathBytesResponse bs (length out) caller) out r out′ → Raises (counted caller (r .number) 0) table table′
-        → Raises (referencePathBytesCounted bs (length out) caller) table table′
-    unfolding referencePathBytesCounted
+        → Raises (countedBy (referencePathBytesCall bs (length out) caller)) table table′
+    unfolding countedBy referencePathBytesCounted
     reference-raises C R = raises-answer _ (C .answer) R
 
     pub path-raises : (start : ℕ) (edges : List ℕ) → TellsBytes (pathBasesBytesResponse bs start edges (length out) caller) out r out′
-        → Raises (counted caller (r .number) 0) table table′ → Raises (pathBasesBytesCounted bs start edges (length out) caller) table table′
-    unfolding pathBasesBytesCounted
+        → Raises (counted caller (r .number) 0) table table′ → Raises (countedBy (pathBasesBytesCall bs start edges (length out) caller)) table table′
+    unfolding countedBy pathBasesBytesCounted
     path-raises start edges C R = raises-answer _ (C .answer) R

@@ -2,8 +2,8 @@
 // `sg_vertex_sequence` are their core, which does the work, and then `tallies::count_call`. include/seq_graph.h declares them.
 ghost use lib.ListN.{length};
 ghost use Rattle.defs.specs.Calls.{referencePathBytesResponse, pathBasesBytesResponse};
-ghost use Rattle.defs.specs.Calls.{fromAssemblyGraphCounted, simplifyGraphCounted, cleanupSeqGraphCounted, cleanNonRefPathsCounted};
-ghost use Rattle.defs.specs.Calls.{referencePathBytesCounted, pathBasesBytesCounted};
+ghost use Rattle.defs.specs.Sequence.{countedBy, fromAssemblyGraphCall, simplifyGraphCall, cleanupSeqGraphCall, cleanNonRefPathsCall};
+ghost use Rattle.defs.specs.Sequence.{referencePathBytesCall, pathBasesBytesCall};
 ghost use Rattle.simplify_graph.specs.Simplifies.{Simplifies};
 ghost use Rattle.from_assembly_graph.specs.Converts.{Converts};
 ghost use Rattle.cleanup_seq_graph.specs.Cleans.{Cleans};
@@ -32,7 +32,7 @@ pub extern "C" fn sg_from_assembly_graph(
     table: &mut Tallies,
 ) -> Answer
     ensures { λ r. ⌜ Converts (now (rec .entry)) (now (out .entry)) caller r (now (out .exit))
-        × Raises (fromAssemblyGraphCounted (now (rec .entry)) (length (now (out .entry))) caller) (now (table .entry)) (now (table .exit)) ⌝ }
+        × Raises (countedBy (fromAssemblyGraphCall (now (rec .entry)) (length (now (out .entry))) caller)) (now (table .entry)) (now (table .exit)) ⌝ }
 {
     let r = from_assembly_graph::from_assembly_graph(rec, out, caller);
     tallies::count_call(table, caller, r.number, 0);
@@ -47,7 +47,7 @@ pub extern "C" fn sg_simplify_graph(
     table: &mut Tallies,
 ) -> SimplifyAnswer
     ensures { λ r. ⌜ Simplifies (now (rec .entry)) (now (out .entry)) caller r (now (out .exit))
-        × Raises (simplifyGraphCounted (now (rec .entry)) (length (now (out .entry))) caller) (now (table .entry)) (now (table .exit)) ⌝ }
+        × Raises (countedBy (simplifyGraphCall (now (rec .entry)) (length (now (out .entry))) caller)) (now (table .entry)) (now (table .exit)) ⌝ }
 {
     let r = simplify_graph::simplify_graph(rec, out, caller);
     tallies::count_call(table, caller, r.number, r.rewrites);
@@ -63,7 +63,7 @@ pub extern "C" fn sg_cleanup_seq_graph(
     table: &mut Tallies,
 ) -> CleanupAnswer
     ensures { λ r. ⌜ Cleans (now (rec .entry)) (now (out .entry)) caller r (now (out .exit))
-        × Raises (cleanupSeqGraphCounted (now (rec .entry)) (length (now (out .entry))) caller) (now (table .entry)) (now (table .exit)) ⌝ }
+        × Raises (countedBy (cleanupSeqGraphCall (now (rec .entry)) (length (now (out .entry))) caller)) (now (table .entry)) (now (table .exit)) ⌝ }
 {
     let r = cleanup_seq_graph::cleanup_seq_graph(rec, out, caller);
     tallies::count_call(table, caller, r.answer.number, r.rewrites);
@@ -78,7 +78,7 @@ pub extern "C" fn sg_clean_non_ref_paths(
     table: &mut Tallies,
 ) -> Answer
     ensures { λ r. ⌜ CleansPaths (now (rec .entry)) (now (out .entry)) caller r (now (out .exit))
-        × Raises (cleanNonRefPathsCounted (now (rec .entry)) (length (now (out .entry))) caller) (now (table .entry)) (now (table .exit)) ⌝ }
+        × Raises (countedBy (cleanNonRefPathsCall (now (rec .entry)) (length (now (out .entry))) caller)) (now (table .entry)) (now (table .exit)) ⌝ }
 {
     let r = clean_non_ref_paths::clean_non_ref_paths(rec, out, caller);
     tallies::count_call(table, caller, r.number, 0);
@@ -93,7 +93,7 @@ pub extern "C" fn sg_reference_path_bytes(
     table: &mut Tallies,
 ) -> Answer
     ensures { λ r. ⌜ TellsBytes (referencePathBytesResponse (now (rec .entry)) (length (now (out .entry))) caller) (now (out .entry)) r (now (out .exit))
-        × Raises (referencePathBytesCounted (now (rec .entry)) (length (now (out .entry))) caller) (now (table .entry)) (now (table .exit)) ⌝ }
+        × Raises (countedBy (referencePathBytesCall (now (rec .entry)) (length (now (out .entry))) caller)) (now (table .entry)) (now (table .exit)) ⌝ }
 {
     let r = string_calls::reference_path_bytes(rec, out, caller);
     tallies::count_call(table, caller, r.number, 0);
@@ -111,7 +111,7 @@ pub extern "C" fn sg_path_bases_bytes(
 ) -> Answer
     ensures { λ r. ⌜ TellsBytes (pathBasesBytesResponse (now (rec .entry)) start (now (edges .entry)) (length (now (out .entry))) caller)
         (now (out .entry)) r (now (out .exit))
-        × Raises (pathBasesBytesCounted (now (rec .entry)) start (now (edges .entry)) (length (now (out .entry))) caller) (now (table .entry))
+        × Raises (countedBy (pathBasesBytesCall (now (rec .entry)) start (now (edges .entry)) (length (now (out .entry))) caller)) (now (table .entry))
         (now (table .exit)) ⌝ }
 {
     let r = string_calls::path_bases_bytes(rec, start, edges, out, caller);

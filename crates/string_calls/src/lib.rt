@@ -14,13 +14,7 @@ pub fn reference_path_bytes(rec: &[u8], out: &mut [u8], caller: u32) -> Answer
 }
 
 // 9 where the start or the list of edges is no path.
-pub fn path_bases_bytes(
-    rec: &[u8],
-    start: u32,
-    list: &[u32],
-    out: &mut [u8],
-    caller: u32,
-) -> Answer
+pub fn path_bases_bytes(rec: &[u8], start: u32, list: &[u32], out: &mut [u8], caller: u32) -> Answer
     ensures { λ r. ⌜ TellsBytes (pathBasesBytesResponse (now (rec .entry)) start (now (list .entry)) (length (now (out .entry))) caller)
         (now (out .entry)) r (now (out .exit)) ⌝ }
 {

@@ -24,20 +24,23 @@ use Rattle.tallied_calls.proofs.Kind.{Kind, own-answer, says-mach, has-
 abbrev answerVals : Answer → Vals
 answerVals d = vcons (vint w32 (d .number)) (vcons (vint w32 (d .length)) vnil)
 
-abbrev pub answer : Kind
-answer =
+abbrev pub answer-kind : Kind
+answer-kind =
     own-answer R.the-type R′.the-laws R′.the-plain R′.mir (λ d. vstruct (answerVals d)) refl (λ d. refl)
     (λ d. d .number) (λ d v is. LL.owed R.the-type R′.the-laws d _ is .0 .1) (λ i. copy (place i (field 0 ∷ []))) (field-of _ _ answerVals 0 (tyInt w32) 0 refl)
     (λ d. 0) (λ d v is. lit< tt) (λ i. int w32 0) (zero-of _ _)
 
 abbrev simplifyVals : SimplifyAnswer → Vals
-simplifyVals d = vcons (vint w32 (d .number)) (vcons (vint w32 (d .length)) (vcons (vint w32 (d .rewrites)) (vcons (vint w32 (d .rounds)) (vcons (vint w32 (d .end)) vnil))))
+simplifyVals d = vcons (vint w32 (d .number)) (vcons (vint w32 (d .length))
+    (vcons (vint w32 (d .rewrites)) (vcons (vint w32 (d .rounds)) (vcons (vint w32 (d .end)) vnil))))
 
-abbrev pub simplify-answer : Kind
-simplify-answer =
+abbrev pub simplify-answer-kind : Kind
+simplify-answer-kind =
     own-answer S.the-type S′.the-laws S′.the-plain S′.mir (λ d. vstruct (simplifyVals d)) refl (λ d. refl)
-    (λ d. d .number) (λ d v is. LL.owed S.the-type S′.the-laws d _ is .0 .1) (λ i. copy (place i (field 0 ∷ []))) (field-of _ _ simplifyVals 0 (tyInt w32) 0 refl)
-    (λ d. d .rewrites) (λ d v is. LL.owed S.the-type S′.the-laws d _ is .1 .1 .0 .1) (λ i. copy (place i (field 2 ∷ []))) (field-of _ _ simplifyVals 2 (tyInt w32) 8 refl)
+    (λ d. d .number) (λ d v is. LL.owed S.the-type S′.the-laws d _ is .0 .1) (λ i. copy (place i (field 0 ∷ [])))
+    (field-of _ _ simplifyVals 0 (tyInt w32) 0 refl)
+    (λ d. d .rewrites) (λ d v is. LL.owed S.the-type S′.the-laws d _ is .1 .1 .0 .1) (λ i. copy (place i (field 2 ∷ [])))
+    (field-of _ _ simplifyVals 2 (tyInt w32) 8 refl)
 
 -- the answer is a field of what the core returns, and the rewrites stand beside it
 abbrev cleanupVals : CountedCleanup → Vals
@@ -49,8 +52,8 @@ countedVals d = vcons (vstruct (cleanupVals d)) (vcons (vint w32 (d .rewrites)) 
 pub counted-answer : (d : CountedCleanup) (v : Val) → Is D.the-row d (v ∷ []) → Is U.the-row (d .answer) (vstruct (cleanupVals d) ∷ [])
 counted-answer d v is = LL.owed D.the-type D′.the-laws d _ is .0
 
-abbrev pub counted-cleanup : Kind
-counted-cleanup = record {
+abbrev pub counted-cleanup-kind : Kind
+counted-cleanup-kind = record {
   core = D.the-row;
   mir = D′.mir;
   mach = λ d. vstruct (countedVals d);

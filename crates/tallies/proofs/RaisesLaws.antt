@@ -6,9 +6,9 @@ use Prim.Native.Nat.{ℕ, zero, suc, _<_, _≤_}
 use lib.ListN.{getD, set, List·getD-map}
 use Rattle.defs.specs.SeqGraph.{saturatingAdd}
 use Rattle.defs.specs.Tallies as D
-use Rattle.defs.specs.Tallies.{Counted, tallied, noCalls, callerTally, raised}
+use Rattle.defs.specs.Tallies.{CountedCall, tallied, noCalls, callerTally, afterCall}
 use Rattle.defs.specs.Sequence.{TalliedCall, countedBy, afterCalls, ownCalls}
-use Rattle.laws.proofs.Tallies.{tallied-answered, tallied-refused, raised-above, raised-within, raised-other, calls-alone}
+use Rattle.laws.proofs.Tallies.{tallied-answered, tallied-refused, after-above, after-within, after-other, calls-alone}
 use Rattle.tallies.specs.Raises.{tallyOf, talliesOf, counted, TalliesCall, Raises, Leaves}
 use Rattle.tallies.specs.declared.Tally.{Tally}
 use Rattle.tallies.specs.declared.Tallies.{Tallies}
@@ -38,11 +38,11 @@ map-set f (x ∷ xs) zero v = refl
 map-set {B = B} f (x ∷ xs) (suc i) v = ap (λ (t : List B). f x ∷ t) (map-set f xs i v)
 
 module _ (table : Tallies) (caller number rewrites : ℕ) where
-  abbrev this : Counted
+  abbrev this : CountedCall
   this = counted caller number rewrites
 
   pub raises-none : 15 < caller → Raises this table table
-  raises-none l = record { is = sym (raised-above this (talliesOf table) l) }
+  raises-none l = record { is = sym (after-above this (talliesOf table) l) }
 
   abbrev empty : Tally
   empty = record { answered = 0; refused = 0; rewrites = 0 }
@@ -56,7 +56,7 @@ module _ (table : Tallies) (caller number rewrites : ℕ) where
   raises-one {new} l T = record {
     is = map-set tallyOf (table .callers) caller new
         ∙ ap (set (talliesOf table) caller) (T .is caller ∙ ap (tallied this) (sym tally-at))
-        ∙ sym (raised-within this (talliesOf table) l);
+        ∙ sym (after-within this (talliesOf table) l);
   }
 
 -- ---- rows of calls
@@ -75,6 +75,6 @@ leaves-alone caller calls table table′ alone l o =
     ∙ sym (ap (λ (t : List D.Tally). callerTally t caller) (leaves-after (ownCalls caller calls) table alone o))
 
 -- a call keeps each field of every tally but its caller's
-pub raises-other : {c : Counted} {table table′ : Tallies} → Raises c table table′ → (caller : ℕ) → (caller ≡ c .caller → ⊥)
+pub raises-other : {c : CountedCall} {table table′ : Tallies} → Raises c table table′ → (caller : ℕ) → (caller ≡ c .caller → ⊥)
     → callerTally (talliesOf table′) caller ≡ callerTally (talliesOf table) caller
-raises-other {c} {table} R caller ne = ap (λ (t : List D.Tally). callerTally t caller) (R .is) ∙ raised-other c (talliesOf table) caller ne
+raises-other {c} {table} R caller ne = ap (λ (t : List D.Tally). callerTally t caller) (R .is) ∙ after-other c (talliesOf table) caller ne

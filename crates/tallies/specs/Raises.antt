@@ -3,7 +3,7 @@ use mathlib.Core.Path.{_≡_}
 use mathlib.Core.List.{List, [], _∷_, map}
 use Prim.Native.Nat.{ℕ}
 use Rattle.defs.specs.Tallies as D
-use Rattle.defs.specs.Tallies.{Counted, tallied, raised}
+use Rattle.defs.specs.Tallies.{CountedCall, tallied, afterCall}
 use Rattle.defs.specs.Sequence.{TalliedCall, countedBy}
 use Rattle.tallies.specs.declared.Tally.{Tally}
 use Rattle.tallies.specs.declared.Tallies.{Tallies}
@@ -15,7 +15,7 @@ tallyOf t = record { answered = t .answered; refused = t .refused; rewrites = t 
 abbrev pub talliesOf : Tallies → List D.Tally
 talliesOf table = map tallyOf (table .callers)
 
-abbrev pub counted : ℕ → ℕ → ℕ → Counted
+abbrev pub counted : ℕ → ℕ → ℕ → CountedCall
 counted caller number rewrites = record { caller = caller; number = number; rewrites = rewrites }
 
 -- a tally behind a call, whoever called
@@ -23,10 +23,10 @@ pub record TalliesCall (number rewrites : ℕ) (t t′ : Tally) : Type 0 where
   pub is : (caller : ℕ) → tallyOf t′ ≡ tallied (counted caller number rewrites) (tallyOf t)
 
 -- The table at exit is the definition's, all sixteen entries.
-pub record Raises (c : Counted) (table table′ : Tallies) : Type 0 where
-  pub is : talliesOf table′ ≡ raised c (talliesOf table)
+pub record Raises (c : CountedCall) (table table′ : Tallies) : Type 0 where
+  pub is : talliesOf table′ ≡ afterCall c (talliesOf table)
 
--- calls one after another on one table, each of which leaves it as its promise says
+-- Calls one after another on one table: each leaves it as the promise of its call says.
 unfoldable pub Leaves : List TalliedCall → Tallies → Tallies → Type 0
 Leaves [] table table′ = table′ ≡ table
 Leaves (call ∷ calls) table table′ = (between : Tallies) × (Raises (countedBy call) table between × Leaves calls between table′)

@@ -8,7 +8,9 @@ returns : tie.Need-returns
 returns c = raises-none _ _ _ _ (c .if1 .taken)
 
 returns-2 : tie.Need-returns-2
-returns-2 c = raises-one _ _ _ _ (c .before .before .if1 .left) (c .tallied .ensures)
+returns-2 c =
+    let at-if1 : tie.Else1 = search in
+    raises-one _ _ _ _ (at-if1 .if1 .left) (c .tallied .ensures)
 
 pub raised-spec : {M : Type 1} → statement M
 raised-spec =
