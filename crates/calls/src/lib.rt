@@ -61,8 +61,8 @@ pub fn simplify_answer(sent: Answer, rewrites: u32, rounds: u32, end: u32) -> Si
     }
 }
 
-pub fn cleanup_answer(sent: Answer, status: u32, rewrites: u32) -> CountedCleanup
-    ensures { λ r. ⌜ AnswersCleanup sent status rewrites r ⌝ }
+pub fn cleanup_answer(sent: Answer, status: u32, made: u32) -> CountedCleanup
+    ensures { λ r. ⌜ AnswersCleanup sent status made r ⌝ }
 {
     let number = sent.number;
     if number != 0 {
@@ -83,7 +83,7 @@ pub fn cleanup_answer(sent: Answer, status: u32, rewrites: u32) -> CountedCleanu
     };
     CountedCleanup {
         answer: answer,
-        rewrites: rewrites,
+        rewrites: made,
     }
 }
 

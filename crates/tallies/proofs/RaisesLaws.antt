@@ -3,6 +3,7 @@
 use mathlib.Core.Path.{_≡_, refl, sym, ap, _∙_}
 use mathlib.Core.List.{List, [], _∷_, map}
 use Prim.Native.Nat.{ℕ, zero, suc, _<_, _≤_}
+use native.Mathlib.Omega.{arith}
 use lib.ListN.{getD, set, List·getD-map}
 use Rattle.defs.specs.SeqGraph.{saturatingAdd}
 use Rattle.defs.specs.Tallies as D
@@ -42,7 +43,7 @@ module _ (table : Tallies) (caller number rewrites : ℕ) where
   this = counted caller number rewrites
 
   pub raises-none : 15 < caller → Raises this table table
-  raises-none l = record { is = sym (after-above this (talliesOf table) l) }
+  raises-none l = record { is = sym (after-above this (talliesOf table) (omega (arith, l))) }
 
   abbrev empty : Tally
   empty = record { answered = 0; refused = 0; rewrites = 0 }
@@ -56,7 +57,7 @@ module _ (table : Tallies) (caller number rewrites : ℕ) where
   raises-one {new} l T = record {
     is = map-set tallyOf (table .callers) caller new
         ∙ ap (set (talliesOf table) caller) (T .is caller ∙ ap (tallied this) (sym tally-at))
-        ∙ sym (after-within this (talliesOf table) l);
+        ∙ sym (after-within this (talliesOf table) (omega (arith, l)));
   }
 
 -- ---- rows of calls
