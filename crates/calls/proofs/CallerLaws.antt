@@ -5,10 +5,11 @@ use mathlib.Core.List.{List, _∷_}
 use Prim.Native.Nat.{ℕ, _≤_, _<_}
 use native.Mathlib.Omega.{arith}
 use borrow.Author.Tests.{lt-ltb, le-ltb}
-use Rattle.defs.specs.Calls.{Response, refused, callerCause, respondTo, respond}
-use Rattle.defs.specs.Refusals.{Cause, refusalOf}
+use Rattle.defs.specs.Calls.{refused, callerCause, respondTo, respond}
+use Rattle.defs.specs.Lists.{allOf}
+use Rattle.defs.specs.Refusals.{Cause, refusalOf, Takes, layoutCauses, recordCauses, recordRefusal}
 use Rattle.laws.proofs.Walks.{byTest}
-use Rattle.laws.proofs.Causes.{refusal-there, refusal-absent}
+use Rattle.laws.proofs.Causes.{refusal-there, refusal-absent, numbers-other}
 use Rattle.calls.specs.Sending.{Responds}
 use Rattle.calls.specs.declared.Answer.{Answer}
 use Rattle.calls.proofs.SendLaws.{responds-refused, responds-as}
@@ -44,6 +45,16 @@ module _ (caller : ℕ) where
       pub respond-within : caller ≤ 15 → respond (callerCause caller ∷ causes) result ≡ respond causes result
       unfolding respond
       respond-within l = ap (λ (n : ℕ). respondTo n result) (refusal-absent (callerCause caller) causes (caller-within l))
+
+-- 18 and the causes that lie in the record
+module _ (caller : ℕ) (t : Takes) (bs : List ℕ) where
+  pub caller-record-none : refusalOf (callerCause caller ∷ recordCauses t bs) ≡ 0 → recordRefusal t bs ≡ 0
+  unfolding recordRefusal
+  caller-record-none = caller-none caller (recordCauses t bs)
+
+  pub caller-record-never-11 : refusalOf (callerCause caller ∷ recordCauses t bs) ≡ 11 → ⊥
+  unfolding callerCause recordCauses layoutCauses allOf
+  caller-record-never-11 = numbers-other 11 (callerCause caller ∷ recordCauses t bs) (omega arith) refl
 
 -- what is sent to a caller
 module _ {caller : ℕ} (causes : List Cause) (result : List ℕ) {out : List ℕ} where

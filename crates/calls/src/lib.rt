@@ -1,6 +1,5 @@
 // What the public calls have in common: their result structs, and what is sent: the number of a refusal, or the record of a graph where it
 // fits.
-ghost use mathlib.Core.Path.{_≡_};
 ghost use lib.ListN.{length};
 ghost use Rattle.defs.specs.Record.{sequenceGraph, encode};
 ghost use Rattle.memory.specs.Memory.{graphOf};

@@ -6,17 +6,17 @@ use native.Mathlib.Omega.{arith}
 use lib.ListN.{length}
 use Rattle.defs.specs.Cleanup.{cleanNonRefPaths}
 use Rattle.defs.specs.Record.{decode}
-use Rattle.defs.specs.Refusals.{Cause, refusalOf, sequenceOnly, recordCauses, recordRefusal}
+use Rattle.defs.specs.Refusals.{Cause, refusalOf, sequenceOnly, recordCauses}
 use Rattle.defs.specs.Calls as D
 use Rattle.defs.specs.Calls.{callerCause, cleanNonRefPathsCauses, cleanNonRefPathsResponse, cleanNonRefPathsAnswer}
 use Rattle.reread.specs.Reread.{ReacceptedAs}
 use Rattle.reread.proofs.Graphs.{input-reaccepted}
-use Rattle.reread.proofs.Read.{Bytes, record-most, sequence-input}
+use Rattle.reread.proofs.Read.{Bytes, sequence-input}
 use Rattle.cleanup_room.proofs.CleanInput.{clean-input}
 use Rattle.calls.specs.Sending.{Responds}
 use Rattle.calls.specs.declared.Answer.{Answer}
 use Rattle.calls.proofs.ResponseLaws.{answered-holds, room-enough}
-use Rattle.calls.proofs.CallerLaws.{caller-other, caller-none}
+use Rattle.calls.proofs.CallerLaws.{caller-record-none, caller-record-never-11}
 use Rattle.reading_calls.specs.Reading.{readingResponseTo}
 use Rattle.reading_calls.specs.declared.ReadingCall.the-variants.{CleanNonRefPaths}
 use Rattle.clean_non_ref_paths.specs.CleansPaths.{CleansPaths}
@@ -29,14 +29,9 @@ module _ (bs list : List ℕ) (caller : ℕ) {out : List ℕ} {a : Answer} {out�
   abbrev result : List ℕ
   result = D.reducedRecord bs
 
-  never-11 : refusalOf causes ≡ 11 → ⊥
-  unfolding recordRefusal
-  never-11 e = omega (arith, caller-other caller (recordCauses sequenceOnly bs) (λ z. omega (arith, z)) e, record-most sequenceOnly bs)
-
   again : refusalOf causes ≡ 0 → ReacceptedAs (cleanNonRefPaths (decode bs)) result
-  unfolding recordRefusal
   again ok =
-      let I = sequence-input bs small (caller-none caller (recordCauses sequenceOnly bs) ok) in
+      let I = sequence-input bs small (caller-record-none caller sequenceOnly bs ok) in
       input-reaccepted (cleanNonRefPaths (decode bs)) (clean-input (decode bs) I) 0 (omega arith)
 
   pub cleans-paths : CleansPaths bs out caller a out′
@@ -44,6 +39,6 @@ module _ (bs list : List ℕ) (caller : ℕ) {out : List ℕ} {a : Answer} {out�
   cleans-paths = record {
     answer = λ i. record { number = S .number i; length = S .size i };
     written = S .written;
-    room = λ l i. room-enough causes out result 49184 never-11 (λ ok. (again ok) .size) l (sym (S .number) ∙ i);
+    room = λ l i. room-enough causes out result 49184 (caller-record-never-11 caller sequenceOnly bs) (λ ok. (again ok) .size) l (sym (S .number) ∙ i);
     reaccepted = answered-holds causes out result (ReacceptedAs (cleanNonRefPaths (decode bs))) again (S .number) (S .size) (S .written);
   }

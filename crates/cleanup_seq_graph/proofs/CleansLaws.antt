@@ -13,12 +13,12 @@ use Rattle.calls.specs.Sending.{withOutput}
 use Rattle.laws.proofs.Cleaned.{cleanup-varies, cleanup-plain}
 use Rattle.sound.proofs.Accepted.{accepted-good}
 use Rattle.reread.specs.Reread.{RereadAs}
-use Rattle.reread.proofs.Read.{Bytes, record-most}
+use Rattle.reread.proofs.Read.{Bytes}
 use Rattle.reread.proofs.Answers.{cleanup-reread}
 use Rattle.calls.specs.Answers.{cleanupAnswerOf, AnswersCleanup}
 use Rattle.calls.specs.declared.CountedCleanup.{CountedCleanup}
 use Rattle.calls.proofs.ResponseLaws.{answered-holds, room-enough, field-answered}
-use Rattle.calls.proofs.CallerLaws.{caller-other, caller-none}
+use Rattle.calls.proofs.CallerLaws.{caller-record-none, caller-record-never-11}
 use Rattle.rewriting.specs.Rewriting.{resultOf}
 use Rattle.rewriting.specs.declared.RewritingCall.the-variants.{CleanupSeqGraph}
 use Rattle.rewriting_calls.specs.Answered.{RewritingAnsweredTo}
@@ -53,7 +53,7 @@ module _ {bs out : List ℕ} {caller : ℕ} {r : RewritingAnswer} {a : CountedCl
   answers = T .is (withOutput causes (length out) result) result z (A .sent .number) (A .sent .size) (λ i. let c = A .counted i in (c .status, c .rewrites))
 
   cleans : Cleans bs out caller (a .answer) out′
-  unfolding cleanupSeqGraphAnswer cleanupSeqGraphResponse cleanupSeqGraphCauses resultOf recordRefusal
+  unfolding cleanupSeqGraphAnswer cleanupSeqGraphResponse cleanupSeqGraphCauses resultOf
   cleans = record {
     answer = answers .0;
     written = A .sent .written;
@@ -61,7 +61,7 @@ module _ {bs out : List ℕ} {caller : ℕ} {r : RewritingAnswer} {a : CountedCl
         subst (SpellsChosen (choiceGraph (decode bs))) (sym (again ok .graph)) (chosen ok (status-two (z .status) (sym (status-is i) ∙ two)))) i;
     plain = λ i one. holds (λ rec. decode rec ≡ choiceGraph (decode bs)) (λ ok.
         again ok .graph ∙ cleanup-plain (decode bs) (status-one (z .status) (sym (status-is i) ∙ one))) i;
-    room = λ l i. room-enough causes out result 176160 never-11
+    room = λ l i. room-enough causes out result 176160 (caller-record-never-11 caller sequenceOnly bs)
         (λ ok. again ok .size) l (sym number-is ∙ i);
     reread = holds (RereadAs (z .graph)) again;
   }
@@ -72,11 +72,8 @@ module _ {bs out : List ℕ} {caller : ℕ} {r : RewritingAnswer} {a : CountedCl
       status-is : a .answer .number ≡ 0 → a .answer .status ≡ statusNumber (z .status)
       status-is i = ap (λ (x : D.CleanupAnswer). x .status) (answers .0) ∙ field-answered causes out result (statusNumber (z .status)) (sym number-is ∙ i)
 
-      never-11 : refusalOf causes ≡ 11 → ⊥
-      never-11 e = omega (arith, caller-other caller (recordCauses sequenceOnly bs) (λ z. omega (arith, z)) e, record-most sequenceOnly bs)
-
       none-of : refusalOf causes ≡ 0 → recordRefusal sequenceOnly bs ≡ 0
-      none-of = caller-none caller (recordCauses sequenceOnly bs)
+      none-of = caller-record-none caller sequenceOnly bs
 
       again : refusalOf causes ≡ 0 → RereadAs (z .graph) result
       again ok = cleanup-reread bs small (none-of ok)

@@ -22,7 +22,6 @@ use Rattle.reread.specs.Recordable.{SequenceInput, KmerInput}
 use Rattle.reread.proofs.Graphs.{input-reaccepted}
 use Rattle.reread.proofs.Read.{Bytes, kmer-input}
 use Rattle.convert.proofs.SortLaws.{of-sort, length-sort, single-sort}
-use Rattle.calls.specs.Answers.{answerOf}
 use Rattle.calls.specs.Sending.{Responds, GraphSendable, SendsGraph}
 use Rattle.calls.specs.declared.Answer.{Answer}
 use Rattle.calls.proofs.ResponseLaws.{answered-holds, room-enough}

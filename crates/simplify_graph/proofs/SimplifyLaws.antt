@@ -20,12 +20,12 @@ use Rattle.laws.proofs.Bound.{simplify-bound}
 use Rattle.laws.proofs.Whole.{simplify-spells}
 use Rattle.sound.proofs.Accepted.{accepted-good}
 use Rattle.reread.specs.Reread.{RereadAs}
-use Rattle.reread.proofs.Read.{Bytes, record-most}
+use Rattle.reread.proofs.Read.{Bytes}
 use Rattle.reread.proofs.Answers.{simplify-reread}
 use Rattle.calls.specs.Answers.{simplifyAnswerOf, AnswersSimplify}
 use Rattle.calls.specs.declared.SimplifyAnswer.{SimplifyAnswer}
 use Rattle.calls.proofs.ResponseLaws.{answered-holds, room-enough, field-most}
-use Rattle.calls.proofs.CallerLaws.{caller-other, caller-none}
+use Rattle.calls.proofs.CallerLaws.{caller-record-none, caller-record-never-11}
 use Rattle.rewriting.specs.Rewriting.{resultOf}
 use Rattle.rewriting.specs.declared.RewritingCall.the-variants.{SimplifyGraph}
 use Rattle.rewriting_calls.specs.Answered.{RewritingAnsweredTo}
@@ -48,7 +48,7 @@ module _ {bs out : List ℕ} {caller : ℕ} {r : RewritingAnswer} {a : SimplifyA
   answer-is = T .is (withOutput causes (length out) result) result z (A .sent .number) (A .sent .size) (λ i. let c = A .counted i in (c .rewrites, (c .rounds, c .end)))
 
   pub simplifies : Simplifies bs out caller a out′
-  unfolding simplifyGraphAnswer simplifyGraphResponse simplifyGraphCauses resultOf recordRefusal weight
+  unfolding simplifyGraphAnswer simplifyGraphResponse simplifyGraphCauses resultOf weight
   simplifies = record {
     answer = answer-is;
     written = A .sent .written;
@@ -60,7 +60,7 @@ module _ {bs out : List ℕ} {caller : ℕ} {r : RewritingAnswer} {a : SimplifyA
       field-most causes out result (z .rewrites) _
           (λ ok. simplify-bound minTailSuffixLen (omega arith) (decode bs) (good ok)),
     );
-    room = λ l i. room-enough causes out result 176160 never-11
+    room = λ l i. room-enough causes out result 176160 (caller-record-never-11 caller sequenceOnly bs)
         (λ ok. again ok .size) l (sym number-is ∙ i);
     reread = holds (RereadAs (z .graph)) again;
   }
@@ -68,11 +68,8 @@ module _ {bs out : List ℕ} {caller : ℕ} {r : RewritingAnswer} {a : SimplifyA
       number-is : a .number ≡ numberOf (simplifyGraphResponse bs (length out) caller)
       number-is = ap (λ (x : D.SimplifyAnswer). x .number) answer-is
 
-      never-11 : refusalOf causes ≡ 11 → ⊥
-      never-11 e = omega (arith, caller-other caller (recordCauses sequenceOnly bs) (λ z. omega (arith, z)) e, record-most sequenceOnly bs)
-
       none-of : refusalOf causes ≡ 0 → recordRefusal sequenceOnly bs ≡ 0
-      none-of = caller-none caller (recordCauses sequenceOnly bs)
+      none-of = caller-record-none caller sequenceOnly bs
 
       good : refusalOf causes ≡ 0 → Good (decode bs)
       good ok = accepted-good sequenceOnly bs (none-of ok)

@@ -1,23 +1,22 @@
 -- The structs that the cores return, as a walk of a tallied call has to know them. Assumes nothing.
-use mathlib.Core.Path.{_≡_, refl, ap, subst}
+use mathlib.Core.Path.{refl}
 use mathlib.Core.List.{[], _∷_}
-use lib.Dec.{T, lit<}
+use lib.Dec.{lit<}
 use mir.Syntax.{tyInt, w32, place, field, copy, int}
-use mir.Val.{Val, Vals, vint, vstruct, vnil, vcons, WT, hasTy}
+use mir.Val.{Val, Vals, vint, vstruct, vnil, vcons}
 use denote.Laws.{Is}
 use denote.Struct.Laws as LL
 use Rattle.calls.specs.declared.Answer.{Answer}
-use Rattle.calls.proofs.Answer as R
-use Rattle.calls.proofs.Answer.Laws as R′
+use Rattle.calls.proofs.Answer as plain
+use Rattle.calls.proofs.Answer.Laws as plain-laws
 use Rattle.calls.specs.declared.SimplifyAnswer.{SimplifyAnswer}
-use Rattle.calls.proofs.SimplifyAnswer as S
-use Rattle.calls.proofs.SimplifyAnswer.Laws as S′
-use Rattle.calls.specs.declared.CleanupAnswer.{CleanupAnswer}
-use Rattle.calls.proofs.CleanupAnswer as U
-use Rattle.calls.proofs.CleanupAnswer.Laws as U′
+use Rattle.calls.proofs.SimplifyAnswer as simplify
+use Rattle.calls.proofs.SimplifyAnswer.Laws as simplify-laws
+use Rattle.calls.proofs.CleanupAnswer as cleanup
+use Rattle.calls.proofs.CleanupAnswer.Laws as cleanup-laws
 use Rattle.calls.specs.declared.CountedCleanup.{CountedCleanup}
-use Rattle.calls.proofs.CountedCleanup as D
-use Rattle.calls.proofs.CountedCleanup.Laws as D′
+use Rattle.calls.proofs.CountedCleanup as counted
+use Rattle.calls.proofs.CountedCleanup.Laws as counted-laws
 use Rattle.tallied_calls.proofs.Kind.{Kind, own-answer, says-mach, has-type, field-of, inner-of, zero-of}
 
 -- no rewrites are counted of an `Answer`
@@ -26,8 +25,9 @@ answerVals d = vcons (vint w32 (d .number)) (vcons (vint w32 (d .length)) vnil)
 
 abbrev pub answer-kind : Kind
 answer-kind =
-    own-answer R.the-type R′.the-laws R′.the-plain R′.mir (λ d. vstruct (answerVals d)) refl (λ d. refl)
-    (λ d. d .number) (λ d v is. LL.owed R.the-type R′.the-laws d _ is .0 .1) (λ i. copy (place i (field 0 ∷ []))) (field-of _ _ answerVals 0 (tyInt w32) 0 refl)
+    own-answer plain.the-type plain-laws.the-laws plain-laws.the-plain plain-laws.mir (λ d. vstruct (answerVals d)) refl (λ d. refl)
+    (λ d. d .number) (λ d v is. LL.owed plain.the-type plain-laws.the-laws d _ is .0 .1) (λ i. copy (place i (field 0 ∷ [])))
+    (field-of _ _ answerVals 0 (tyInt w32) 0 refl)
     (λ d. 0) (λ d v is. lit< tt) (λ i. int w32 0) (zero-of _ _)
 
 abbrev simplifyVals : SimplifyAnswer → Vals
@@ -36,10 +36,10 @@ simplifyVals d = vcons (vint w32 (d .number)) (vcons (vint w32 (d .length))
 
 abbrev pub simplify-answer-kind : Kind
 simplify-answer-kind =
-    own-answer S.the-type S′.the-laws S′.the-plain S′.mir (λ d. vstruct (simplifyVals d)) refl (λ d. refl)
-    (λ d. d .number) (λ d v is. LL.owed S.the-type S′.the-laws d _ is .0 .1) (λ i. copy (place i (field 0 ∷ [])))
+    own-answer simplify.the-type simplify-laws.the-laws simplify-laws.the-plain simplify-laws.mir (λ d. vstruct (simplifyVals d)) refl (λ d. refl)
+    (λ d. d .number) (λ d v is. LL.owed simplify.the-type simplify-laws.the-laws d _ is .0 .1) (λ i. copy (place i (field 0 ∷ [])))
     (field-of _ _ simplifyVals 0 (tyInt w32) 0 refl)
-    (λ d. d .rewrites) (λ d v is. LL.owed S.the-type S′.the-laws d _ is .1 .1 .0 .1) (λ i. copy (place i (field 2 ∷ [])))
+    (λ d. d .rewrites) (λ d v is. LL.owed simplify.the-type simplify-laws.the-laws d _ is .1 .1 .0 .1) (λ i. copy (place i (field 2 ∷ [])))
     (field-of _ _ simplifyVals 2 (tyInt w32) 8 refl)
 
 -- the answer is a field of what the core returns, and the rewrites stand beside it
@@ -49,31 +49,31 @@ cleanupVals d = vcons (vint w32 (d .answer .number)) (vcons (vint w32 (d .answer
 abbrev countedVals : CountedCleanup → Vals
 countedVals d = vcons (vstruct (cleanupVals d)) (vcons (vint w32 (d .rewrites)) vnil)
 
-pub counted-answer : (d : CountedCleanup) (v : Val) → Is D.the-row d (v ∷ []) → Is U.the-row (d .answer) (vstruct (cleanupVals d) ∷ [])
-counted-answer d v is = LL.owed D.the-type D′.the-laws d _ is .0
+pub counted-answer : (d : CountedCleanup) (v : Val) → Is counted.the-row d (v ∷ []) → Is cleanup.the-row (d .answer) (vstruct (cleanupVals d) ∷ [])
+counted-answer d v is = LL.owed counted.the-type counted-laws.the-laws d _ is .0
 
 abbrev pub counted-cleanup-kind : Kind
 counted-cleanup-kind = record {
-  core = D.the-row;
-  mir = D′.mir;
+  core = counted.the-row;
+  mir = counted-laws.mir;
   mach = λ d. vstruct (countedVals d);
-  tells = says-mach D.the-type D′.the-laws D′.the-plain D′.mir (λ d. vstruct (countedVals d)) refl (λ d. refl);
-  typed = has-type D.the-type D′.the-laws D′.the-plain D′.mir (λ d. vstruct (countedVals d)) refl (λ d. refl);
+  tells = says-mach counted.the-type counted-laws.the-laws counted-laws.the-plain counted-laws.mir (λ d. vstruct (countedVals d)) refl (λ d. refl);
+  typed = has-type counted.the-type counted-laws.the-laws counted-laws.the-plain counted-laws.mir (λ d. vstruct (countedVals d)) refl (λ d. refl);
   number = λ d. d .answer .number;
-  number-fits = λ d v is. LL.owed U.the-type U′.the-laws (d .answer) _ (counted-answer d v is) .0 .1;
+  number-fits = λ d v is. LL.owed cleanup.the-type cleanup-laws.the-laws (d .answer) _ (counted-answer d v is) .0 .1;
   number-at = λ i. copy (place i (field 0 ∷ field 0 ∷ []));
   reads-number = inner-of _ _ countedVals 0 _ _ 0 cleanupVals 0 (tyInt w32) 0 refl (λ d. refl) refl;
   rewrites = λ d. d .rewrites;
-  rewrites-fits = λ d v is. LL.owed D.the-type D′.the-laws d _ is .1 .0 .1;
+  rewrites-fits = λ d v is. LL.owed counted.the-type counted-laws.the-laws d _ is .1 .0 .1;
   rewrites-at = λ i. copy (place i (field 1 ∷ []));
   reads-rewrites = field-of _ _ countedVals 1 (tyInt w32) 12 refl;
-  answer = U.the-row;
-  answer-mir = U′.mir;
+  answer = cleanup.the-row;
+  answer-mir = cleanup-laws.mir;
   result = λ d. d .answer;
   result-mach = λ d. vstruct (cleanupVals d);
   result-is = counted-answer;
-  result-typed = λ 𝓤 H A W d v is. LL.lawful U.the-type U′.the-laws 𝓤 H A W .typed (d .answer) _ (counted-answer d v is) .0;
-  result-made = λ 𝓤 H A. LL.makes U.the-type U′.the-plain 𝓤 H A;
+  result-typed = λ 𝓤 H A W d v is. LL.lawful cleanup.the-type cleanup-laws.the-laws 𝓤 H A W .typed (d .answer) _ (counted-answer d v is) .0;
+  result-made = λ 𝓤 H A. LL.makes cleanup.the-type cleanup-laws.the-plain 𝓤 H A;
   result-at = λ i. copy (place i (field 0 ∷ []));
-  reads-result = field-of _ _ countedVals 0 U′.mir 0 refl;
+  reads-result = field-of _ _ countedVals 0 cleanup-laws.mir 0 refl;
 }

@@ -16,7 +16,7 @@ use mir.Syntax.{Name, named, erased, imm, mut, Width, w32, tyInt, tyUnit, tyRef,
 use mir.Syntax.{field, deref, copy, rvOpd, addrOf, aggregate}
 use mir.Val.{Val, vint, vptr}
 use base.Logic.{SProp, ent, sep, emp, via, fst∗, id⊢}
-use base.Fml.{GName, Lft, Share, Fml, ftrue, fsep, fat, flft, fres}
+use base.Fml.{GName, Lft, Share, Fml, ftrue, fat, flft, fres}
 use prog.Memory.{Memory}
 use prog.Model.{Model}
 use prog.Routine.{Routine, Env}

@@ -7,8 +7,8 @@ use native.Mathlib.Omega.{arith}
 use lib.ListN.{getD, set, List·getD-map}
 use Rattle.defs.specs.SeqGraph.{saturatingAdd}
 use Rattle.defs.specs.Tallies as D
-use Rattle.defs.specs.Tallies.{CountedCall, tallied, noCalls, callerTally, afterCall}
-use Rattle.defs.specs.Sequence.{TalliedCall, countedBy, afterCalls, ownCalls}
+use Rattle.defs.specs.Tallies.{CountedCall, tallied, noCalls, callerTally}
+use Rattle.defs.specs.Sequence.{TalliedCall, afterCalls, ownCalls}
 use Rattle.laws.proofs.Tallies.{tallied-answered, tallied-refused, after-above, after-within, after-other, calls-alone}
 use Rattle.tallies.specs.Raises.{tallyOf, talliesOf, counted, TalliesCall, Raises, Leaves}
 use Rattle.tallies.specs.declared.Tally.{Tally}

@@ -1,6 +1,5 @@
 -- `calls::cleanup_answer` meets its contract. Assumes nothing.
 use Rattle.calls.proofs.AnswerLaws.{cleanup-refused-is, cleanup-answered-is}
-use borrow.Author.Needs.{needs}
 use Rattle.calls.proofs.cleanup_answer.Statement.{statement}
 use Rattle.calls.proofs.cleanup_answer.Tie as tie
 

@@ -1,6 +1,5 @@
 -- `calls::simplify_answer` meets its contract. Assumes nothing.
 use Rattle.calls.proofs.AnswerLaws.{simplify-refused-is, simplify-answered-is}
-use borrow.Author.Needs.{needs}
 use Rattle.calls.proofs.simplify_answer.Statement.{statement}
 use Rattle.calls.proofs.simplify_answer.Tie as tie
 

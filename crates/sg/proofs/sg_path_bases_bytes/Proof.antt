@@ -1,7 +1,5 @@
 -- `sg::sg_path_bases_bytes` meets its contract: the walk of SharedNumberSharedMut.antt, at its core and what that promises. Assumes nothing.
 use mir.Syntax.{w8, w32}
-use Prim.Native.Nat.{ℕ}
-use mathlib.Core.List.{List}
 use lib.ListN.{length}
 use Rattle.defs.specs.Calls.{pathBasesBytesResponse}
 use Rattle.defs.specs.Sequence.{countedBy, pathBasesBytesCall}

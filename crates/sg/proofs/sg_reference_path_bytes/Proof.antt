@@ -1,7 +1,5 @@
 -- `sg::sg_reference_path_bytes` meets its contract: the walk of SharedMut.antt, at its core and what that promises. Assumes nothing.
 use mir.Syntax.{w8}
-use Prim.Native.Nat.{ℕ}
-use mathlib.Core.List.{List}
 use lib.ListN.{length}
 use Rattle.defs.specs.Calls.{referencePathBytesResponse}
 use Rattle.defs.specs.Sequence.{countedBy, referencePathBytesCall}
