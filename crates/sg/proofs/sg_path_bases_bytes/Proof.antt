@@ -2,27 +2,20 @@
 use mir.Syntax.{w8, w32}
 use lib.ListN.{length}
 use Rattle.defs.specs.Calls.{pathBasesBytesResponse}
-use Rattle.defs.specs.Sequence.{countedBy, pathBasesBytesCall}
 use Rattle.string_calls.specs.TellsBytes.{TellsBytes}
-use Rattle.tallies.specs.Raises.{Raises}
 use Rattle.string_calls.proofs.path_bases_bytes.Symbol.{name as #core, routine}
 use Rattle.string_calls.proofs.path_bases_bytes.Met.{met}
 use Rattle.tallied_calls.proofs.Answers.{answer-kind}
-use Rattle.tallied_calls.proofs.SharedNumberSharedMut.{Promise, Public, call-meets}
+use Rattle.tallied_calls.proofs.SharedNumberSharedMut.{call-meets}
+use Rattle.sg.specs.OnTable.{TellsPathOn}
 use Rattle.sg.proofs.CountedLaws.{path-raises}
 use Rattle.sg.proofs.sg_path_bases_bytes.Key.{name as #self}
 use Rattle.sg.proofs.sg_path_bases_bytes.Statement.{statement}
 use Rattle.sg.proofs.sg_path_bases_bytes.Code as code
 
-abbrev promised : Promise w8 w32 w8 answer-kind
-promised rec start edges out c d out′ = TellsBytes (pathBasesBytesResponse rec start edges (length out) c) out d out′
-
-abbrev kept : Public w8 w32 w8 answer-kind
-kept rec start edges out c r out′ h h′ = TellsBytes (pathBasesBytesResponse rec start edges (length out) c) out r out′
-    × Raises (countedBy (pathBasesBytesCall rec start edges (length out) c)) h h′
-
 pub sg-path-bases-bytes-spec : {M : Type 1} → statement M
 unfolding code.routine
 sg-path-bases-bytes-spec 𝓤 H 𝓜 𝓖 𝓡 =
-    call-meets w8 w32 w8 answer-kind promised kept (λ rec start edges out c d out′ h h′ p R. (p, path-raises rec start edges p R)) 𝓤 H 𝓜 𝓖 𝓡
+    call-meets w8 w32 w8 answer-kind (λ rec start edges out c. TellsBytes (pathBasesBytesResponse rec start edges (length out) c) out)
+    TellsPathOn (λ rec start edges out c d out′ h h′ p R. (p, path-raises rec start edges p R)) 𝓤 H 𝓜 𝓖 𝓡
     code.env #self #core routine (code.unfolded 𝓤 H 𝓜 𝓡) code.calls-string-calls·path-bases-bytes code.calls-tallies·count-call (met 𝓤 H 𝓜 𝓖 𝓡)

@@ -2,26 +2,20 @@
 use mir.Syntax.{w8}
 use lib.ListN.{length}
 use Rattle.defs.specs.Calls.{referencePathBytesResponse}
-use Rattle.defs.specs.Sequence.{countedBy, referencePathBytesCall}
 use Rattle.string_calls.specs.TellsBytes.{TellsBytes}
-use Rattle.tallies.specs.Raises.{Raises}
 use Rattle.string_calls.proofs.reference_path_bytes.Symbol.{name as #core, routine}
 use Rattle.string_calls.proofs.reference_path_bytes.Met.{met}
 use Rattle.tallied_calls.proofs.Answers.{answer-kind}
-use Rattle.tallied_calls.proofs.SharedMut.{Promise, Public, call-meets}
+use Rattle.tallied_calls.proofs.SharedMut.{call-meets}
+use Rattle.sg.specs.OnTable.{TellsReferenceOn}
 use Rattle.sg.proofs.CountedLaws.{reference-raises}
 use Rattle.sg.proofs.sg_reference_path_bytes.Key.{name as #self}
 use Rattle.sg.proofs.sg_reference_path_bytes.Statement.{statement}
 use Rattle.sg.proofs.sg_reference_path_bytes.Code as code
 
-abbrev promised : Promise w8 w8 answer-kind
-promised rec out c d out′ = TellsBytes (referencePathBytesResponse rec (length out) c) out d out′
-
-abbrev kept : Public w8 w8 answer-kind
-kept rec out c r out′ h h′ = TellsBytes (referencePathBytesResponse rec (length out) c) out r out′ × Raises (countedBy (referencePathBytesCall rec (length out) c)) h h′
-
 pub sg-reference-path-bytes-spec : {M : Type 1} → statement M
 unfolding code.routine
 sg-reference-path-bytes-spec 𝓤 H 𝓜 𝓖 𝓡 =
-    call-meets w8 w8 answer-kind promised kept (λ rec out c d out′ h h′ p R. (p, reference-raises rec p R)) 𝓤 H 𝓜 𝓖 𝓡
+    call-meets w8 w8 answer-kind (λ rec out c. TellsBytes (referencePathBytesResponse rec (length out) c) out) TellsReferenceOn
+    (λ rec out c d out′ h h′ p R. (p, reference-raises rec p R)) 𝓤 H 𝓜 𝓖 𝓡
     code.env #self #core routine (code.unfolded 𝓤 H 𝓜 𝓡) code.calls-string-calls·reference-path-bytes code.calls-tallies·count-call (met 𝓤 H 𝓜 𝓖 𝓡)
