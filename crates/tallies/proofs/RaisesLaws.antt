@@ -79,3 +79,7 @@ leaves-alone caller calls table table′ alone l o =
 pub raises-other : {c : CountedCall} {table table′ : Tallies} → Raises c table table′ → (caller : ℕ) → (caller ≡ c .caller → ⊥)
     → callerTally (talliesOf table′) caller ≡ callerTally (talliesOf table) caller
 raises-other {c} {table} R caller ne = ap (λ (t : List D.Tally). callerTally t caller) (R .is) ∙ after-other c (talliesOf table) caller ne
+
+-- and with a caller above 15 the whole table
+pub raises-above : {c : CountedCall} {table table′ : Tallies} → Raises c table table′ → 15 < c .caller → talliesOf table′ ≡ talliesOf table
+raises-above {c} {table} R l = R .is ∙ after-above c (talliesOf table) l
