@@ -7,7 +7,8 @@ BASE and HEAD are revisions of this repository; without HEAD it is the last comm
 differ in white space and comments only. Names of five kinds of things are told apart:
 
     definition     what stands under a name in crates/CRATE/specs: CRATE::Module.name
-    public promise the contract of a call that C can link, or a definition of specs/ that such a contract names
+    public promise the contract of a call that C can link, or a definition of specs/ that such a contract names, or that
+                   one names which the contract names from specs/ of its own crate
     promise        `requires` and `ensures` of a function: crate::function
     signature      its parameters and its result
     proof file     crates/CRATE/proofs/..: crate/path
@@ -51,7 +52,7 @@ def bare(text):
 
 # ---- definitions
 
-def definitions(text):
+def definitions(text, read=bare):
     """Name to text of each top-level definition of an antt file: a signature with its clauses, a record, a data type."""
     out, name = {}, None
     for unit in re.split(r"\n(?=\S)", without_comments(text, "--")):
@@ -62,7 +63,7 @@ def definitions(text):
             name = head.group(1)
         if name is None:
             name = unit.split()[0]
-        out[name] = out.get(name, "") + bare(unit)
+        out[name] = out.get(name, "") + read(unit)
     return out
 
 
@@ -102,11 +103,25 @@ def functions(text):
 
 
 def used_definitions(text):
-    """Name to CRATE::Module.name, for what the `ghost use` lines of a file bring in from specs/ of some crate."""
+    """Name to CRATE::Module.name, for what the `use` lines of a file bring in from specs/ of some crate."""
     out = {}
-    for m in re.finditer(r"ghost use Rattle·(\w+)\.specs\.(\w+)\.\{([^}]*)\}", text):
+    for m in re.finditer(r"(?m)^(?:ghost )?use Rattle·(\w+)(?:·specs)?\.specs\.(\w+)\.\{([^}]*)\}", text):
         for name in m.group(3).split(","):
             out[name.strip()] = "%s::%s.%s" % (m.group(1), m.group(2), name.strip())
+    return out
+
+
+def named_in(text, used):
+    return {used[word] for word in re.findall(r"[^\s(){},]+", text) if word in used}
+
+
+def named_by(files, crate, contract, used):
+    """The definitions that a contract names, and those that they name which stand in specs/ of its own crate."""
+    out = named_in(contract, used)
+    for full in sorted(out):
+        owner, module, name = re.match(r"(\w+)::(\w+)\.(.*)", full).groups()
+        text = files.get("crates/%s/specs/%s.antt" % (owner, module), "") if owner == crate else ""
+        out |= named_in(definitions(text, str).get(name, ""), used_definitions(text))
     return out
 
 
@@ -135,7 +150,7 @@ def names_of(files):
                 out["promises"][full] = bare(contract)
                 if linked:
                     out["public promises"][full] = bare(contract)
-                    named_by_calls.update(used[w] for w in re.findall(r"[^\s(){},]+", contract) if w in used)
+                    named_by_calls |= named_by(files, m.group(1), contract, used)
         m = re.match(r"crates/(\w+)/proofs/(.*)\.antt$", path)
         if m and not re.search(r"(^|/)Lib$", m.group(2)):
             out["proof files"]["%s/%s" % (m.group(1), m.group(2))] = bare(without_comments(text, "--"))

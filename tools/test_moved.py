@@ -48,11 +48,19 @@ fn three(x: &mut [u64]) {}
 """,
     "crates/a/proofs/one/Proof.antt": "-- why\none : A\none = b\n",
     "crates/a/proofs/Laws.antt": "law : A\nlaw = b\n",
-    "crates/b/src/lib.rt": """ghost use Rattle.a.specs.Size.{Sized};
+    "crates/b/specs/Own.antt": """use Rattle.a.specs.Size.{size, Sized}
+
+abbrev pub SizedTwice : ℕ → Type 0
+SizedTwice n = Sized n × Sized (n + 1)
+
+unfoldable pub unused : ℕ
+unused = size 1
+""",
+    "crates/b/src/lib.rt": """ghost use Rattle.b.specs.Own.{SizedTwice};
 
 #[no_mangle]
 pub extern "C" fn call(x: u32) -> u32
-    ensures { λ r. ⌜ Sized r ⌝ }
+    ensures { λ r. ⌜ SizedTwice r ⌝ }
 {
     x
 }
@@ -77,8 +85,8 @@ EDITS = [
 
 TABLE = """| what | added | changed | removed | stayed |
 |---|---|---|---|---|
-| definitions | 1 | 1 | 1 | 2 |
-| public promises | 0 | 0 | 0 | 2 |
+| definitions | 1 | 1 | 1 | 4 |
+| public promises | 0 | 0 | 0 | 3 |
 | promises | 0 | 1 | 0 | 4 |
 | signatures | 0 | 1 | 0 | 4 |
 | proof files | 0 | 1 | 0 | 1 |
@@ -92,8 +100,8 @@ NAMES = [
     "Definitions added: 1\n\n- `a`: Size.come\n",
     "Definitions changed: 1\n\n- `a`: Size.size\n",
     "Definitions removed: 1\n\n- `a`: Size.gone\n",
-    "Definitions that stayed: 2\n\n- `a`: Size.Kind, Size.Sized\n",
-    "Public promises that stayed: 2\n\n- `a`: Size.Sized\n- `b`: call\n",
+    "Definitions that stayed: 4\n\n- `a`: Size.Kind, Size.Sized\n- `b`: Own.SizedTwice, Own.unused\n",
+    "Public promises that stayed: 3\n\n- `a`: Size.Sized\n- `b`: Own.SizedTwice, call\n",
     "Promises changed: 1\n\n- `a`: one\n",
     "Signatures changed: 1\n\n- `a`: three\n",
     "Proof files changed: 1\n\n- `a`: Laws\n",
@@ -135,7 +143,7 @@ def test_small_repository():
             assert text in out, (text, out)
         assert out == moved(folder, "HEAD~1", "HEAD")
         same = moved(folder, "HEAD", "HEAD")
-        assert "| definitions | 0 | 0 | 0 | 4 |" in same and "Crates untouched: 3 of 3: a, b, c" in same, same
+        assert "| definitions | 0 | 0 | 0 | 6 |" in same and "Crates untouched: 3 of 3: a, b, c" in same, same
 
 
 # A note's line of revisions: the one that the request was built on, and the last commit before the note.
