@@ -26,6 +26,7 @@ tallied c t =
     (record { answered = saturatingAdd (t .answered) 1; refused = t .refused; rewrites = saturatingAdd (t .rewrites) (c .rewrites) })
     (record { answered = t .answered; refused = saturatingAdd (t .refused) 1; rewrites = t .rewrites })
 
+-- a new tally
 unfoldable pub noCalls : Tally
 noCalls = record { answered = 0; refused = 0; rewrites = 0 }
 

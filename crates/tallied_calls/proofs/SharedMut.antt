@@ -162,6 +162,28 @@ module _ (w₁ w₂ : Width) (k : Kind) where
       abbrev Arg : Type 0
       Arg = RefT (List ℕ) × (RefT (List ℕ) × (ℕ × (RefT Tallies × Unit {0})))
 
+      abbrev call-lifetimes : Lft × (Lft × (Lft × Unit {0}))
+      call-lifetimes = (κ₁, (κ₂, (κ₃, tt)))
+
+      abbrev call-shares : Share × (Share × (Share × Unit {0}))
+      call-shares = (q₁, (q₂, (q₃, tt)))
+
+      -- what the core is lent and handed, and what `count_call` is
+      abbrev core-lifetimes : Lft × (Lft × Unit {0})
+      core-lifetimes = (κ₁, (κ₂, tt))
+
+      abbrev core-shares : Share × (Share × Unit {0})
+      core-shares = (q₁, (q₂, tt))
+
+      abbrev core-args : RefT (List ℕ) × (RefT (List ℕ) × (ℕ × Unit {0}))
+      core-args = (rec, (out-ref, (c, tt)))
+
+      abbrev core-at : List Val × (List Val × (List Val × Unit {0}))
+      core-at = (rec-at ∷ [], (out-at ∷ [], (vint w32 c ∷ [], tt)))
+
+      abbrev count-args : k .core .Denot → RefT Tallies × (ℕ × (ℕ × (ℕ × Unit {0})))
+      count-args d = (table, (c, (k .number d, (k .rewrites d, tt))))
+
       abbrev a : Arg
       a = (rec, (out-ref, (c, (table, tt))))
 
@@ -169,7 +191,7 @@ module _ (w₁ w₂ : Width) (k : Kind) where
       at = (rec-at ∷ [], (out-at ∷ [], (vint w32 c ∷ [], (vptr b o ∷ [], tt))))
 
       abbrev Post : Val → SProp 𝓤
-      Post = walkOf 𝓤 H A Call stayed (public 𝓤 Q) .post (((κ₁, (κ₂, (κ₃, tt))), (q₁, (q₂, (q₃, tt))), tt, a, at), tt)
+      Post = walkOf 𝓤 H A Call stayed (public 𝓤 Q) .post ((call-lifetimes, call-shares, tt, a, at), tt)
 
       -- what is kept of the shared slices over the calls, and what the table's borrow owns
       abbrev Kept : Fml
@@ -179,9 +201,9 @@ module _ (w₁ w₂ : Width) (k : Kind) where
       OwnTable = MutRef (named 2) κ₃ T.the-row .own table (vptr b o ∷ [])
 
       abbrev to-core : CoreMeets 𝓤 H A P .Ghost
-      to-core = (((κ₁, (κ₂, tt)), (q₁, (q₂, tt)), tt, (rec, (out-ref, (c, tt))), (rec-at ∷ [], (out-at ∷ [], (vint w32 c ∷ [], tt)))), tt)
+      to-core = ((core-lifetimes, core-shares, tt, core-args, core-at), tt)
 
-      goes-core : ent 𝓤 (onEntry 𝓤 H A (Call .signature) (κ₁, (κ₂, (κ₃, tt))) (q₁, (q₂, (q₃, tt))) a at)
+      goes-core : ent 𝓤 (onEntry 𝓤 H A (Call .signature) call-lifetimes call-shares a at)
           (sep 𝓤 (CoreMeets 𝓤 H A P .pre to-core) (sep 𝓤 (sem 𝓤 H A Kept) (sep 𝓤 (A .lft κ₃ q₃) (sem 𝓤 H A OwnTable))))
       goes-core =
           qed W ((‵ (flft κ₁ q₁) ⊛ ‵ (flft κ₂ q₂) ⊛ ‵ (flft κ₃ q₃) ⊛ ‵ ftrue)
@@ -193,24 +215,17 @@ module _ (w₁ w₂ : Width) (k : Kind) where
           owned ! u32 (Is u32) (uint-makes 𝓤 H A W w32) c _ (refl, c-fits) $ fjoin ! $ move ! (6 ∷ 0 ∷ []) $ fjoin ! $ move ! (6 ∷ 0 ∷ []) $ fjoin ! $
           move ! (3 ∷ 1 ∷ []) $ join ! $ move ! (3 ∷ 0 ∷ []) $ join ! $
           use2 W (raw (CoreMeets 𝓤 H A P .pre to-core)) (qed W (core-tokens
-          ∷ ‵ (owns (ShrSlice (named 0) κ₁ (UInt w₁) ∷ MutSlice (named 1) κ₂ (UInt w₂) ∷ u32 ∷ []) (rec, (out-ref, (c, tt))) (
-            rec-at
-                ∷ [],
-            (out-at ∷ [], (vint w32 c ∷ [], tt)),
-          )) ∷ []) ∵ join ! $
+          ∷ ‵ (owns (ShrSlice (named 0) κ₁ (UInt w₁) ∷ MutSlice (named 1) κ₂ (UInt w₂) ∷ u32 ∷ []) core-args core-at) ∷ []) ∵ join ! $
           frame ! $ done !) $ frame ! $ move ! (2 ∷ []) $ frame ! $ frame ! $ done !
 
       exits : (d : k .core .Denot) (zs : List ℕ) (h′ : Tallies) → length zs ≡ length out → P (rec .now) out c d zs
           → Raises (counted c (k .number d) (k .rewrites d)) h h′ → Is (k .answer) (k .result d) (k .result-mach d ∷ [])
-          → ent 𝓤 (⋆ 𝓤 H A (table-token ∷ ‵ (fres γ (T.the-row .coded .code h′)) ∷ ‵ Kept
-          ∷ core-tokens ∷ ‵ (finally (UInt w₂) out-name zs) ∷ [])) (Post (k .result-mach d))
+          → ent 𝓤 (⋆ 𝓤 H A (table-token ∷ ‵ (fres γ (T.the-row .coded .code h′)) ∷ ‵ Kept ∷ core-tokens ∷ ‵ (finally (UInt w₂) out-name zs) ∷ []))
+          (Post (k .result-mach d))
       exits d zs h′ l p e is =
-          qed W (table-token ∷ ‵ (fres γ (T.the-row .coded .code h′)) ∷ ‵ Kept ∷ core-tokens
-          ∷ ‵ (finally (UInt w₂) out-name zs) ∷ []) ∵
-          suffices ! _ (ends-at 𝓤 H A Call stayed (public 𝓤 Q) W (
-            ((κ₁, (κ₂, (κ₃, tt))), (q₁, (q₂, (q₃, tt))), tt, a, at),
-            tt,
-          ) (k .result-mach d) (k .result d) (tt, (zs, (tt, (h′, tt)))) (tt, (l, (tt, (tt, tt))))) $
+          qed W (table-token ∷ ‵ (fres γ (T.the-row .coded .code h′)) ∷ ‵ Kept ∷ core-tokens ∷ ‵ (finally (UInt w₂) out-name zs) ∷ []) ∵
+          suffices ! _ (ends-at 𝓤 H A Call stayed (public 𝓤 Q) W ((call-lifetimes, call-shares, tt, a, at), tt)
+          (k .result-mach d) (k .result d) (tt, (zs, (tt, (h′, tt)))) (tt, (l, (tt, (tt, tt))))) $
           says ! (implies (rec .now) out c d zs h h′ p e) $
           move ! (3 ∷ []) $ split ! $ move ! (1 ∷ []) $ split ! $ move ! (1 ∷ []) $ drop ! $ move ! (0 ∷ 2 ∷ []) $ join ! $ move ! (1 ∷ 0 ∷ []) $
           join ! $ frame ! $ nothing ! $ move ! (1 ∷ 0 ∷ []) $ fjoin ! $ owned ! u32 (Is u32) (uint-makes 𝓤 H A W w32) c _ (refl, c-fits) $ fjoin ! $
@@ -220,10 +235,10 @@ module _ (w₁ w₂ : Width) (k : Kind) where
       module _ (#core : Name) (C : Calls 𝓤 H) (Λ : Loops 𝓤 H) (fm : FmC 𝓤 H (W .laws) C) (known : Triple 𝓤 (C #core) (CoreMeets 𝓤 H A P))
           (known-count : Triple 𝓤 (C #tallies·count-call) (Count 𝓤 H A mem run)) where
         walk : Is (ShrSlice (named 0) κ₁ (UInt w₁)) rec (rec-at ∷ []) → Room (UInt w₂) (length out)
-            → ent 𝓤 (onEntry 𝓤 H A (Call .signature) (κ₁, (κ₂, (κ₃, tt))) (q₁, (q₂, (q₃, tt))) a at)
+            → ent 𝓤 (onEntry 𝓤 H A (Call .signature) call-lifetimes call-shares a at)
             (WpFn 𝓤 H C Λ (code #core) (rec-at ∷ out-at ∷ vint w32 c ∷ vptr b o ∷ []) Post)
         walk rec-is room =
-            qed W (raw (onEntry 𝓤 H A (Call .signature) (κ₁, (κ₂, (κ₃, tt))) (q₁, (q₂, (q₃, tt))) a at) ∷ []) ∵ enter ! C Λ (code #core)
+            qed W (raw (onEntry 𝓤 H A (Call .signature) call-lifetimes call-shares a at) ∷ []) ∵ enter ! C Λ (code #core)
             (rec-at ∷ out-at ∷ vint w32 c ∷ vptr b o ∷ []) _ $
             alloc1 ! (λ l₀. alloc1 ! (λ l₁. alloc1 ! (λ l₂. alloc1 ! (λ l₃.
             alloc1 ! (λ l₄. alloc1 ! (λ l₅. alloc1 ! (λ l₆. alloc1 ! (λ l₇. alloc1 ! (λ l₈. alloc1 ! (λ l₉. alloc0 ! $
@@ -241,11 +256,11 @@ module _ (w₁ w₂ : Width) (k : Kind) where
             (and-then ! (load ! (from ! (stop !)) (look ! 6 refl))
             (and-then ! (load ! (from ! (stop !)) (look ! 14 refl)) (no-more !)))) (λ v.
             use1 W (later (some (λ (d : k .core .Denot). (core-tokens ⊛ ‵ (k .core .own d (v ∷ []))) ⊛ raw
-            (ensured 𝓤 H A Core (promise 𝓤 P) (κ₁, (κ₂, tt)) (rec, (out-ref, (c, tt))) tt d)))) (id⊢ 𝓤 _) $
+            (ensured 𝓤 H A Core (promise 𝓤 P) core-lifetimes core-args tt d)))) (id⊢ 𝓤 _) $
             await ! tt $ pick ! (λ d.
             split ! $ move ! (1 ∷ []) $
             use1 W (some (λ (zs : Unit {0} × (List ℕ × (Unit {0} × Unit {0}))).
-            ‵ (lasts Core (κ₁, (κ₂, tt)) (rec, (out-ref, (c, tt))) zs) ⊛ raw (fact 𝓤 (P (rec .now) out c d (zs .1 .0))))) (id⊢ 𝓤 _) $
+            ‵ (lasts Core core-lifetimes core-args zs) ⊛ raw (fact 𝓤 (P (rec .now) out c d (zs .1 .0))))) (id⊢ 𝓤 _) $
             pick ! (λ zs.
             split ! $ move ! (1 ∷ []) $ heard ! (P (rec .now) out c d (zs .1 .0)) (λ p. fsplit ! $ drop ! $ fsplit ! $ fsplit ! $ move ! (1 ∷ []) $
             feqL ! (λ l. move ! (1 ∷ []) $ drop ! $
@@ -264,17 +279,15 @@ module _ (w₁ w₂ : Width) (k : Kind) where
             (and-then ! (k .reads-number .go ! 5 12 l₅ d refl refl)
             (and-then ! (k .reads-rewrites .go ! 5 12 l₅ d refl refl) (no-more !))))) (λ w.
             use1 W (later (some (λ (r : Unit {0}). (table-token ⊛ ‵ (unit .own r (w ∷ []))) ⊛ raw
-            (ensured 𝓤 H A count-call.ended (count-call.clauses 𝓤 H A mem run) (κ₃, tt) (table, (c, (k .number d, (k .rewrites d, tt))))
-            tt r)))) (id⊢ 𝓤 _) $
+            (ensured 𝓤 H A count-call.ended (count-call.clauses 𝓤 H A mem run) (κ₃, tt) (count-args d) tt r)))) (id⊢ 𝓤 _) $
             await ! tt $ pick ! (λ r.
             split ! $ move ! (1 ∷ []) $
             use1 W (some (λ (hs : Tallies × (Unit {0} × (Unit {0} × (Unit {0} × Unit {0})))).
-            ‵ (lasts count-call.ended (κ₃, tt) (table, (c, (k .number d, (k .rewrites d, tt)))) hs) ⊛ raw
+            ‵ (lasts count-call.ended (κ₃, tt) (count-args d) hs) ⊛ raw
             (fact 𝓤 (Raises (counted c (k .number d) (k .rewrites d)) h (hs .0))))) (id⊢ 𝓤 _) $
             pick ! (λ hs.
-            split ! $ move ! (1 ∷ []) $ heard ! (Raises (counted c (k .number d) (k .rewrites d)) h (hs .0)) (λ e. fsplit ! $ move ! (1 ∷ []) $
-            drop ! $
-            move ! (1 ∷ []) $ split ! $ move ! (1 ∷ []) $ peeks ! unit (Is unit) (shows 𝓤 H A unit) r (w ∷ []) (λ nil. drop ! $
+            split ! $ move ! (1 ∷ []) $ heard ! (Raises (counted c (k .number d) (k .rewrites d)) h (hs .0)) (λ e.
+            fsplit ! $ move ! (1 ∷ []) $ drop ! $ move ! (1 ∷ []) $ split ! $ move ! (1 ∷ []) $ peeks ! unit (Is unit) (shows 𝓤 H A unit) r (w ∷ []) (λ nil. drop ! $
             -- [the table's token; the table's last; what is kept of the shared slices; the tokens; the last list; the locals]
             land ! (from ! (stop !)) (init ! 7 refl (nothing-lawful 𝓤 H A W .typed r _ nil .0)) $
             assigns ! (of-opd ! (k .reads-result .go ! 5 13 l₅ d refl refl)) (from ! (stop !)) (init ! 23 refl (k .result-typed 𝓤 H A W d v is)) $
@@ -309,8 +322,8 @@ module _ (w₁ w₂ : Width) (k : Kind) where
       )
 
     -- the call's own routine, from its module's `env`, its keys and its equations
-    pub call-meets : {M : Type 1} (𝓤 : URA M) (H : Heap 𝓤) (𝓜 : Model 𝓤 H) (𝓖 : GhostRules 𝓤 H) (𝓡 : Running 𝓤 H 𝓜) (env : Env) (#self #core :
-        Name) (core : Routine)
+    pub call-meets : {M : Type 1} (𝓤 : URA M) (H : Heap 𝓤) (𝓜 : Model 𝓤 H) (𝓖 : GhostRules 𝓤 H) (𝓡 : Running 𝓤 H 𝓜) (env : Env)
+        (#self #core : Name) (core : Routine)
         → Closed 𝓤 H (tables 𝓤 H 𝓜 𝓡 env .C) (tables 𝓤 H 𝓜 𝓡 env .Λ) #self (code #core) → env #core ≡ core → env #tallies·count-call ≡ count-call-def.routine
         → Meets 𝓤 H (𝓖 .A) (Core .signature) (𝓡 .run core) (closing 𝓤 H (𝓖 .A) Core (promise 𝓤 P))
         → Meets 𝓤 H (𝓖 .A) (Call .signature) (𝓡 .run (env #self)) (closing 𝓤 H (𝓖 .A) Call (public 𝓤 Q))

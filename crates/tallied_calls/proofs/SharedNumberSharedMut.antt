@@ -142,10 +142,11 @@ module _ (w₁ w₃ w₄ : Width) (k : Kind) where
   CoreMeets 𝓤 H A P = tripleOf 𝓤 H A (Core .signature) (closing 𝓤 H A Core (promise 𝓤 P))
 
   module _ (P : Promise) (Q : Public)
-      (implies : (rec : List ℕ) (start : ℕ) (edges : List ℕ) (out : List ℕ) (c : ℕ) (d : k .core .Denot) (out′ : List ℕ) (h h′ : Tallies) → P rec start edges out c d out′
-      → Raises (counted c (k .number d) (k .rewrites d)) h h′ → Q rec start edges out c (k .result d) out′ h h′) where
+      (implies : (rec : List ℕ) (start : ℕ) (edges : List ℕ) (out : List ℕ) (c : ℕ) (d : k .core .Denot) (out′ : List ℕ)
+      (h h′ : Tallies) → P rec start edges out c d out′ → Raises (counted c (k .number d) (k .rewrites d)) h h′ → Q rec start edges out c (k .result d) out′ h h′) where
     module _ {M : Type 1} (𝓤 : URA M) (H : Heap 𝓤) (A : Atoms 𝓤) (W : Given 𝓤 H A) (mem : Memory → SProp 𝓤) (run : Routine → Fun 𝓤)
-        (κ₁ κ₂ κ₃ κ₄ : Lft) (q₁ q₂ q₃ q₄ : Share) (rec : RefT (List ℕ)) (start : ℕ) (start-fits : start < 2 ^ 32) (edges : RefT (List ℕ)) (out-b out-o : ℕ) (out-name : GName) (out : List ℕ)
+        (κ₁ κ₂ κ₃ κ₄ : Lft) (q₁ q₂ q₃ q₄ : Share) (rec : RefT (List ℕ)) (start : ℕ) (start-fits : start < 2 ^ 32)
+        (edges : RefT (List ℕ)) (out-b out-o : ℕ) (out-name : GName) (out : List ℕ)
         (c : ℕ) (c-fits : c < 2 ^ 32) (b o : ℕ) (γ : GName) (h : Tallies) where
       -- the tokens of the lifetimes that the core is lent, and of the table's
       abbrev core-tokens : Item 𝓤
@@ -178,6 +179,28 @@ module _ (w₁ w₃ w₄ : Width) (k : Kind) where
       abbrev Arg : Type 0
       Arg = RefT (List ℕ) × (ℕ × (RefT (List ℕ) × (RefT (List ℕ) × (ℕ × (RefT Tallies × Unit {0})))))
 
+      abbrev call-lifetimes : Lft × (Lft × (Lft × (Lft × Unit {0})))
+      call-lifetimes = (κ₁, (κ₂, (κ₃, (κ₄, tt))))
+
+      abbrev call-shares : Share × (Share × (Share × (Share × Unit {0})))
+      call-shares = (q₁, (q₂, (q₃, (q₄, tt))))
+
+      -- what the core is lent and handed, and what `count_call` is
+      abbrev core-lifetimes : Lft × (Lft × (Lft × Unit {0}))
+      core-lifetimes = (κ₁, (κ₂, (κ₃, tt)))
+
+      abbrev core-shares : Share × (Share × (Share × Unit {0}))
+      core-shares = (q₁, (q₂, (q₃, tt)))
+
+      abbrev core-args : RefT (List ℕ) × (ℕ × (RefT (List ℕ) × (RefT (List ℕ) × (ℕ × Unit {0}))))
+      core-args = (rec, (start, (edges, (out-ref, (c, tt)))))
+
+      abbrev core-at : List Val × (List Val × (List Val × (List Val × (List Val × Unit {0}))))
+      core-at = (rec-at ∷ [], (vint w32 start ∷ [], (edges-at ∷ [], (out-at ∷ [], (vint w32 c ∷ [], tt)))))
+
+      abbrev count-args : k .core .Denot → RefT Tallies × (ℕ × (ℕ × (ℕ × Unit {0})))
+      count-args d = (table, (c, (k .number d, (k .rewrites d, tt))))
+
       abbrev a : Arg
       a = (rec, (start, (edges, (out-ref, (c, (table, tt))))))
 
@@ -185,7 +208,7 @@ module _ (w₁ w₃ w₄ : Width) (k : Kind) where
       at = (rec-at ∷ [], (vint w32 start ∷ [], (edges-at ∷ [], (out-at ∷ [], (vint w32 c ∷ [], (vptr b o ∷ [], tt))))))
 
       abbrev Post : Val → SProp 𝓤
-      Post = walkOf 𝓤 H A Call stayed (public 𝓤 Q) .post (((κ₁, (κ₂, (κ₃, (κ₄, tt)))), (q₁, (q₂, (q₃, (q₄, tt)))), tt, a, at), tt)
+      Post = walkOf 𝓤 H A Call stayed (public 𝓤 Q) .post ((call-lifetimes, call-shares, tt, a, at), tt)
 
       -- what is kept of the shared slices over the calls, and what the table's borrow owns
       abbrev Kept : Fml
@@ -195,18 +218,9 @@ module _ (w₁ w₃ w₄ : Width) (k : Kind) where
       OwnTable = MutRef (named 3) κ₄ T.the-row .own table (vptr b o ∷ [])
 
       abbrev to-core : CoreMeets 𝓤 H A P .Ghost
-      to-core = (
-        (
-          (κ₁, (κ₂, (κ₃, tt))),
-          (q₁, (q₂, (q₃, tt))),
-          tt,
-          (rec, (start, (edges, (out-ref, (c, tt))))),
-          (rec-at ∷ [], (vint w32 start ∷ [], (edges-at ∷ [], (out-at ∷ [], (vint w32 c ∷ [], tt))))),
-        ),
-        tt,
-      )
+      to-core = ((core-lifetimes, core-shares, tt, core-args, core-at), tt)
 
-      goes-core : ent 𝓤 (onEntry 𝓤 H A (Call .signature) (κ₁, (κ₂, (κ₃, (κ₄, tt)))) (q₁, (q₂, (q₃, (q₄, tt)))) a at)
+      goes-core : ent 𝓤 (onEntry 𝓤 H A (Call .signature) call-lifetimes call-shares a at)
           (sep 𝓤 (CoreMeets 𝓤 H A P .pre to-core) (sep 𝓤 (sem 𝓤 H A Kept) (sep 𝓤 (A .lft κ₄ q₄) (sem 𝓤 H A OwnTable))))
       goes-core =
           qed W ((‵ (flft κ₁ q₁) ⊛ ‵ (flft κ₂ q₂) ⊛ ‵ (flft κ₃ q₃) ⊛ ‵ (flft κ₄ q₄) ⊛ ‵ ftrue)
@@ -222,24 +236,17 @@ module _ (w₁ w₃ w₄ : Width) (k : Kind) where
           fjoin ! $ move ! (4 ∷ 2 ∷ []) $ join ! $ move ! (4 ∷ 0 ∷ []) $ join ! $ move ! (4 ∷ 0 ∷ []) $ join ! $
           use2 W (raw (CoreMeets 𝓤 H A P .pre to-core)) (qed W (core-tokens
           ∷ ‵ (owns (ShrSlice (named 0) κ₁ (UInt w₁) ∷ u32 ∷ ShrSlice (named 1) κ₂ (UInt w₃) ∷ MutSlice (named 2) κ₃ (UInt w₄) ∷ u32
-          ∷ []) (rec, (start, (edges, (out-ref, (c, tt))))) (
-            rec-at ∷ [],
-            (vint w32 start ∷ [], (edges-at ∷ [], (out-at ∷ [], (vint w32 c ∷ [], tt)))),
-          )) ∷ []) ∵ join ! $
+          ∷ []) core-args core-at) ∷ []) ∵ join ! $
           frame ! $ done !) $ frame ! $ frame ! $ frame ! $ done !
 
       exits : (d : k .core .Denot) (zs : List ℕ) (h′ : Tallies) → length zs ≡ length out → P (rec .now) start (edges .now) out c d zs
           → Raises (counted c (k .number d) (k .rewrites d)) h h′ → Is (k .answer) (k .result d) (k .result-mach d ∷ [])
-          → ent 𝓤 (⋆ 𝓤 H A (table-token ∷ ‵ (fres γ (T.the-row .coded .code h′)) ∷ ‵ Kept
-          ∷ core-tokens ∷ ‵ (finally (UInt w₄) out-name zs) ∷ []))
+          → ent 𝓤 (⋆ 𝓤 H A (table-token ∷ ‵ (fres γ (T.the-row .coded .code h′)) ∷ ‵ Kept ∷ core-tokens ∷ ‵ (finally (UInt w₄) out-name zs) ∷ []))
           (Post (k .result-mach d))
       exits d zs h′ l p e is =
-          qed W (table-token ∷ ‵ (fres γ (T.the-row .coded .code h′)) ∷ ‵ Kept
-          ∷ core-tokens ∷ ‵ (finally (UInt w₄) out-name zs) ∷ []) ∵
-          suffices ! _ (ends-at 𝓤 H A Call stayed (public 𝓤 Q) W (
-            ((κ₁, (κ₂, (κ₃, (κ₄, tt)))), (q₁, (q₂, (q₃, (q₄, tt)))), tt, a, at),
-            tt,
-          ) (k .result-mach d) (k .result d) (tt, (tt, (tt, (zs, (tt, (h′, tt)))))) (tt, (tt, (tt, (l, (tt, (tt, tt))))))) $
+          qed W (table-token ∷ ‵ (fres γ (T.the-row .coded .code h′)) ∷ ‵ Kept ∷ core-tokens ∷ ‵ (finally (UInt w₄) out-name zs) ∷ []) ∵
+          suffices ! _ (ends-at 𝓤 H A Call stayed (public 𝓤 Q) W ((call-lifetimes, call-shares, tt, a, at), tt)
+          (k .result-mach d) (k .result d) (tt, (tt, (tt, (zs, (tt, (h′, tt)))))) (tt, (tt, (tt, (l, (tt, (tt, tt))))))) $
           says ! (implies (rec .now) start (edges .now) out c d zs h h′ p e) $
           move ! (3 ∷ []) $ split ! $ move ! (1 ∷ []) $ split ! $ move ! (1 ∷ []) $ split ! $ move ! (1 ∷ []) $ drop ! $ move ! (0 ∷ 3 ∷ []) $
           join ! $ move ! (1 ∷ 0 ∷ []) $ join ! $ move ! (1 ∷ 0 ∷ []) $ join ! $ frame ! $ nothing ! $ move ! (1 ∷ 0 ∷ []) $ fjoin ! $
@@ -250,11 +257,11 @@ module _ (w₁ w₃ w₄ : Width) (k : Kind) where
       module _ (#core : Name) (C : Calls 𝓤 H) (Λ : Loops 𝓤 H) (fm : FmC 𝓤 H (W .laws) C) (known : Triple 𝓤 (C #core) (CoreMeets 𝓤 H A P))
           (known-count : Triple 𝓤 (C #tallies·count-call) (Count 𝓤 H A mem run)) where
         walk : Is (ShrSlice (named 0) κ₁ (UInt w₁)) rec (rec-at ∷ []) → Is (ShrSlice (named 1) κ₂ (UInt w₃)) edges (edges-at ∷ [])
-            → Room (UInt w₄) (length out) → ent 𝓤 (onEntry 𝓤 H A (Call .signature) (κ₁, (κ₂, (κ₃, (κ₄, tt)))) (q₁, (q₂, (q₃, (q₄, tt)))) a
-            at) (WpFn 𝓤 H C Λ (code #core) (rec-at ∷ vint w32 start ∷ edges-at ∷ out-at ∷ vint w32 c ∷ vptr b o ∷ []) Post)
+            → Room (UInt w₄) (length out) → ent 𝓤 (onEntry 𝓤 H A (Call .signature) call-lifetimes call-shares a at)
+            (WpFn 𝓤 H C Λ (code #core) (rec-at ∷ vint w32 start ∷ edges-at ∷ out-at ∷ vint w32 c ∷ vptr b o ∷ []) Post)
         walk rec-is edges-is room =
-            qed W (raw (onEntry 𝓤 H A (Call .signature) (κ₁, (κ₂, (κ₃, (κ₄, tt)))) (q₁, (q₂, (q₃, (q₄, tt)))) a at) ∷ []) ∵ enter ! C Λ
-            (code #core) (rec-at ∷ vint w32 start ∷ edges-at ∷ out-at ∷ vint w32 c ∷ vptr b o ∷ []) _ $
+            qed W (raw (onEntry 𝓤 H A (Call .signature) call-lifetimes call-shares a at) ∷ []) ∵
+            enter ! C Λ (code #core) (rec-at ∷ vint w32 start ∷ edges-at ∷ out-at ∷ vint w32 c ∷ vptr b o ∷ []) _ $
             alloc1 ! (λ l₀. alloc1 ! (λ l₁. alloc1 ! (λ l₂. alloc1 ! (λ l₃.
             alloc1 ! (λ l₄. alloc1 ! (λ l₅. alloc1 ! (λ l₆. alloc1 ! (λ l₇.
             alloc1 ! (λ l₈. alloc1 ! (λ l₉. alloc1 ! (λ l₁₀. alloc1 ! (λ l₁₁. alloc0 ! $
@@ -275,15 +282,12 @@ module _ (w₁ w₃ w₄ : Width) (k : Kind) where
             (and-then ! (load ! (from ! (stop !)) (look ! 18 refl))
             (and-then ! (load ! (from ! (stop !)) (look ! 6 refl))
             (and-then ! (load ! (from ! (stop !)) (look ! 14 refl)) (no-more !)))))) (λ v.
-            use1 W (later (some (λ (d : k .core .Denot). (core-tokens ⊛ ‵
-            (k .core .own d (v ∷ []))) ⊛ raw (ensured 𝓤 H A Core (promise 𝓤 P) (κ₁, (κ₂, (κ₃, tt))) (
-              rec,
-              (start, (edges, (out-ref, (c, tt)))),
-            ) tt d)))) (id⊢ 𝓤 _) $
+            use1 W (later (some (λ (d : k .core .Denot). (core-tokens ⊛ ‵ (k .core .own d (v ∷ []))) ⊛ raw
+            (ensured 𝓤 H A Core (promise 𝓤 P) core-lifetimes core-args tt d)))) (id⊢ 𝓤 _) $
             await ! tt $ pick ! (λ d.
             split ! $ move ! (1 ∷ []) $
             use1 W (some (λ (zs : Unit {0} × (Unit {0} × (Unit {0} × (List ℕ × (Unit {0} × Unit {0}))))).
-            ‵ (lasts Core (κ₁, (κ₂, (κ₃, tt))) (rec, (start, (edges, (out-ref, (c, tt))))) zs) ⊛ raw
+            ‵ (lasts Core core-lifetimes core-args zs) ⊛ raw
             (fact 𝓤 (P (rec .now) start (edges .now) out c d (zs .1 .1 .1 .0))))) (id⊢ 𝓤 _) $
             pick ! (λ zs.
             split ! $ move ! (1 ∷ []) $ heard ! (P (rec .now) start (edges .now) out c d (zs .1 .1 .1 .0)) (λ p. fsplit ! $ drop ! $ fsplit ! $
@@ -303,17 +307,15 @@ module _ (w₁ w₃ w₄ : Width) (k : Kind) where
             (and-then ! (k .reads-number .go ! 7 12 l₇ d refl refl)
             (and-then ! (k .reads-rewrites .go ! 7 12 l₇ d refl refl) (no-more !))))) (λ w.
             use1 W (later (some (λ (r : Unit {0}). (table-token ⊛ ‵ (unit .own r (w ∷ []))) ⊛ raw
-            (ensured 𝓤 H A count-call.ended (count-call.clauses 𝓤 H A mem run) (κ₄, tt) (table, (c, (k .number d, (k .rewrites d, tt))))
-            tt r)))) (id⊢ 𝓤 _) $
+            (ensured 𝓤 H A count-call.ended (count-call.clauses 𝓤 H A mem run) (κ₄, tt) (count-args d) tt r)))) (id⊢ 𝓤 _) $
             await ! tt $ pick ! (λ r.
             split ! $ move ! (1 ∷ []) $
             use1 W (some (λ (hs : Tallies × (Unit {0} × (Unit {0} × (Unit {0} × Unit {0})))).
-            ‵ (lasts count-call.ended (κ₄, tt) (table, (c, (k .number d, (k .rewrites d, tt)))) hs) ⊛ raw
+            ‵ (lasts count-call.ended (κ₄, tt) (count-args d) hs) ⊛ raw
             (fact 𝓤 (Raises (counted c (k .number d) (k .rewrites d)) h (hs .0))))) (id⊢ 𝓤 _) $
             pick ! (λ hs.
-            split ! $ move ! (1 ∷ []) $ heard ! (Raises (counted c (k .number d) (k .rewrites d)) h (hs .0)) (λ e. fsplit ! $ move ! (1 ∷ []) $
-            drop ! $
-            move ! (1 ∷ []) $ split ! $ move ! (1 ∷ []) $ peeks ! unit (Is unit) (shows 𝓤 H A unit) r (w ∷ []) (λ nil. drop ! $
+            split ! $ move ! (1 ∷ []) $ heard ! (Raises (counted c (k .number d) (k .rewrites d)) h (hs .0)) (λ e.
+            fsplit ! $ move ! (1 ∷ []) $ drop ! $ move ! (1 ∷ []) $ split ! $ move ! (1 ∷ []) $ peeks ! unit (Is unit) (shows 𝓤 H A unit) r (w ∷ []) (λ nil. drop ! $
             -- [the table's token; the table's last; what is kept of the shared slices; the tokens; the last list; the locals]
             land ! (from ! (stop !)) (init ! 7 refl (nothing-lawful 𝓤 H A W .typed r _ nil .0)) $
             assigns ! (of-opd ! (k .reads-result .go ! 7 13 l₇ d refl refl)) (from ! (stop !)) (init ! 27 refl (k .result-typed 𝓤 H A W d v is)) $
@@ -367,8 +369,8 @@ module _ (w₁ w₃ w₄ : Width) (k : Kind) where
       )
 
     -- the call's own routine, from its module's `env`, its keys and its equations
-    pub call-meets : {M : Type 1} (𝓤 : URA M) (H : Heap 𝓤) (𝓜 : Model 𝓤 H) (𝓖 : GhostRules 𝓤 H) (𝓡 : Running 𝓤 H 𝓜) (env : Env) (#self #core :
-        Name) (core : Routine)
+    pub call-meets : {M : Type 1} (𝓤 : URA M) (H : Heap 𝓤) (𝓜 : Model 𝓤 H) (𝓖 : GhostRules 𝓤 H) (𝓡 : Running 𝓤 H 𝓜) (env : Env)
+        (#self #core : Name) (core : Routine)
         → Closed 𝓤 H (tables 𝓤 H 𝓜 𝓡 env .C) (tables 𝓤 H 𝓜 𝓡 env .Λ) #self (code #core) → env #core ≡ core → env #tallies·count-call ≡ count-call-def.routine
         → Meets 𝓤 H (𝓖 .A) (Core .signature) (𝓡 .run core) (closing 𝓤 H (𝓖 .A) Core (promise 𝓤 P))
         → Meets 𝓤 H (𝓖 .A) (Call .signature) (𝓡 .run (env #self)) (closing 𝓤 H (𝓖 .A) Call (public 𝓤 Q))

@@ -66,8 +66,8 @@ RaisedMeets 𝓤 H A mem run = tripleOf 𝓤 H A raised.signature (raised.spec �
 abbrev vals : Tallies → List Val
 vals = LL.vals T.the-type T′.the-laws
 
-module _ {M : Type 1} (𝓤 : URA M) (H : Heap 𝓤) (A : Atoms 𝓤) (W : Given 𝓤 H A) (at-mem : Memory → SProp 𝓤) (run : Routine → Fun 𝓤) (κ :
-    Lft) (q : Share) (b o : ℕ) (γ : GName) (h : Tallies) (c n w : ℕ) (c-fits : c < 2 ^ 32) (n-fits : n < 2 ^ 32) (w-fits : w < 2 ^ 32) where
+module _ {M : Type 1} (𝓤 : URA M) (H : Heap 𝓤) (A : Atoms 𝓤) (W : Given 𝓤 H A) (at-mem : Memory → SProp 𝓤) (run : Routine → Fun 𝓤)
+    (κ : Lft) (q : Share) (b o : ℕ) (γ : GName) (h : Tallies) (c n w : ℕ) (c-fits : c < 2 ^ 32) (n-fits : n < 2 ^ 32) (w-fits : w < 2 ^ 32) where
   abbrev x : Arg
   x = (record { ptr = (b, o); name = γ; now = h }, (c, (n, (w, tt))))
 
@@ -81,10 +81,8 @@ module _ {M : Type 1} (𝓤 : URA M) (H : Heap 𝓤) (A : Atoms 𝓤) (W : Given
       (sep 𝓤 (A .obs γ (T.the-row .coded .code r)) (sep 𝓤 (A .bor κ (Body (mem T.the-row) b o γ)) (A .lft κ q))) (Post vunit)
   exits r e =
       qed W (‵ (fobs γ (T.the-row .coded .code r)) ∷ ‵ (fbor κ (Body (mem T.the-row) b o γ)) ∷ ‵ (flft κ q) ∷ []) ∵
-      suffices ! _ (ends-at 𝓤 H A count-call.ended stayed (count-call.clauses 𝓤 H A at-mem run) W (
-        ((κ, tt), (q, tt), tt, x, at),
-        tt,
-      ) vunit tt (r, (tt, (tt, (tt, tt)))) (tt, (tt, (tt, (tt, tt))))) $
+      suffices ! _ (ends-at 𝓤 H A count-call.ended stayed (count-call.clauses 𝓤 H A at-mem run) W (((κ, tt), (q, tt), tt, x, at), tt)
+      vunit tt (r, (tt, (tt, (tt, tt)))) (tt, (tt, (tt, (tt, tt))))) $
       says ! e $ nothing ! $ move ! (3 ∷ 0 ∷ []) $ join ! $
       frame ! $ feqI ! (List Val) (vptr b o ∷ []) (vptr b o ∷ []) refl $ fjoin3 ! $ nothing ! $
       owned ! u32 (Is u32) (uint-makes 𝓤 H A W w32) w _ (refl, w-fits) $ fjoin ! $ owned ! u32 (Is u32) (uint-makes 𝓤 H A W w32) n _ (refl, n-fits) $
