@@ -39,19 +39,19 @@ module _ (c : CountedCall) (t : Tally) where
 -- ---- one call
 
 module _ (c : CountedCall) (table : List Tally) where
-  -- the table with the caller's tally counted
-  abbrev counted : List Tally
-  counted = set table (c .caller) (tallied c (callerTally table (c .caller)))
+  -- the table in which the caller's tally has counted the call
+  abbrev own-counted : List Tally
+  own-counted = set table (c .caller) (tallied c (callerTally table (c .caller)))
 
   pub after-above : 15 < c .caller → afterCall c table ≡ table
   unfolding afterCall
-  after-above l = ap (λ (b : Bool). cond b table counted) (lt-ltb 15 (c .caller) l)
+  after-above l = ap (λ (b : Bool). cond b table own-counted) (lt-ltb 15 (c .caller) l)
 
-  pub after-within : c .caller ≤ 15 → afterCall c table ≡ counted
+  pub after-within : c .caller ≤ 15 → afterCall c table ≡ own-counted
   unfolding afterCall
-  after-within l = ap (λ (b : Bool). cond b table counted) (le-ltb 15 (c .caller) l)
+  after-within l = ap (λ (b : Bool). cond b table own-counted) (le-ltb 15 (c .caller) l)
 
-  by-caller : {A : Type 0} → (afterCall c table ≡ table → A) → (afterCall c table ≡ counted → A) → A
+  by-caller : {A : Type 0} → (afterCall c table ≡ table → A) → (afterCall c table ≡ own-counted → A) → A
   by-caller f g = byTest (ltb 15 (c .caller))
       (λ t. f (after-above (ltb-true 15 (c .caller) t)))
       (λ t. g (after-within (ltb-false 15 (c .caller) t)))
