@@ -61,7 +61,7 @@ dummy-bytes g = byList (g .verts)
     (λ r. let e = q ∙ ap (λ (l : List (List ℕ)). v ∷ l) r in ap (λ (h : Graph). sequenceBytes (h .verts)) (sink-one g v e) ∙ sym (ap sequenceBytes e))
     (λ u us r. ap (λ (h : Graph). sequenceBytes (h .verts)) (sink-more g v u us (q ∙ ap (λ (l : List (List ℕ)). v ∷ l) r))))
 
-after-bytes : (w : Work) (s t : Option ℕ) → Narrow (w .graph) → sequenceBytes ((afterChoice w s t) .graph .verts) ≤ 8192
+after-bytes : {e b n : ℕ} (w : Work) (s t : Option ℕ) → Narrow e b n (w .graph) → sequenceBytes ((afterChoice w s t) .graph .verts) ≤ b
 unfolding afterChoice
 after-bytes w none t N = N .few
 after-bytes w (some s) none N = N .few
@@ -69,6 +69,6 @@ after-bytes w (some s) (some t) N =
     let z = (simplifyGraphFull minTailSuffixLen (removePathsNotConnectedToRef (w .graph) s t)) .graph in
     omega (arith, dummy-bytes z, (simplify-narrow (removePathsNotConnectedToRef (w .graph) s t) (between-narrow (w .graph) s t N)) .few)
 
-pub cleanup-bytes : (g : Graph) → Narrow g → sequenceBytes ((cleanupSeqGraph g) .graph .verts) ≤ 8192
+pub cleanup-bytes : {e b n : ℕ} (g : Graph) → Narrow e b n g → sequenceBytes ((cleanupSeqGraph g) .graph .verts) ≤ b
 unfolding cleanupSeqGraph choiceGraph
 cleanup-bytes g N = after-bytes (beforeChoice g) _ _ (choice-narrow g N)

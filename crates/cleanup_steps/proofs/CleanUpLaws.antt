@@ -46,7 +46,7 @@ pair k v = record { k = k; verts = v ∷ [] ∷ []; edges = record { from = 0; t
 
 pair-good : (k : ℕ) (v : List ℕ) → Good (pair k v)
 unfolding nodeCount
-pair-good k v = rw (sink-one (alone k v) v refl) at ((withSink-fits (alone k v) record {
+pair-good k v = rw (sink-one (alone k v) v refl) at ((withSink-fits {n = 2} {e = 1} (omega arith) (omega arith) (alone k v) record {
   vertices = omega arith;
   edges = omega arith;
   single = (record { bounded = λ e m. absurd (List·Memᴰ·not-nil m); rank = λ u. u; ranks = λ a b l. absurd (List·Memᴰ·not-nil (l .1)) }, tt);

@@ -225,25 +225,27 @@ simplify-bound least pos g h =
       (rounds-within least pos (weight g) 100 0 [] (zipLinearChains (begun g)) (k .tame .good) (k .tame .light)) .within,
     )
 
--- Room: a graph that starts with Φ ≤ 6144 and N ≤ 10240, and all that becomes of it
-pub record Small (g : Graph) : Type 0 where
-  pub surplus : load g ≤ nodeCount g + 6144
-  pub size : weight g ≤ 10240
+-- Room: a graph that starts with N at most n and Φ at most f, and all that becomes of it
+pub record Small (n f : ℕ) (g : Graph) : Type 0 where
+  pub surplus : load g ≤ nodeCount g + f
+  pub size : weight g ≤ n
 
-pub record Fits (g : Graph) : Type 0 where
-  pub vertices : nodeCount g ≤ 10240
-  pub edges : length (g .edges) ≤ 16384
+-- at most n vertices and e edges
+pub record Fits (n e : ℕ) (g : Graph) : Type 0 where
+  pub vertices : nodeCount g ≤ n
+  pub edges : length (g .edges) ≤ e
   pub single : Good g
 
-pub small-tame : {g g′ : Graph} → Small g → Tame g g′ → Small g′
-small-tame h t = record { surplus = omega (arith, h .surplus, t .room); size = omega (arith, h .size, t .light) }
+module _ {n f : ℕ} where
+  pub small-tame : {g g′ : Graph} → Small n f g → Tame g g′ → Small n f g′
+  small-tame h t = record { surplus = omega (arith, h .surplus, t .room); size = omega (arith, h .size, t .light) }
 
-pub small-fits : (g : Graph) → Good g → Small g → Fits g
-unfolding load
-small-fits g s h = record { vertices = omega (arith, h .size, order-weight g); edges = omega (arith, h .size, h .surplus, order-weight g); single = s }
+  pub small-fits : (g : Graph) → Good g → Small n f g → Fits n (n + f) g
+  unfolding load
+  small-fits g s h = record { vertices = omega (arith, h .size, order-weight g); edges = omega (arith, h .size, h .surplus, order-weight g); single = s }
 
-pub tame-fits : {g g′ : Graph} → Small g → Tame g g′ → Fits g′
-tame-fits {g} {g′} h t = small-fits g′ (t .good) (small-tame h t)
+  pub tame-fits : {g g′ : Graph} → Small n f g → Tame g g′ → Fits n (n + f) g′
+  tame-fits {g} {g′} h t = small-fits g′ (t .good) (small-tame h t)
 
-pub simplify-fits : (least : ℕ) → 3 < least → (g : Graph) → Good g → Small g → Fits ((simplifyGraphFull least g) .graph)
-simplify-fits least pos g h s = tame-fits s (simplify-tame least pos g h)
+  pub simplify-fits : (least : ℕ) → 3 < least → (g : Graph) → Good g → Small n f g → Fits n (n + f) ((simplifyGraphFull least g) .graph)
+  simplify-fits least pos g h s = tame-fits s (simplify-tame least pos g h)

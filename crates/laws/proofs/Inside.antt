@@ -1,6 +1,6 @@
 -- Room inside a rewrite: while its new vertices and edges are added and nothing has gone yet, twice the limits are enough.
 -- Assumes nothing.
-use Prim.Native.Nat.{ℕ, suc, _+_, _≤_, _<_}
+use Prim.Native.Nat.{ℕ, suc, _+_, _*_, _≤_, _<_}
 use native.Mathlib.Omega.{arith}
 use mathlib.Core.Path.{_≡_, refl, sym, ap, _∙_}
 use mathlib.Core.Logic.{⊎-elim}
@@ -109,10 +109,10 @@ pub zip-through : (g : Graph) (bounded : Bounded g) (r : ℕ → ℕ) (ranks : R
     → (nodeCount (Z.G g bounded r ranks s y ys c) ≡ nodeCount g) × (length ((Z.G g bounded r ranks s y ys c) .edges) ≡ length (g .edges))
 zip-through g bounded r ranks s y ys c = (Z.order-G g bounded r ranks s y ys c, length-map (g .edges) (moveFrom (lastOf s (y ∷ ys)) (s ∷ y ∷ ys) s))
 
--- from Φ ≤ 6144 and N ≤ 10240
-pub inside-fits : {g g′ : Graph} → Good g → Small g → Tame g g′ → (t : Through g g′) → (nodeCount (withAdditions (t .by) g) ≤ 20480)
-    × (length ((withAdditions (t .by) g) .edges) ≤ 32768)
-inside-fits {g} {g′} h s t w =
+-- from N at most n and Φ at most f: twice as many vertices and edges as between two rewrites
+pub inside-fits : {n f : ℕ} {g g′ : Graph} → Good g → Small n f g → Tame g g′ → (t : Through g g′) → (nodeCount (withAdditions (t .by) g) ≤ 2 * n)
+    × (length ((withAdditions (t .by) g) .edges) ≤ 2 * (n + f))
+inside-fits {g = g} {g′} h s t w =
     let a = small-fits g h s in
     let b = tame-fits s t in
     (omega (arith, a .vertices, b .vertices, w .vertices), omega (arith, a .edges, b .edges, w .edges))

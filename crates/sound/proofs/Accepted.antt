@@ -184,7 +184,7 @@ module _ (bs : List ℕ) where
         ∙ tab-ext (verticesOf bs) (λ (i : ℕ). length (sequenceAt bs i)) (lengthAt bs) (λ i b. length-sequence bs i b ok))
         ∙ ok .lengths
 
-    pub read-limits : kindOf bs ≡ 1 → Limits (decode bs)
+    pub read-limits : kindOf bs ≡ 1 → Limits 2048 4096 8192 (decode bs)
     read-limits o = record {
       vertices = omega (arith, order-read, ok .vertices);
       edges = omega (arith, edges-read, ok .edges);
@@ -218,7 +218,7 @@ module _ (t : Takes) (bs : List ℕ) where
       (λ a d c r. number-clash z r (λ q. omega arith))
       (λ a d c r. read-good bs (accepted-layout z) d c)
 
-  pub accepted-limits : recordRefusal t bs ≡ 0 → kindOf bs ≡ 1 → Limits (decode bs)
+  pub accepted-limits : recordRefusal t bs ≡ 0 → kindOf bs ≡ 1 → Limits 2048 4096 8192 (decode bs)
   accepted-limits z o = read-limits bs (accepted-layout z) o
 
   -- 6 and 7 mean what they say
