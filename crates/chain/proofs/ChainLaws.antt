@@ -1,27 +1,23 @@
 -- The tests of a chain over the index are the definitions', and the loops that follow one. Assumes nothing.
 use mathlib.Core.Path.{_≡_, refl, sym, ap, _∙_}
-use mathlib.Core.Bool.{Bool, true, false, cond, not, _&&_, _||_, Bool·beq}
+use mathlib.Core.Bool.{Bool, true, false, not, _&&_, _||_, Bool·beq}
 use mathlib.Core.List.{List, [], _∷_, _++_, map, append-assoc, append-nil}
-use Prim.Native.Nat.{ℕ, zero, suc, _+_, _*_, _-_, _≤_, _<_}
-use native.Mathlib.Nat.{add-zero, zero-add}
-use native.Mathlib.Numerals.{add-one}
+use Prim.Native.Nat.{ℕ, suc, _+_, _*_, _-_, _≤_, _<_}
 use native.Mathlib.Omega.{arith}
 use native.Mathlib.Decide.{ℕ-discrete}
 use lib.ListN.{length, getD, set, length-set}
 use lib.Seq.{getD-set-same, getD-set-other}
 use lib.Dec.{eqb, ltb}
 use borrow.Author.Tests.{eq-eqb, ne-eqb, eqb-true}
-use Rattle.defs.specs.Lists.{keepIf, headOr, upFrom}
-use Rattle.defs.specs.SeqGraph.{Graph, outgoingNodes, incomingNodes, outDegree, inDegree, isReferenceNode}
+use Rattle.defs.specs.Lists.{headOr}
+use Rattle.defs.specs.SeqGraph.{Graph, outgoingNodes, incomingNodes, isReferenceNode}
 use Rattle.defs.specs.Zip.{isLinearChainStart, chainGoesOn, traceLinearChain}
-use Rattle.laws.proofs.Walks.{byTest}
 use Rattle.tabs.proofs.Tabs.{tab-zero}
-use Rattle.tabs.proofs.ListTabs.{keepIf-append}
 use Rattle.store.specs.Store.{graphIn, numsIn}
-use Rattle.index.specs.Index.{edgeEnd, incidentEdges, atFrom, Index, pairAt, Indexed}
+use Rattle.index.specs.Index.{edgeEnd, incidentEdges, pairAt, Indexed}
 use Rattle.index.proofs.IndexLaws.{out-degree-is, in-degree-is, outgoing-is, incoming-is, nums-push, at-none, at-first, pair-first}
 use Rattle.refs.specs.Refs.{RefNode}
-use Rattle.chain.specs.Chain.{ChainStart, GoesOn, Traced, Starts}
+use Rattle.chain.specs.Chain.{ChainStart, GoesOn, Traced}
 
 -- one edge at v: it is the head
 pub one-head : {m n : ℕ} {es heads nexts : List ℕ} (off : ℕ) → off ≤ 1 → Indexed m n es heads nexts → (v : ℕ) → v < n → true
@@ -185,63 +181,4 @@ module _ {m n : ℕ} {es heads nexts : List ℕ} (I : Indexed m n es heads nexts
     is = λ k vs p. sym (T .is k vs p ∙ ap (λ (l : List ℕ). numsIn c out
         ++ l) (ap (λ (x : ℕ). traceLinearChain x (graphIn k n m es vs p) last) (omega (arith, T .high))
         ∙ trace-out (graphIn k n m es vs p) last) ∙ append-nil _);
-  }
-
--- ---- the starts
-
-up-snoc : (i v : ℕ) → upFrom i (suc v) ≡ upFrom i v ++ ((i + v) ∷ [])
-unfolding upFrom
-up-snoc i zero = ap (λ (x : ℕ). x ∷ []) (sym (add-zero i))
-up-snoc i (suc v) = ap (λ (l : List ℕ). i ∷ l) (up-snoc (suc i) v ∙ ap (λ (x : ℕ). upFrom (suc i) v ++ (x ∷ [])) (omega arith))
-
-pub up-more : (v : ℕ) → upFrom 0 (v + 1) ≡ upFrom 0 v ++ (v ∷ [])
-up-more v = ap (upFrom 0) (add-one v) ∙ up-snoc 0 v ∙ ap (λ (x : ℕ). upFrom 0 v ++ (x ∷ [])) (zero-add v)
-
-pub record Starting (m n : ℕ) (es out₀ out : List ℕ) (c v : ℕ) : Type 0 where
-  pub high : v ≤ n
-  pub low : c ≤ v
-  pub len : length out ≡ length out₀
-  pub below : (j : ℕ) → j < c → getD out j 0 < n
-  pub is : (k : ℕ) (vs p : List ℕ) → numsIn c out ≡ keepIf (isLinearChainStart (graphIn k n m es vs p)) (upFrom 0 v)
-
-module _ {m n : ℕ} {es out₀ : List ℕ} where
-  pub starting-start : Starting m n es out₀ out₀ 0 0
-  unfolding keepIf upFrom
-  starting-start = record { high = omega arith; low = omega arith; len = refl; below = λ j b. absurd (omega arith); is = λ k vs p. tab-zero _ }
-
-  pub starting-yes : {out : List ℕ} {c v : ℕ} {r : Bool} → Starting m n es out₀ out c v → v < n → n ≤ length out₀ → ChainStart m n es v r
-      → r ≡ true → Starting m n es out₀ (set out c v) (c + 1) (v + 1)
-  unfolding keepIf
-  starting-yes {out} {c} {v} S h room C e = record {
-    high = omega arith;
-    low = omega (arith, S .low);
-    len = length-set out _ _ ∙ S .len;
-    below = λ j x. elim (ℕ-discrete j c) [
-      | yes z ↦ rw (z, getD-set-same out c v 0 (omega (arith, S .len, S .low))) h
-      | no ne ↦ rw (getD-set-other out c j v 0 ne) (S .below j (omega arith))
-    ];
-    is = λ k vs p. let t : isLinearChainStart (graphIn k n m es vs p) v ≡ true = sym (C .is k vs p) ∙ e in
-        nums-push c v out (omega (arith, S .len, S .low)) ∙ ap (λ (l : List ℕ). l ++ (v ∷ [])) (S .is k vs p)
-        ∙ sym (ap (keepIf (isLinearChainStart (graphIn k n m es vs p))) (up-more v)
-        ∙ keepIf-append (isLinearChainStart (graphIn k n m es vs p)) (upFrom 0 v) (v ∷ []) ∙ rw t);
-  }
-
-  pub starting-no : {out : List ℕ} {c v : ℕ} {r : Bool} → Starting m n es out₀ out c v → v < n → ChainStart m n es v r → r ≡ false
-      → Starting m n es out₀ out c (v + 1)
-  unfolding keepIf
-  starting-no {out} {c} {v} S h C e = record {
-    high = omega arith;
-    low = omega (arith, S .low);
-    len = S .len;
-    below = S .below;
-    is = λ k vs p. let t : isLinearChainStart (graphIn k n m es vs p) v ≡ false = sym (C .is k vs p) ∙ e in
-        S .is k vs p ∙ sym (ap (keepIf (isLinearChainStart (graphIn k n m es vs p))) (up-more v)
-        ∙ keepIf-append (isLinearChainStart (graphIn k n m es vs p)) (upFrom 0 v) (v ∷ []) ∙ rw (t, append-nil));
-  }
-
-  pub starting-end : {out : List ℕ} {c v : ℕ} → Starting m n es out₀ out c v → n ≤ v → Starts m n es c out
-  starting-end {out} {c} {v} S h = record {
-    most = omega (arith, S .low, S .high);
-    below = S .below;
-    is = λ k vs p. S .is k vs p ∙ ap (λ (x : ℕ). keepIf (isLinearChainStart (graphIn k n m es vs p)) (upFrom 0 x)) (omega (arith, S .high));
   }

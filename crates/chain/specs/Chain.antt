@@ -4,7 +4,6 @@ use mathlib.Core.Bool.{Bool}
 use mathlib.Core.List.{List}
 use Prim.Native.Nat.{ℕ, _≤_, _<_}
 use lib.ListN.{getD}
-use Rattle.defs.specs.Lists.{keepIf, upFrom}
 use Rattle.defs.specs.Zip.{isLinearChainStart, chainGoesOn, traceLinearChain}
 use Rattle.store.specs.Store.{graphIn, numsIn}
 
@@ -19,9 +18,3 @@ pub record Traced (m n : ℕ) (es : List ℕ) (start c : ℕ) (out : List ℕ) :
   pub most : c ≤ n
   pub below : (j : ℕ) → j < c → getD out j 0 < n
   pub is : (k : ℕ) (vs p : List ℕ) → numsIn c out ≡ traceLinearChain n (graphIn k n m es vs p) start
-
--- the first c numbers of out are the starts
-pub record Starts (m n : ℕ) (es : List ℕ) (c : ℕ) (out : List ℕ) : Type 0 where
-  pub most : c ≤ n
-  pub below : (j : ℕ) → j < c → getD out j 0 < n
-  pub is : (k : ℕ) (vs p : List ℕ) → numsIn c out ≡ keepIf (isLinearChainStart (graphIn k n m es vs p)) (upFrom 0 n)

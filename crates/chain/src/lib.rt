@@ -1,10 +1,10 @@
 // Linear chains: where one starts, and the vertices behind its start.
 ghost use mathlib.Core.Path.{_≡_};
 ghost use mathlib.Core.Bool.{Bool·beq};
-ghost use Prim.Native.Nat.{ℕ, _+_, _*_, _<_, _≤_};
+ghost use Prim.Native.Nat.{_+_, _*_, _<_, _≤_};
 ghost use lib.ListN.{length};
 ghost use Rattle.index.specs.Index.{Indexed};
-ghost use Rattle.chain.specs.Chain.{ChainStart, GoesOn, Traced, Starts};
+ghost use Rattle.chain.specs.Chain.{ChainStart, GoesOn, Traced};
 
 pub fn is_linear_chain_start(
     es: &[u32],
@@ -91,31 +91,6 @@ pub fn trace_linear_chain(
         out[c] = next;
         c += 1;
         last = next as usize;
-    }
-    c
-}
-
-// Writes the vertices at which a chain may start, in order; how many.
-pub fn chain_starts(
-    es: &[u32],
-    m: usize,
-    n: usize,
-    heads: &[u32],
-    nexts: &[u32],
-    out: &mut [u32],
-) -> usize
-    requires { ⌜ (n < 4294967296) × ((n ≤ length (now out)) × Indexed m n (now es) (now heads) (now nexts)) ⌝ }
-    ensures { λ r. ⌜ Starts m n (now (es .entry)) r (now (out .exit)) ⌝ }
-{
-    let mut c = 0;
-    let mut v = 0;
-    while v < n {
-        let u = v;
-        v += 1;
-        if is_linear_chain_start(es, m, n, heads, nexts, u) {
-            out[c] = u as u32;
-            c += 1;
-        }
     }
     c
 }

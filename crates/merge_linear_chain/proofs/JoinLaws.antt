@@ -3,45 +3,42 @@ use mathlib.Core.Path.{_≡_, refl, sym, ap, _∙_, subst}
 use mathlib.Core.Bool.{Bool, true, false, cond}
 use mathlib.Core.List.{List, [], _∷_, _++_, map, List·Memᴰ, List·Memᴰ·head, List·Memᴰ·tail, List·Memᴰ·cases-cons}
 use mathlib.Core.Logic.{⊎-elim}
-use Prim.Native.Nat.{ℕ, zero, suc, _+_, _*_, _-_, _/_, _≤_, _<_}
-use native.Mathlib.Numerals.{add-one}
+use Prim.Native.Nat.{ℕ, _+_, _*_, _-_, _≤_, _<_}
 use native.Mathlib.Omega.{arith}
-use lib.ListN.{length, getD, set, take, drop, length-take, length-drop, length-set}
-use lib.Seq.{getD-set-same, getD-set-other}
+use lib.ListN.{length, getD, set}
 use lib.Dec.{eqb}
-use borrow.Author.Tests.{eqb-true, eqb-false, eq-eqb, ne-eqb}
-use Rattle.defs.specs.Lists.{tab, tabFrom, concat, sum}
-use Rattle.defs.specs.SeqGraph.{Edge, Graph, nodeCount, vertexSequence, keeps, removeVerticesById}
+use borrow.Author.Tests.{eqb-true, eqb-false}
+use Rattle.defs.specs.Lists.{tab, concat, sum}
+use Rattle.defs.specs.SeqGraph.{Edge, Graph, nodeCount, vertexSequence, removeVerticesById}
 use Rattle.defs.specs.Zip.{lastOf, moveFrom, mergeLinearChain}
 use Rattle.defs.specs.Simplify.{sequenceBytes}
 use Rattle.laws.proofs.Walks.{byTest}
-use Rattle.laws.proofs.ListLaws.{byOrder}
-use Rattle.laws.proofs.Nets.{Bounded}
-use Rattle.laws.proofs.Counts.{total, total-kept, Distinct}
+use Rattle.laws.proofs.Counts.{total, total-kept}
 use Rattle.laws.proofs.Whole.{byList}
 use Rattle.laws.proofs.Fuel.{Good}
 use Rattle.laws.proofs.Measures.{bytes-is, zip-tame}
 use Rattle.laws.proofs.ZipLaws.{Chained, src-moved, src-kept}
 use Rattle.laws.proofs.ZipCounts.{distinct-chain, below}
-use Rattle.tabs.proofs.Tabs.{length-tab, getD-tab, tab-ext, tab-set, tab-snoc}
-use Rattle.tabs.proofs.SumTabs.{map-tab, sum-none, sum-more, total-sum}
-use Rattle.tabs.proofs.ListTabs.{of-mem-tab, mem-tab}
-use Rattle.store.specs.Store.{part, edgeIn, edgesIn, seqIn, seqsIn, graphIn, numsIn, EndsBelow, Within, putVertex}
+use Rattle.tabs.proofs.Tabs.{length-tab, getD-tab, tab-ext, tab-snoc}
+use Rattle.tabs.proofs.SumTabs.{map-tab, total-sum}
+use Rattle.tabs.proofs.ListTabs.{of-mem-tab}
+use Rattle.store.specs.Store.{edgeIn, edgesIn, seqIn, seqsIn, graphIn, numsIn, EndsBelow, Within, putVertex}
 use Rattle.store.proofs.VertexLaws.{part-long, seq-at}
 use Rattle.compact.specs.Compact.{Compactable, Below, Removed}
 use Rattle.compact.specs.declared.Counts.{Counts}
-use Rattle.compact.proofs.CompactLaws.{order-in, mem-ends, ends-mem}
+use Rattle.compact.proofs.CompactLaws.{order-in, mem-ends}
 use Rattle.pool.specs.Pool.{bytesIn, Packable, Packed}
-use Rattle.pool.proofs.PoolLaws.{part-same, packed-seqs, packed-within}
-use Rattle.memory.specs.Memory.{graphOf, vertexRoom, edgeRoom, Room, Fit, Holds}
+use Rattle.pool.proofs.PoolLaws.{packed-seqs, packed-within}
+use Rattle.memory.specs.Memory.{graphOf, vertexRoom, Room, Fit, Holds}
 use Rattle.memory.specs.declared.Held.{Held}
 use Rattle.memory.proofs.RoomLaws.{fit-bytes, fit-tame, held-vertices, held-edges, held-ends, held-pool}
+use Rattle.merge_linear_chain.proofs.WrittenLaws.{verts-written, within-written}
 use Rattle.merge_linear_chain.specs.Zip.{ChainWritable, ChainWritten, movedEdge, EdgesMoved, Chain, Joined}
 use Rattle.store.specs.Store.{nodesLength}
 
 -- ---- lengths
 
-total-tab : {A : Type 0} (n : ℕ) (f : A → ℕ) (g : ℕ → A) → total f (tab n g) ≡ sum (tab n (λ (i : ℕ). f (g i)))
+pub total-tab : {A : Type 0} (n : ℕ) (f : A → ℕ) (g : ℕ → A) → total f (tab n g) ≡ sum (tab n (λ (i : ℕ). f (g i)))
 total-tab n f g = total-sum f (tab n g) ∙ ap sum (map-tab f n g)
 
 -- the bytes of the held sequences
@@ -55,7 +52,8 @@ unfolding lastOf
 last-snoc [] u x = refl
 last-snoc (y ∷ l) u x = last-snoc l y x
 
-last-of : (v n : ℕ) (f : ℕ → ℕ) → 1 ≤ n → lastOf v (tab n f) ≡ f (n - 1)
+-- the last of a list by index
+pub last-of : (v n : ℕ) (f : ℕ → ℕ) → 1 ≤ n → lastOf v (tab n f) ≡ f (n - 1)
 last-of v n f h = ap (λ (x : ℕ). lastOf v (tab x f)) size ∙ ap (lastOf v) (tab-snoc (n - 1) f) ∙ last-snoc (tab (n - 1) f) v (f (n - 1))
   where
     size : n ≡ (n - 1) + 1
@@ -80,6 +78,12 @@ module _ {h : Held} {es vs p heads nexts nodes mp : List ℕ} {start c : ℕ}
   rest-below : (v : ℕ) → List·Memᴰ v (start ∷ rest) → v < h .n
   rest-below v m = ⊎-elim (λ (e : v ≡ start). rw e (C .start-below)) (λ k. let z = of-mem-tab c (λ (i : ℕ). getD nodes i 0) k in
       rw (z .2) (C .below (z .0) (z .1))) (List·Memᴰ·cases-cons m)
+
+  vs-room : 2 * h .n ≤ length vs
+  vs-room = omega (arith, n-room, R .vs-room)
+
+  used-below : h .used ≤ length p
+  used-below = omega (arith, H .used-room, R .p-room)
 
   chain-bytes : getD vs (2 * start + 1) 0 + nodesLength vs nodes c ≤ vertexRoom heads
   chain-bytes =
@@ -119,53 +123,20 @@ module _ {h : Held} {es vs p heads nexts nodes mp : List ℕ} {start c : ℕ}
     abbrev merged : List ℕ
     merged = concat (map (vertexSequence g) (start ∷ rest))
 
-    start-at : 2 * start + 1 < length vs
-    start-at = omega (arith, C .start-below, n-room, R .vs-room)
-
-    put-start : getD vs′ (2 * start) 0 ≡ h .used
-    unfolding putVertex
-    put-start = getD-set-other (set vs (2 * start) (h .used)) (2 * start + 1) (2 * start) _ 0 (λ z. omega arith)
-        ∙ getD-set-same vs (2 * start) (h .used) 0 (omega (arith, start-at))
-
-    put-size : getD vs′ (2 * start + 1) 0 ≡ end - h .used
-    unfolding putVertex
-    put-size = getD-set-same (set vs (2 * start) (h .used)) (2 * start + 1) _ 0 (rw (length-set vs (2 * start) (h .used)) start-at)
-
-    put-other : (v : ℕ) → (v ≡ start → ⊥) → (getD vs′ (2 * v) 0 ≡ getD vs (2 * v) 0) × (getD vs′ (2 * v + 1) 0 ≡ getD vs (2 * v + 1) 0)
-    unfolding putVertex
-    put-other v ne = (
-      getD-set-other (set vs (2 * start) (h .used)) (2 * start + 1) (2 * v) _ 0 (λ z. omega arith)
-          ∙ getD-set-other vs (2 * start) (2 * v) _ 0 (λ z. ne (omega arith)),
-      getD-set-other (set vs (2 * start) (h .used)) (2 * start + 1) (2 * v + 1) _ 0 (λ z. ne (omega arith))
-          ∙ getD-set-other vs (2 * start) (2 * v + 1) _ 0 (λ z. omega arith),
-    )
-
     merged-is : merged ≡ concat (map (seqIn vs p) (start ∷ rest))
     merged-is = λ i. concat (seq-at (h .k .0) (h .n) (h .m) es vs p start (C .start-below) i ∷ seqs i)
       where
         seqs : map (vertexSequence g) rest ≡ map (seqIn vs p) rest
         seqs = map-tab (vertexSequence g) c (λ (i : ℕ). getD nodes i 0)
-            ∙ tab-ext c (λ (i : ℕ). vertexSequence g (getD nodes i 0)) (λ (i : ℕ). seqIn vs p (getD nodes i 0)) (λ i b. seq-at (h .k .0) (h .n) (h .m) es vs p (getD nodes i 0) (C .below i b))
+            ∙ tab-ext c (λ (i : ℕ). vertexSequence g (getD nodes i 0)) (λ (i : ℕ). seqIn vs p (getD nodes i 0)) (λ i b.
+            seq-at (h .k .0) (h .n) (h .m) es vs p (getD nodes i 0) (C .below i b))
             ∙ sym (map-tab (seqIn vs p) c (λ (i : ℕ). getD nodes i 0))
 
-    module _ (q : length p′ ≡ length p) where
-      seq-start : seqIn vs′ p′ start ≡ merged
-      seq-start = rw (put-start, put-size) (W .is ∙ sym merged-is)
-
-      seq-other : (v : ℕ) → v < h .n → (v ≡ start → ⊥) → seqIn vs′ p′ v ≡ seqIn vs p v
-      seq-other v b ne = let z = put-other v ne in rw (z .0, z .1)
-          (part-same p p′ (getD vs (2 * v) 0) (getD vs (2 * v) 0) (getD vs (2 * v + 1) 0) (held-pool H R .at v b)
-          (omega (arith, held-pool H R .at v b, q)) (λ x d. W .old (getD vs (2 * v) 0 + x) (omega (arith, H .within .at v b))))
-
-      pub verts-joined : seqsIn (h .n) vs′ p′ ≡ set (g .verts) start merged
-      verts-joined = tab-set (h .n) (seqIn vs p) (seqIn vs′ p′) start [] (C .start-below) (λ v b ne. seq-other v b ne) ∙ ap (set (g .verts) start) seq-start
+    pub verts-joined : length p′ ≡ length p → seqsIn (h .n) vs′ p′ ≡ set (g .verts) start merged
+    verts-joined q = verts-written (C .start-below) vs-room (H .within) used-below W q ∙ ap (set (g .verts) start) (sym merged-is)
 
     pub within-joined : Within (2 * vertexRoom heads) (h .n) vs′
-    within-joined = record {
-      at = λ v b. byTest (eqb v start)
-          (λ t. rw (eqb-true v start t) (omega (arith, put-start, put-size, end-high, end-low)))
-          (λ t. let z = put-other v (eqb-false v start t) in omega (arith, z .0, z .1, H .within .at v b, H .used-room));
-    }
+    within-joined = record { at = λ v b. omega (arith, within-written (C .start-below) vs-room (H .within) used-below W .at v b, end-high) }
 
   -- the moved edges
   module _ (y : ℕ) (ys : List ℕ) (is-rest : rest ≡ y ∷ ys) where

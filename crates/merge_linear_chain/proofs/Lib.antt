@@ -1,4 +1,4 @@
 pub mod WriteLaws
+pub mod WrittenLaws
 pub mod MoveLaws
 pub mod JoinLaws
-pub mod RemapLaws

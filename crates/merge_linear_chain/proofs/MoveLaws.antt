@@ -1,7 +1,7 @@
 -- MovingEdges the edges out of a chain's last vertex. Assumes nothing.
 use mathlib.Core.Path.{_≡_, refl, sym, ap, _∙_}
-use mathlib.Core.Bool.{Bool, true, false, cond}
-use mathlib.Core.List.{List, map}
+use mathlib.Core.Bool.{cond}
+use mathlib.Core.List.{List}
 use Prim.Native.Nat.{ℕ, _+_, _*_, _-_, _≤_, _<_}
 use native.Mathlib.Omega.{arith}
 use native.Mathlib.Decide.{ℕ-discrete}
@@ -9,12 +9,11 @@ use lib.ListN.{length, getD, set, length-set}
 use lib.Seq.{getD-set-same, getD-set-other}
 use lib.Dec.{eqb}
 use borrow.Author.Tests.{eqb-true, eqb-false}
-use Rattle.defs.specs.SeqGraph.{Edge}
 use Rattle.laws.proofs.Walks.{byTest}
 use Rattle.tabs.proofs.Tabs.{tab-ext}
 use Rattle.tabs.proofs.SumTabs.{map-tab}
-use Rattle.store.specs.Store.{edge, edgeIn, edgesIn}
-use Rattle.index.specs.Index.{edgeEnd, Next, Index, pairAt, Indexed}
+use Rattle.store.specs.Store.{edge, edgeIn}
+use Rattle.index.specs.Index.{edgeEnd, pairAt, Indexed}
 use Rattle.index.proofs.IndexLaws.{end-first, pair-first}
 use Rattle.merge_linear_chain.specs.Zip.{movedEdge, EdgesMoved}
 

@@ -1,12 +1,12 @@
 -- What the steps of a zip do to the slices. Assumes nothing.
 use mathlib.Core.Path.{_≡_}
-use mathlib.Core.Bool.{Bool, cond}
-use mathlib.Core.List.{List, [], _∷_, map}
+use mathlib.Core.Bool.{cond}
+use mathlib.Core.List.{List, _∷_, map}
 use Prim.Native.Nat.{ℕ, _+_, _*_, _-_, _≤_, _<_}
 use lib.ListN.{length, getD}
 use lib.Dec.{eqb}
-use Rattle.defs.specs.Lists.{tab, concat, keepIf, rank, sum}
-use Rattle.defs.specs.SeqGraph.{Edge, Graph, keeps}
+use Rattle.defs.specs.Lists.{concat}
+use Rattle.defs.specs.SeqGraph.{Edge, keeps}
 use Rattle.defs.specs.Zip.{mergeLinearChain}
 use Rattle.laws.proofs.ZipLaws.{Chained}
 use Rattle.store.specs.Store.{nodesLength}
@@ -62,20 +62,3 @@ pub record Joined (h : Held) (es vs p heads nexts nodes : List ℕ) (start c : �
   pub fewer : r .n < h .n
   pub numbered : Numbered (h .n) map′
   pub kept : (v : ℕ) → v < h .n → keptBy map′ v ≡ keeps (numsIn c nodes) v
-
--- the numbers at i to count
-abbrev pub between : List ℕ → ℕ → ℕ → List ℕ
-between l i count = tab (count - i) (λ (j : ℕ). getD l (i + j) 0)
-
-pub record Remappable (starts : List ℕ) (i count : ℕ) (mp : List ℕ) (n : ℕ) : Type 0 where
-  pub low : i ≤ count
-  pub room : count ≤ length starts
-  pub mp-room : n ≤ length mp
-  pub below : (t : ℕ) → i ≤ t → t < count → getD starts t 0 < n
-
--- those of the vertices that stay, under the numbers of the map less 1
-pub record Remapped (starts : List ℕ) (i count : ℕ) (mp : List ℕ) (r : ℕ) (starts′ : List ℕ) : Type 0 where
-  pub low : i ≤ r
-  pub high : r ≤ count
-  pub before : (k : ℕ) → k < i → getD starts′ k 0 ≡ getD starts k 0
-  pub is : between starts′ i r ≡ map (λ (v : ℕ). getD mp v 0 - 1) (keepIf (keptBy mp) (between starts i count))

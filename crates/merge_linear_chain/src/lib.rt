@@ -1,10 +1,9 @@
-// One linear chain of vertices becomes one vertex (`merge_linear_chain`); numbers kept elsewhere follow their vertices.
-ghost use mathlib.Core.Path.{_≡_};
-ghost use Prim.Native.Nat.{ℕ, _+_, _*_, _<_, _≤_};
-ghost use lib.ListN.{length, getD};
+// One linear chain of vertices becomes one vertex (`merge_linear_chain`): it joins one row of vertices between two given ones, which a
+// checker of logs needs. Simplification joins all chains at once (crate `zip_linear_chains`) and takes only `write_chain` from here.
+ghost use Prim.Native.Nat.{_+_, _*_, _<_};
 ghost use Rattle.index.specs.Index.{Indexed};
 ghost use Rattle.memory.specs.Memory.{Room, Holds};
-ghost use Rattle.merge_linear_chain.specs.Zip.{SequenceCopyable, Copied, ChainWritable, ChainWritten, EdgesMoved, Chain, Joined, Remappable, Remapped};
+ghost use Rattle.merge_linear_chain.specs.Zip.{SequenceCopyable, Copied, ChainWritable, ChainWritten, EdgesMoved, Chain, Joined};
 use memory::Held;
 
 // Copies the sequence of v to `at`; where it ends.
@@ -19,7 +18,14 @@ fn append_sequence(vs: &[u32], p: &mut [u8], at: usize, v: u32) -> usize
 }
 
 // Writes the sequences of `start` and of the first c of `nodes` to `used` on, one behind the other; where they end.
-fn write_chain(vs: &[u32], p: &mut [u8], used: usize, start: u32, nodes: &[u32], c: usize) -> usize
+pub fn write_chain(
+    vs: &[u32],
+    p: &mut [u8],
+    used: usize,
+    start: u32,
+    nodes: &[u32],
+    c: usize,
+) -> usize
     requires { ⌜ ChainWritable (now vs) (now p) used start (now nodes) c ⌝ }
     ensures { λ r. ⌜ ChainWritten (now (vs .entry)) (now (p .entry)) used start (now (nodes .entry)) c r (now (p .exit)) ⌝ }
 {
@@ -88,23 +94,4 @@ pub fn merge_linear_chain(
         m: left.m,
         used: packed,
     }
-}
-
-// Of the numbers at i to count those of vertices that stay get their new numbers and close up to i; where they end.
-pub fn remap_numbers(starts: &mut [u32], i: usize, count: usize, map: &[u32], n: usize) -> usize
-    requires { ⌜ Remappable (now starts) i count (now map) n ⌝ }
-    ensures { λ r. ⌜ Remapped (now (starts .entry)) i count (now (map .entry)) r (now (starts .exit)) ⌝ }
-{
-    let mut j = i;
-    let mut t = i;
-    while t < count {
-        let v = starts[t] as usize;
-        t += 1;
-        let new = map[v];
-        if new != 0 {
-            starts[j] = new - 1;
-            j += 1;
-        }
-    }
-    j
 }

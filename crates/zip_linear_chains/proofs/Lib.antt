@@ -1,2 +1,4 @@
-pub mod AtLaws
 pub mod LoopLaws
+pub mod AbsorbLaws
+pub mod AllAbsorbedLaws
+pub mod ZippedLaws

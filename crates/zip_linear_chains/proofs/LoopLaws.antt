@@ -1,232 +1,115 @@
--- All chains. Assumes nothing.
-use mathlib.Core.Path.{_≡_, refl, sym, ap, _∙_, subst}
-use mathlib.Core.Bool.{Bool, true, false}
-use mathlib.Core.List.{List, [], _∷_, _++_, map}
-use Prim.Native.Nat.{ℕ, zero, suc, _+_, _*_, _-_, _≤_, _<_}
-use native.Mathlib.Nat.{add-zero}
-use native.Mathlib.Numerals.{add-one}
+-- The loops of a zip. Assumes nothing.
+use mathlib.Core.Path.{_≡_, refl, sym, ap, _∙_}
+use mathlib.Core.List.{List, _++_}
+use Prim.Native.Nat.{ℕ, _+_, _*_, _-_, _≤_, _<_}
 use native.Mathlib.Omega.{arith}
-use lib.ListN.{length, getD, length-set}
-use Rattle.defs.specs.Lists.{tab, tabFrom, keepIf, rank, upFrom}
-use Rattle.defs.specs.SeqGraph.{Graph, nodeCount, keeps, remapNumbers, compactVertices, removeVerticesById}
-use Rattle.defs.specs.Zip as Z
-use Rattle.defs.specs.Zip.{isLinearChainStart, linearChain, mergeLinearChain, zipStarts, zipLinearChains}
-use Rattle.laws.proofs.ListLaws.{clash, rank-lt, length-keepAt}
-use Rattle.laws.proofs.Walks.{byTest}
-use Rattle.laws.proofs.Nets.{order-restrict}
-use Rattle.laws.proofs.Whole.{byList, again, zip-nil, zip-cons, zip-zero, zip-empty}
-use Rattle.tabs.proofs.Tabs.{length-tab, tab-ext, tab-zero, getD-tab}
-use Rattle.tabs.proofs.Ranks.{rank-same}
-use Rattle.store.specs.Store.{isSet, numsIn, keptBy, Numbered}
-use Rattle.compact.proofs.CompactLaws.{order-in}
-use Rattle.chain.specs.Chain.{Starts}
-use Rattle.memory.specs.Memory.{graphOf, workOf}
-use Rattle.memory.specs.declared.Work.{Work}
-use Rattle.merge_linear_chain.specs.Zip.{between, Remappable, Remapped}
-use Rattle.zip_linear_chains.specs.Zips.{ReadyToZip, At, ZippedAll}
-use Rattle.zip_linear_chains.specs.declared.Zipped.{Zipped}
+use native.Mathlib.Decide.{ℕ-discrete}
+use lib.ListN.{length, getD, set, length-set}
+use lib.Seq.{getD-set-same, getD-set-other}
+use Rattle.tabs.proofs.Tabs.{tab-ext, set-more}
+use Rattle.tabs.proofs.ListTabs.{tab-append}
+use Rattle.tabs.proofs.SumTabs.{map-tab}
+use Rattle.store.specs.Store.{edge, edgeIn, EndsBelow}
+use Rattle.zip_linear_chains.specs.Loops.{EachItsOwn, edgeWithFrom, AllEdgesMoved, NodesAppended}
 
--- the first of what is left
-pub between-cons : (l : List ℕ) (i count : ℕ) → i < count → between l i count ≡ getD l i 0 ∷ between l (i + 1) count
-unfolding tabFrom
-between-cons l i count h =
-    ap (λ (x : ℕ). tab x (λ (j : ℕ). getD l (i + j) 0)) size
-    ∙ (λ s. getD l (add-zero i s) 0 ∷ shift s)
+-- ---- own_froms
+
+pub record Owning (n v : ℕ) (froms₀ froms : List ℕ) : Type 0 where
+  pub high : v ≤ n
+  pub len : length froms ≡ length froms₀
+  pub done : (u : ℕ) → u < v → getD froms u 0 ≡ u
+
+pub owning-start : (n : ℕ) (froms : List ℕ) → Owning n 0 froms froms
+owning-start n froms = record { high = omega arith; len = refl; done = λ u b. absurd (omega arith) }
+
+pub owning-more : {n v : ℕ} {froms₀ froms : List ℕ} → Owning n v froms₀ froms → v < n → n ≤ length froms₀ → (x : ℕ) → x ≡ v
+    → Owning n (v + 1) froms₀ (set froms v x)
+owning-more {n} {v} {froms₀} {froms} O h r x q = record {
+  high = omega arith;
+  len = length-set froms v x ∙ O .len;
+  done = set-more (λ k y. y ≡ k) froms v x (omega (arith, O .len)) (O .done) q;
+}
+
+pub owning-end : {n v : ℕ} {froms₀ froms : List ℕ} → Owning n v froms₀ froms → n ≤ v → EachItsOwn n froms
+owning-end O h = record { at = λ u b. O .done u (omega arith) }
+
+-- ---- move_all_edges
+
+pub record MovingAll (m : ℕ) (es₀ froms : List ℕ) (e : ℕ) (es : List ℕ) : Type 0 where
+  pub high : e ≤ m
+  pub len : length es ≡ length es₀
+  pub done : (j : ℕ) → j < e → getD es (4 * j) 0 ≡ getD froms (getD es₀ (4 * j) 0) 0
+  pub rest : (j : ℕ) → e ≤ j → getD es (4 * j) 0 ≡ getD es₀ (4 * j) 0
+  pub to-kept : (j : ℕ) → getD es (4 * j + 1) 0 ≡ getD es₀ (4 * j + 1) 0
+  pub support-kept : (j : ℕ) → getD es (4 * j + 2) 0 ≡ getD es₀ (4 * j + 2) 0
+  pub flag-kept : (j : ℕ) → getD es (4 * j + 3) 0 ≡ getD es₀ (4 * j + 3) 0
+
+pub moving-all-start : (m : ℕ) (es froms : List ℕ) → MovingAll m es froms 0 es
+moving-all-start m es froms = record {
+  high = omega arith;
+  len = refl;
+  done = λ j b. absurd (omega arith);
+  rest = λ j b. refl;
+  to-kept =
+      λ j. refl;
+  support-kept = λ j. refl;
+  flag-kept = λ j. refl;
+}
+
+pub moving-from-below : {m n : ℕ} {es₀ froms : List ℕ} {e : ℕ} {es : List ℕ} → MovingAll m es₀ froms e es → e < m → EndsBelow n m es₀
+    → {x : ℕ} → x ≡ getD es (4 * e) 0 → x < n
+moving-from-below {e = e} L h B q = omega (arith, q, L .rest e (omega arith), (B .at e h) .0)
+
+pub moving-all-more : {m : ℕ} {es₀ froms : List ℕ} {e : ℕ} {es : List ℕ} → MovingAll m es₀ froms e es → e < m → 4 * m ≤ length es₀
+    → {es′ : List ℕ} (x : ℕ) → x ≡ getD froms (getD es (4 * e) 0) 0 → es′ ≡ set es (4 * e) x → MovingAll m es₀ froms (e + 1) es′
+moving-all-more {m} {es₀} {froms} {e} {es} L h r x q put = rw put (record {
+  high = omega arith;
+  len = length-set es (4 * e) x ∙ L .len;
+  done = λ j b. elim (ℕ-discrete j e) [
+    | yes y ↦ rw y (getD-set-same es (4 * e) x 0 (omega (arith, L .len)) ∙ (q ∙ ap (λ (z : ℕ). getD froms z 0) (L .rest e (omega arith))))
+    | no ne ↦ getD-set-other es (4 * e) (4 * j) x 0 (λ w. ne (omega arith)) ∙ L .done j (omega arith)
+  ];
+  rest = λ j b. getD-set-other es (4 * e) (4 * j) x 0 (λ w. omega arith) ∙ L .rest j (omega arith);
+  to-kept = λ j. getD-set-other es (4 * e) (4 * j + 1) x 0 (λ w. omega arith) ∙ L .to-kept j;
+  support-kept = λ j. getD-set-other es (4 * e) (4 * j + 2) x 0 (λ w. omega arith) ∙ L .support-kept j;
+  flag-kept = λ j. getD-set-other es (4 * e) (4 * j + 3) x 0 (λ w. omega arith) ∙ L .flag-kept j;
+})
+
+pub moving-all-end : {m : ℕ} {es₀ froms : List ℕ} {e : ℕ} {es : List ℕ} → MovingAll m es₀ froms e es → m ≤ e → AllEdgesMoved m es₀ froms es
+moving-all-end {m} {es₀} {froms} {e} {es} L h = record {
+  is = tab-ext m (edgeIn es) (λ (i : ℕ). edgeWithFrom froms (edgeIn es₀ i)) each
+      ∙ sym (map-tab (edgeWithFrom froms) m (edgeIn es₀));
+}
   where
-    size : count - i ≡ suc (count - (i + 1))
-    size = omega arith
+    each : (j : ℕ) → j < m → edgeIn es j ≡ edgeWithFrom froms (edgeIn es₀ j)
+    each j b = λ i. edge (L .done j (omega arith) i) (L .to-kept j i) (L .support-kept j i) (L .flag-kept j i)
 
-    shift : tabFrom 1 (count - (i + 1)) (λ (j : ℕ). getD l (i + j) 0) ≡ between l (i + 1) count
-    shift = from 0 (count - (i + 1))
-      where
-        from : (a n : ℕ) → tabFrom (suc a) n (λ (j : ℕ). getD l (i + j) 0) ≡ tabFrom a n (λ (j : ℕ). getD l (i + 1 + j) 0)
-        from a zero = refl
-        from a (suc n) = λ s. getD l (place a s) 0 ∷ from (suc a) n s
-          where
-            place : (a : ℕ) → i + suc a ≡ i + 1 + a
-            place a = omega arith
+-- ---- append_nodes
 
-pub between-none : (l : List ℕ) (i count : ℕ) → count ≤ i → between l i count ≡ []
-between-none l i count h = ap (λ (x : ℕ). tab x (λ (j : ℕ). getD l (i + j) 0)) (omega arith) ∙ tab-zero (λ (j : ℕ). getD l (i + j) 0)
+pub record AppendingNodes (k c : ℕ) (dst₀ src : List ℕ) (i : ℕ) (dst : List ℕ) : Type 0 where
+  pub high : i ≤ c
+  pub len : length dst ≡ length dst₀
+  pub old : (j : ℕ) → j < k → getD dst j 0 ≡ getD dst₀ j 0
+  pub done : (j : ℕ) → j < i → getD dst (k + j) 0 ≡ getD src j 0
 
--- the map's numbers are the definition's
-module _ (mp gone : List ℕ) (n : ℕ) (N : Numbered n mp) (K : (v : ℕ) → v < n → keptBy mp v ≡ keeps gone v) where
-  number-is : (v : ℕ) → v < n → keptBy mp v ≡ true → getD mp v 0 - 1 ≡ rank (keeps gone) v
-  number-is v h t = omega (arith, N .is v h t, rank-same (keptBy mp) (keeps gone) v (λ u b. K u (omega arith)))
+pub appending-start : (k c : ℕ) (dst src : List ℕ) → AppendingNodes k c dst src 0 dst
+appending-start k c dst src = record { high = omega arith; len = refl; old = λ j b. refl; done = λ j b. absurd (omega arith) }
 
-  remap-list : (l : List ℕ) → ((i : ℕ) → i < length l → getD l i 0 < n) → map (λ (v : ℕ). getD mp v 0 - 1) (keepIf (keptBy mp) l)
-      ≡ map (rank (keeps gone)) (keepIf (keeps gone) l)
-  unfolding keepIf
-  remap-list [] b = refl
-  remap-list (v ∷ l) b =
-      let ih = remap-list l (λ i h. b (suc i) (omega arith)) in
-      let h : v < n = b 0 (omega arith) in
-      byTest (keptBy mp v)
-      (λ t. rw (t, sym (K v h) ∙ t) (λ s. number-is v h t s ∷ ih s))
-      (λ t. rw (t, sym (K v h) ∙ t) ih)
+pub appending-more : {k c : ℕ} {dst₀ src : List ℕ} {i : ℕ} {dst : List ℕ} → AppendingNodes k c dst₀ src i dst → i < c → k + c ≤ length dst₀
+    → (x : ℕ) → x ≡ getD src i 0 → AppendingNodes k c dst₀ src (i + 1) (set dst (k + i) x)
+appending-more {k} {c} {dst₀} {src} {i} {dst} A h r x q = record {
+  high = omega arith;
+  len = length-set dst (k + i) x ∙ A .len;
+  old = λ j b. getD-set-other dst (k + i) j x 0 (λ w. omega arith) ∙ A .old j b;
+  done = λ j b. elim (ℕ-discrete j i) [
+    | yes y ↦ rw y (getD-set-same dst (k + i) x 0 (omega (arith, A .len)) ∙ q)
+    | no ne ↦ getD-set-other dst (k + i) (k + j) x 0 (λ w. ne (omega arith)) ∙ A .done j (omega arith)
+  ];
+}
 
-  pub remapped-is : (starts starts′ : List ℕ) (i count r : ℕ) → Remapped starts i count mp r starts′
-      → ((t : ℕ) → i ≤ t → t < count → getD starts t 0 < n) → between starts′ i r ≡ remapNumbers gone (between starts i count)
-  unfolding remapNumbers
-  remapped-is starts starts′ i count r R b =
-      R .is ∙ remap-list (between starts i count) (λ j h. let c : j < count - i =
-      omega (arith, h, length-tab (count - i) (λ (j : ℕ). getD starts (i + j) 0)) in
-      rw (getD-tab (count - i) (λ (j : ℕ). getD starts (i + j) 0) j 0 c) (b (i + j) (omega arith) (omega arith)))
-
-  -- and below what is left
-  ranks-below : (l : List ℕ) → ((i : ℕ) → i < length l → getD l i 0 < n) → (i : ℕ)
-      → i < length (map (rank (keeps gone)) (keepIf (keeps gone) l))
-      → getD (map (rank (keeps gone)) (keepIf (keeps gone) l)) i 0 < rank (keeps gone) n
-  unfolding keepIf
-  ranks-below [] b = λ i h. absurd (omega arith)
-  ranks-below (v ∷ l) b = byTest (keeps gone v)
-      (λ t. rw t (at-head t (ranks-below l (λ i h. b (suc i) (omega arith)))))
-      (λ t. rw t (ranks-below l (λ i h. b (suc i) (omega arith))))
-    where
-      at-head : keeps gone v ≡ true → ((i : ℕ) → i < length (map (rank (keeps gone)) (keepIf (keeps gone) l))
-          → getD (map (rank (keeps gone)) (keepIf (keeps gone) l)) i 0 < rank (keeps gone) n)
-          → (i : ℕ) → i < length (rank (keeps gone) v ∷ map (rank (keeps gone)) (keepIf (keeps gone) l))
-          → getD (rank (keeps gone) v ∷ map (rank (keeps gone)) (keepIf (keeps gone) l)) i 0 < rank (keeps gone) n
-      at-head t ih zero h = rank-lt (keeps gone) v n (b 0 (omega arith)) t
-      at-head t ih (suc i) h = ih i (omega arith)
-
-  pub remapped-below : (starts starts′ : List ℕ) (i count r : ℕ) → Remapped starts i count mp r starts′
-      → ((t : ℕ) → i ≤ t → t < count → getD starts t 0 < n) → (t : ℕ) → i ≤ t → t < r → getD starts′ t 0 < rank (keeps gone) n
-  unfolding remapNumbers
-  remapped-below starts starts′ i count r R b t x y =
-      let e = remapped-is starts starts′ i count r R b in
-      let l = length-tab (r - i) (λ (j : ℕ). getD starts′ (i + j) 0) in
-      let z = ranks-below (between starts i count) (λ j h. let c : j < count - i =
-      omega (arith, h, length-tab (count - i) (λ (j : ℕ). getD starts (i + j) 0)) in
-      rw (getD-tab (count - i) (λ (j : ℕ). getD starts (i + j) 0) j 0 c) (b (i + j) (omega arith) (omega arith)))
-      (t - i) (omega (arith, ap length e, l)) in
-      let q : getD (between starts′ i r) (t - i) 0 ≡ getD starts′ t 0 =
-      getD-tab (r - i) (λ (j : ℕ). getD starts′ (i + j) 0) (t - i) 0 (omega arith) ∙ ap (λ (s : ℕ). getD starts′ s 0) (omega arith) in
-      omega (arith, z, q, ap (λ (k : List ℕ). getD k (t - i) 0) e)
-
--- the loop: what is left to do from here is what there was to do
-pub record Zipping (total : ℕ) (w₀ : Work) (es₀ vs₀ p₀ starts₀ : List ℕ) (w : Work) (es vs p heads nexts nodes mp starts : List ℕ) (count i : ℕ) : Type 0 where
-  pub ready : ReadyToZip w es vs p heads nexts nodes mp
-  pub low : i ≤ count
-  pub high : count ≤ total
-  pub len : length starts ≡ length starts₀
-  pub below : (t : ℕ) → i ≤ t → t < count → getD starts t 0 < w .held .n
-  pub is : zipStarts (total - i) (between starts i count) (workOf w es vs p) ≡ zipStarts total (between starts₀ 0 total) (workOf w₀ es₀ vs₀ p₀)
-  pub less : w .rewrites + w .held .n ≤ w₀ .rewrites + w₀ .held .n
-
--- the vertices that a joined chain leaves
-left-over : (g : Graph) (s : ℕ) (l : List ℕ) → nodeCount (mergeLinearChain g s l) ≡ rank (keeps l) (nodeCount g)
-unfolding mergeLinearChain removeVerticesById
-left-over g s l = order-restrict (keeps l) _ ∙ ap (rank (keeps l)) (unfold nodeCount in (length-set (g .verts) s _))
-
-zip-rest : (fuel : ℕ) (w : Z.Work) → zipStarts fuel [] w ≡ w
-zip-rest zero w = zip-zero [] w
-zip-rest (suc fuel) w = zip-empty fuel w
-
-module _ {total : ℕ} {w₀ : Work} {es₀ vs₀ p₀ starts₀ : List ℕ} where
-  pub zipping-start : {heads nexts nodes mp : List ℕ} → ReadyToZip w₀ es₀ vs₀ p₀ heads nexts nodes mp
-      → Starts (w₀ .held .m) (w₀ .held .n) es₀ total starts₀
-      → Zipping total w₀ es₀ vs₀ p₀ starts₀ w₀ es₀ vs₀ p₀ heads nexts nodes mp starts₀ total 0
-  zipping-start R S = record {
-    ready = R;
-    low = omega arith;
-    high = omega arith;
-    len = refl;
-    below = λ t a b. S .below t b;
-    is = ap (λ (x : ℕ). zipStarts x (between starts₀ 0 total) (workOf w₀ es₀ vs₀ p₀)) (omega arith);
-    less = omega arith;
-  }
-
-  module _ {w : Work} {es vs p heads nexts nodes mp starts : List ℕ} {count i : ℕ} (Q :
-      Zipping total w₀ es₀ vs₀ p₀ starts₀ w es vs p heads nexts nodes mp starts count i) (h : i < count) where
-    abbrev s : ℕ
-    s = getD starts i 0
-
-    abbrev g : Graph
-    g = graphOf (w .held) es vs p
-
-    fuel-is : total - i ≡ suc (total - (i + 1))
-    fuel-is = omega (arith, Q .high)
-
-    turn : zipStarts (total - i) (between starts i count) (workOf w es vs p)
-        ≡ zipStarts (suc (total - (i + 1))) (s ∷ between starts (i + 1) count) (workOf w es vs p)
-    turn = λ j. zipStarts (fuel-is j) (between-cons starts i count h j) (workOf w es vs p)
-
-    pub zip-s-below : s < w .held .n
-    zip-s-below = Q .below i (omega arith) h
-
-    module _ {r : Zipped} {es′ vs′ p′ heads′ nexts′ nodes′ mp′ : List ℕ} (A : At w es vs p s r es′ vs′ p′ heads′ nexts′ nodes′ mp′) where
-      pub zipping-no : r .joined ≡ false → Zipping total w₀ es₀ vs₀ p₀ starts₀ (r .work) es′ vs′ p′ heads′ nexts′ nodes′ mp′ starts count (i + 1)
-      zipping-no t = record {
-        ready = A .ready;
-        low = omega arith;
-        high = Q .high;
-        len = Q .len;
-        below = λ u a b. rw (A .same-n t) (Q .below u (omega arith) b);
-        is = ap (zipStarts (total - (i + 1)) (between starts (i + 1) count)) (A .same t)
-            ∙ sym (zip-nil (total - (i + 1)) s (between starts (i + 1) count) (workOf w es vs p) (A .no t)) ∙ sym turn ∙ Q .is;
-        less = omega (arith, Q .less, A .less);
-      }
-
-      pub zip-remappable : r .joined ≡ true → count ≤ length starts → Remappable starts (i + 1) count mp′ (w .held .n)
-      zip-remappable t b = record { low = omega arith; room = b; mp-room = A .numbered t .room; below = λ u x y. Q .below u (omega arith) y }
-
-      pub zipping-yes : {starts′ : List ℕ} {count′ : ℕ} → r .joined ≡ true → Remapped starts (i + 1) count mp′ count′ starts′ → length starts′ ≡ length starts
-          → Zipping total w₀ es₀ vs₀ p₀ starts₀ (r .work) es′ vs′ p′ heads′ nexts′ nodes′ mp′ starts′ count′ (i + 1)
-      zipping-yes {starts′} {count′} t R l = record {
-        ready = A .ready;
-        low = R .low;
-        high = omega (arith, R .high, Q .high);
-        len = l ∙ Q .len;
-        below = λ u a b. omega (
-          arith,
-          remapped-below mp′ chain
-              (w .held .n) (A .numbered t) (A .kept t) starts starts′ (i + 1) count count′ R (λ v x y. Q .below v (omega arith) y) u a b,
-          left,
-        );
-        is = (λ j. zipStarts (total - (i + 1)) (remapped-is mp′ chain
-            (w .held .n) (A .numbered t) (A .kept t) starts starts′ (i + 1) count count′ R (λ v x y. Q .below v (omega arith) y) j)
-            (work-is j))
-            ∙ sym step ∙ sym turn ∙ Q .is;
-        less = omega (arith, Q .less, A .less);
-      }
-        where
-          chain : List ℕ
-          chain = linearChain g s
-
-          left : r .work .held .n ≡ rank (keeps chain) (w .held .n)
-          left = sym (order-in (r .work .held .k .0) (r .work .held .n) (r .work .held .m) es′ vs′ p′) ∙ ap nodeCount (A .is t)
-              ∙ left-over g s chain ∙ ap (rank (keeps chain)) (order-in (w .held .k .0) (w .held .n) (w .held .m) es vs p)
-
-          work-is : workOf (r .work) es′ vs′ p′ ≡ again (workOf w es vs p) (mergeLinearChain g s chain)
-          work-is = λ j. record { graph = A .is t j; rewrites = (A .one-more t ∙ add-one (w .rewrites)) j }
-
-          step : zipStarts (suc (total - (i + 1))) (s ∷ between starts (i + 1) count) (workOf w es vs p)
-              ≡ zipStarts (total - (i + 1)) (remapNumbers chain (between starts (i + 1) count)) (again
-              (workOf w es vs p) (mergeLinearChain g s chain))
-          step = byList chain (λ e. absurd (omega (arith, A .some t, ap length e)))
-              (λ v more e. zip-cons (total - (i + 1)) s (between starts (i + 1) count) (workOf w es vs p) v more e
-              ∙ (λ j. zipStarts (total - (i + 1)) (remapNumbers (sym e j) (between starts (i + 1) count)) (again
-              (workOf w es vs p) (mergeLinearChain g s (sym e j)))))
-
-  pub zipping-end : {w : Work} {es vs p heads nexts nodes mp starts : List ℕ} {count i : ℕ}
-      → Zipping total w₀ es₀ vs₀ p₀ starts₀ w es vs p heads nexts nodes mp starts count i → count ≤ i
-      → Starts (w₀ .held .m) (w₀ .held .n) es₀ total starts₀ → ZippedAll w₀ es₀ vs₀ p₀ w es vs p heads nexts nodes mp
-  unfolding zipLinearChains
-  zipping-end {w} {es} {vs} {p} {starts = starts} {count = count} {i = i} Q h S = record {
-    ready = Q .ready;
-    is = sym (ap (λ (l : List ℕ). zipStarts (total - i) l (workOf w es vs p)) (between-none starts i count h) ∙ zip-rest (total - i) (workOf w es vs p)) ∙ Q .is
-        ∙ (λ j. zipStarts (long j) (list j) (workOf w₀ es₀ vs₀ p₀));
-    less = Q .less;
-  }
-    where
-      list : between starts₀ 0 total ≡ keepIf (isLinearChainStart (graphOf (w₀ .held) es₀ vs₀ p₀)) (upFrom 0 (nodeCount (graphOf (w₀ .held) es₀ vs₀ p₀)))
-      list = ap (λ (x : ℕ). tab x (λ (j : ℕ). getD starts₀ (0 + j) 0)) (omega arith)
-          ∙ tab-ext total (λ (j : ℕ). getD starts₀ (0 + j) 0) (λ (j : ℕ). getD starts₀ j 0) (λ j b. ap (λ (x : ℕ). getD starts₀ x 0) (omega arith))
-          ∙ S .is (w₀ .held .k .0) vs₀ p₀ ∙ ap (λ (x : ℕ). keepIf (isLinearChainStart (graphOf (w₀ .held) es₀ vs₀ p₀)) (upFrom 0 x))
-          (sym (order-in (w₀ .held .k .0) (w₀ .held .n) (w₀ .held .m) es₀ vs₀ p₀))
-
-      long : total ≡ length (keepIf (isLinearChainStart (graphOf (w₀ .held) es₀ vs₀ p₀)) (upFrom 0 (nodeCount (graphOf (w₀ .held) es₀ vs₀ p₀))))
-      long = sym (length-tab total (λ (j : ℕ). getD starts₀ j 0)) ∙ ap length (S .is (w₀ .held .k .0) vs₀ p₀)
-          ∙ ap (λ (x : ℕ). length (keepIf (isLinearChainStart (graphOf (w₀ .held) es₀ vs₀ p₀)) (upFrom 0 x)))
-          (sym (order-in (w₀ .held .k .0) (w₀ .held .n) (w₀ .held .m) es₀ vs₀ p₀))
+pub appending-end : {k c : ℕ} {dst₀ src : List ℕ} {i : ℕ} {dst : List ℕ} → AppendingNodes k c dst₀ src i dst → c ≤ i → NodesAppended k c dst₀ src dst
+appending-end {k} {c} {dst₀} {src} {i} {dst} A h = record {
+  is = tab-append k c (λ (j : ℕ). getD dst j 0)
+      ∙ (λ t. tab-ext k (λ (j : ℕ). getD dst j 0) (λ (j : ℕ). getD dst₀ j 0) (A .old) t
+      ++ tab-ext c (λ (j : ℕ). getD dst (k + j) 0) (λ (j : ℕ). getD src j 0) (λ j b. A .done j (omega arith)) t);
+}

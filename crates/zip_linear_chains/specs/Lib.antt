@@ -1,1 +1,3 @@
+pub mod Loops
+pub mod Absorb
 pub mod Zips

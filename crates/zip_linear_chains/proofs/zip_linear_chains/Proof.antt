@@ -1,240 +1,280 @@
 -- `zip_linear_chains::zip_linear_chains` meets its contract. Assumes nothing.
 use native.Mathlib.Omega.{arith}
-use mathlib.Core.Path.{_≡_, refl, _∙_}
+use mathlib.Core.Path.{refl, _∙_}
 use Prim.Native.Nat.{_-_}
-use lib.ListN.{length}
-use Rattle.memory.proofs.RoomLaws.{held-vertices}
-use Rattle.zip_linear_chains.proofs.LoopLaws.{
-  Zipping,
-  zipping-start,
-  zip-s-below,
-  zipping-no,
-  zip-remappable,
-  zipping-yes,
-  zipping-end,
+use borrow.Author.Needs.{needs}
+use Rattle.zip_linear_chains.proofs.ZippedLaws.{
+  n-room,
+  n-small,
+  zip-none,
+  zip-compactable,
+  zip-below,
+  zip-packable,
+  zip-indexable,
+  zip-countable,
+  zip-zipped,
 }
+use borrow.Author.Needs.{needs}
 use Rattle.zip_linear_chains.proofs.zip_linear_chains.Statement.{statement}
 use Rattle.zip_linear_chains.proofs.zip_linear_chains.Tie as tie
 
-abbrev Inv-loop : tie.InvT-loop
-Inv-loop es₀ vs₀ p₀ heads₀ nexts₀ nodes₀ map₀ starts₀ w₀ count₀ i₀ es vs p heads nexts nodes map starts w count i =
-    Zipping count₀ w₀ es₀ vs₀ p₀ starts₀ w es vs p heads nexts nodes map starts count i
-    ×
-    ((length es ≡ length es₀) × ((length vs ≡ length vs₀) × ((length p ≡ length p₀) × ((length heads ≡ length heads₀) ×
-    ((length nexts ≡ length nexts₀) × ((length nodes ≡ length nodes₀) × (length map ≡ length map₀)))))))
+own-froms-requires : tie.Need-own-froms-requires
+own-froms-requires c κs = (omega (arith, n-room (start .pre .0), start .pre .1), n-small (start .pre .0))
+  where
+    start : tie.Start
+    start = search
 
-abbrev μ-loop : tie.MeasureT-loop
-μ-loop es₀ vs₀ p₀ heads₀ nexts₀ nodes₀ map₀ starts₀ w₀ count₀ i₀ es vs p heads nexts nodes map starts w count i = count₀ - i
-
-chain-starts-requires : tie.Need-chain-starts-requires Inv-loop μ-loop
-chain-starts-requires c κs = (
-  omega (arith, held-vertices (start .pre .0 .holds), start .pre .0 .room .vertices-edges, start .pre .0 .room .small),
-  (omega (arith, held-vertices (start .pre .0 .holds), start .pre .1), start .pre .0 .indexed),
+absorb-chains-requires : tie.Need-absorb-chains-requires
+absorb-chains-requires c κs = (
+  start .pre .0 .room,
+  (
+    start .pre .0 .holds,
+    (
+      start .pre .0 .indexed,
+      (
+        omega (arith, n-room (start .pre .0), start .pre .1, at-own-froms .own-froms .kept .0),
+        at-own-froms .own-froms .ensures,
+      ),
+    ),
+  ),
 )
   where
-    start : tie.Start Inv-loop μ-loop
-    start = let c : tie.After-slice-known Inv-loop μ-loop = search in search
+    at-own-froms : tie.After-own-froms
+    at-own-froms = search
 
-loop-holds : tie.Need-loop-holds Inv-loop μ-loop
-loop-holds c = (
-  zipping-start (start .pre .0) (at-chain-starts .chain-starts .ensures),
-  (refl, (refl, (refl, (refl, (refl, (refl, refl)))))),
-)
+    start : tie.Start
+    start = let c = at-own-froms in search
+
+returns : tie.Need-returns
+returns c =
+    zip-none
+    (start .pre .0)
+    (at-absorb-chains .absorb-chains .ensures)
+    (c .if1 .taken)
+    (at-absorb-chains .absorb-chains .kept .1 .1 .1 .1 .1 .1 .0)
+    (at-absorb-chains .absorb-chains .kept .1 .1 .1 .1 .1 .1 .1 .0)
   where
-    at-chain-starts : tie.After-chain-starts Inv-loop μ-loop
-    at-chain-starts = search
+    at-absorb-chains : tie.After-absorb-chains
+    at-absorb-chains = search
 
-    start : tie.Start Inv-loop μ-loop
-    start = let c = at-chain-starts in let c : tie.After-slice-known2 Inv-loop μ-loop = search in search
+    start : tie.Start
+    start = let c = at-absorb-chains in let c : tie.After-own-froms = search in search
 
-slice-read-s : tie.Need-slice-read-s Inv-loop μ-loop
-slice-read-s c =
+move-all-edges-requires : tie.Need-move-all-edges-requires
+move-all-edges-requires c κs = (
+  start .pre .0 .indexed .room,
+  (
     omega (
       arith,
-      at-loop .loop .inv .0 .high,
-      at-loop .loop .inv .0 .len,
-      at-chain-starts .chain-starts .ensures .most,
-      held-vertices (start .pre .0 .holds),
+      n-room (start .pre .0),
       start .pre .1,
-      at-chain-starts .chain-starts .kept,
-    )
+      at-own-froms .own-froms .kept .0,
+      at-absorb-chains .absorb-chains .kept .1 .1 .1 .1 .1 .1 .1 .1 .0,
+    ),
+    start .pre .0 .indexed .ends,
+  ),
+)
   where
-    at-loop : tie.At-loop Inv-loop μ-loop
-    at-loop = search
+    at-absorb-chains : tie.After-absorb-chains
+    at-absorb-chains = let c : tie.After-vs = search in search
 
-    at-chain-starts : tie.After-chain-starts Inv-loop μ-loop
-    at-chain-starts = let c = at-loop in search
+    at-own-froms : tie.After-own-froms
+    at-own-froms = let c = at-absorb-chains in search
 
-    start : tie.Start Inv-loop μ-loop
-    start = let c = at-chain-starts in let c : tie.After-slice-known2 Inv-loop μ-loop = search in search
+    start : tie.Start
+    start = let c = at-own-froms in search
 
-zip-at-requires : tie.Need-zip-at-requires Inv-loop μ-loop
-zip-at-requires c κs =
-    let at-loop-test : tie.In-loop Inv-loop μ-loop = search in
-    let at-loop : tie.At-loop Inv-loop μ-loop = search in
-    (at-loop .loop .inv .0 .ready, zip-s-below (at-loop .loop .inv .0) (at-loop-test .loop-test .taken))
+remove-vertices-by-id-requires : tie.Need-remove-vertices-by-id-requires
+remove-vertices-by-id-requires c κs = (
+  zip-compactable (start .pre .0) (at-absorb-chains .absorb-chains .ensures)
+      (at-absorb-chains .absorb-chains .kept .1 .1 .0) (at-absorb-chains .absorb-chains .kept .1 .1 .1 .0)
+      (at-absorb-chains .absorb-chains .kept .1 .1 .1 .1 .1 .1 .0) (at-move-all-edges .move-all-edges .ensures)
+      (at-move-all-edges .move-all-edges .kept .0) (at-absorb-chains .absorb-chains .kept .1 .1 .1 .1 .1 .1 .1 .0),
+  zip-below (start .pre .0) (at-absorb-chains .absorb-chains .ensures) (at-absorb-chains .absorb-chains .kept .1 .1 .0)
+      (at-absorb-chains .absorb-chains .kept .1 .1 .1 .0) (at-absorb-chains .absorb-chains .kept .1 .1 .1 .1 .1 .1 .0)
+      (at-move-all-edges .move-all-edges .ensures) (at-move-all-edges .move-all-edges .kept .0),
+)
+  where
+    at-move-all-edges : tie.After-move-all-edges
+    at-move-all-edges = search
 
-remap-numbers-requires : tie.Need-remap-numbers-requires Inv-loop μ-loop
-remap-numbers-requires c κs =
-    zip-remappable
-    (at-loop .loop .inv .0)
-    (at-loop-test .loop-test .taken)
-    (at-zip-at .zip-at .ensures)
-    (at-if1 .if1 .taken)
-    (omega (
+    at-absorb-chains : tie.After-absorb-chains
+    at-absorb-chains = let c = at-move-all-edges in let c : tie.After-p = search in search
+
+    start : tie.Start
+    start = let c = at-absorb-chains in let c : tie.After-own-froms = search in search
+
+mul-base : tie.Need-mul-base
+mul-base c = omega (arith, start .pre .0 .room .small, start .pre .0 .room .vertices-edges)
+  where
+    start : tie.Start
+    start =
+        let c : tie.After-es = search in
+        let c : tie.After-p = search in
+        let c : tie.After-slice-known9 = search in
+        let c : tie.After-slice-known = search in
+        search
+
+pack-requires : tie.Need-pack-requires
+pack-requires c κs =
+    zip-packable
+    (start .pre .0)
+    (at-absorb-chains .absorb-chains .ensures)
+    (at-absorb-chains .absorb-chains .kept .1 .1 .0)
+    (at-absorb-chains .absorb-chains .kept .1 .1 .1 .0)
+    (at-absorb-chains .absorb-chains .kept .1 .1 .1 .1 .1 .1 .0)
+    (at-move-all-edges .move-all-edges .ensures)
+    (at-move-all-edges .move-all-edges .kept .0)
+    (at-rvbi .remove-vertices-by-id .ensures) refl
+    (at-rvbi .remove-vertices-by-id .kept .1 .0)
+  where
+    at-rvbi : tie.After-remove-vertices-by-id
+    at-rvbi = search
+
+    at-move-all-edges : tie.After-move-all-edges
+    at-move-all-edges = let c = at-rvbi in search
+
+    at-absorb-chains : tie.After-absorb-chains
+    at-absorb-chains = let c = at-move-all-edges in let c : tie.After-p = search in search
+
+    start : tie.Start
+    start = let c = at-absorb-chains in let c : tie.After-own-froms = search in search
+
+build-index-requires : tie.Need-build-index-requires
+build-index-requires c κs =
+    zip-indexable
+    (start .pre .0)
+    (at-absorb-chains .absorb-chains .ensures)
+    (at-absorb-chains .absorb-chains .kept .1 .1 .0)
+    (at-absorb-chains .absorb-chains .kept .1 .1 .1 .0)
+    (at-absorb-chains .absorb-chains .kept .1 .1 .1 .1 .1 .1 .0)
+    (at-move-all-edges .move-all-edges .ensures)
+    (at-move-all-edges .move-all-edges .kept .0)
+    (at-rvbi .remove-vertices-by-id .ensures)
+    (at-pack .pack .ensures)
+    (at-pack .pack .kept .1 .1 .0)
+    (at-rvbi .remove-vertices-by-id .kept .0)
+  where
+    at-pack : tie.After-pack
+    at-pack = search
+
+    at-rvbi : tie.After-remove-vertices-by-id
+    at-rvbi = let c = at-pack in search
+
+    at-move-all-edges : tie.After-move-all-edges
+    at-move-all-edges = let c = at-rvbi in search
+
+    at-absorb-chains : tie.After-absorb-chains
+    at-absorb-chains = let c = at-move-all-edges in let c : tie.After-p = search in search
+
+    start : tie.Start
+    start = let c = at-absorb-chains in let c : tie.After-own-froms = search in search
+
+module _ (c : tie.After-struct-known) where
+  abbrev at-build-index : tie.After-build-index
+  at-build-index = search
+
+  abbrev at-pack : tie.After-pack
+  at-pack = let c = at-build-index in search
+
+  abbrev at-rvbi : tie.After-remove-vertices-by-id
+  at-rvbi = let c = at-pack in search
+
+  abbrev at-move-all-edges : tie.After-move-all-edges
+  at-move-all-edges = let c = at-rvbi in search
+
+  abbrev at-absorb-chains : tie.After-absorb-chains
+  at-absorb-chains = let c = at-move-all-edges in let c : tie.After-p = search in search
+
+  abbrev start : tie.Start
+  start = let c = at-absorb-chains in let c : tie.After-own-froms = search in search
+
+  abbrev at-own-froms : tie.After-own-froms
+  at-own-froms = let c = at-absorb-chains in search
+
+add-t65 : tie.Need-add-t65
+add-t65 c =
+    omega (
       arith,
-      at-loop .loop .inv .0 .high,
-      at-loop .loop .inv .0 .len,
-      at-chain-starts .chain-starts .ensures .most,
-      held-vertices (start .pre .0 .holds),
-      start .pre .1,
-      at-chain-starts .chain-starts .kept,
-    ))
-  where
-    at-if1 : tie.Then1 Inv-loop μ-loop
-    at-if1 = search
+      zip-countable (start c .pre .0) (at-absorb-chains c .absorb-chains .ensures)
+          (at-absorb-chains c .absorb-chains .kept .1 .1 .0) (at-absorb-chains c .absorb-chains .kept .1 .1 .1 .0)
+          (at-absorb-chains c .absorb-chains .kept .1 .1 .1 .1 .1 .1 .0) (at-move-all-edges c .move-all-edges .ensures)
+          (at-move-all-edges c .move-all-edges .kept .0) (at-rvbi c .remove-vertices-by-id .ensures)
+          (at-pack c .pack .ensures) (at-pack c .pack .kept .1 .1 .0),
+    )
 
-    at-zip-at : tie.After-zip-at Inv-loop μ-loop
-    at-zip-at = let c = at-if1 in let c : tie.After-p Inv-loop μ-loop = search in search
+same-length-9 : tie.Need-same-length-9
+same-length-9 c = at-rvbi c .remove-vertices-by-id .kept .0 ∙ at-move-all-edges c .move-all-edges .kept .0
 
-    at-loop-test : tie.In-loop Inv-loop μ-loop
-    at-loop-test = let c = at-zip-at in search
+same-length-10 : tie.Need-same-length-10
+same-length-10 c =
+    at-pack c .pack .kept .0 ∙
+    (at-rvbi c .remove-vertices-by-id .kept .1 .0 ∙ at-absorb-chains c .absorb-chains .kept .1 .1 .0)
 
-    at-loop : tie.At-loop Inv-loop μ-loop
-    at-loop = let c = at-loop-test in search
+same-length-11 : tie.Need-same-length-11
+same-length-11 c = at-pack c .pack .kept .1 .1 .0 ∙ at-absorb-chains c .absorb-chains .kept .1 .1 .1 .0
 
-    at-chain-starts : tie.After-chain-starts Inv-loop μ-loop
-    at-chain-starts = let c = at-loop in search
+same-length-14 : tie.Need-same-length-14
+same-length-14 c = at-absorb-chains c .absorb-chains .kept .1 .1 .1 .1 .1 .1 .0
 
-    start : tie.Start Inv-loop μ-loop
-    start = let c = at-chain-starts in let c : tie.After-slice-known2 Inv-loop μ-loop = search in search
+same-length-15 : tie.Need-same-length-15
+same-length-15 c =
+    at-rvbi c .remove-vertices-by-id .kept .1 .1 .1 .1 .1 .1 .0
+    ∙ at-absorb-chains c .absorb-chains .kept .1 .1 .1 .1 .1 .1 .1 .0
 
-loop-less : tie.Need-loop-less Inv-loop μ-loop
-loop-less c = omega (arith, at-loop .loop .inv .0 .high)
-  where
-    at-loop : tie.At-loop Inv-loop μ-loop
-    at-loop =
-        let c : tie.After-nexts Inv-loop μ-loop = search in
-        let c : tie.After-zip-at Inv-loop μ-loop = search in
-        search
+same-length-16 : tie.Need-same-length-16
+same-length-16 c =
+    at-absorb-chains c .absorb-chains .kept .1 .1 .1 .1 .1 .1 .1 .1 .0 ∙ at-own-froms c .own-froms .kept .0
 
-loop-again : tie.Need-loop-again Inv-loop μ-loop
-loop-again c = (
-  zipping-yes (at-loop .loop .inv .0) (at-loop-test .loop-test .taken) (at-zip-at .zip-at .ensures) (at-if1 .if1 .taken)
-      (at-remap-numbers .remap-numbers .ensures) (at-remap-numbers .remap-numbers .kept .0),
-  (
-    (at-zip-at .zip-at .kept .1 .0 ∙ at-loop .loop .inv .1 .0),
-    (
-      (at-zip-at .zip-at .kept .1 .1 .0 ∙ at-loop .loop .inv .1 .1 .0),
-      (
-        (at-zip-at .zip-at .kept .1 .1 .1 .0 ∙ at-loop .loop .inv .1 .1 .1 .0),
-        (
-          (at-zip-at .zip-at .kept .1 .1 .1 .1 .0 ∙ at-loop .loop .inv .1 .1 .1 .1 .0),
-          (
-            (at-zip-at .zip-at .kept .1 .1 .1 .1 .1 .0 ∙ at-loop .loop .inv .1 .1 .1 .1 .1 .0),
-            (
-              (at-zip-at .zip-at .kept .1 .1 .1 .1 .1 .1 .0 ∙ at-loop .loop .inv .1 .1 .1 .1 .1 .1 .0),
-              (at-zip-at .zip-at .kept .1 .1 .1 .1 .1 .1 .1 .0 ∙ at-loop .loop .inv .1 .1 .1 .1 .1 .1 .1),
-            ),
-          ),
-        ),
-      ),
-    ),
-  ),
-)
-  where
-    at-remap-numbers : tie.After-remap-numbers Inv-loop μ-loop
-    at-remap-numbers = search
-
-    at-if1 : tie.Then1 Inv-loop μ-loop
-    at-if1 = let c = at-remap-numbers in search
-
-    at-zip-at : tie.After-zip-at Inv-loop μ-loop
-    at-zip-at = let c = at-if1 in let c : tie.After-p Inv-loop μ-loop = search in search
-
-    at-loop-test : tie.In-loop Inv-loop μ-loop
-    at-loop-test = let c = at-zip-at in search
-
-    at-loop : tie.At-loop Inv-loop μ-loop
-    at-loop = let c = at-loop-test in search
-
-loop-less-2 : tie.Need-loop-less-2 Inv-loop μ-loop
-loop-less-2 c = omega (arith, at-loop .loop .inv .0 .high)
-  where
-    at-loop : tie.At-loop Inv-loop μ-loop
-    at-loop =
-        let c : tie.After-p Inv-loop μ-loop = search in
-        let c : tie.After-zip-at-arg Inv-loop μ-loop = search in
-        search
-
-loop-again-2 : tie.Need-loop-again-2 Inv-loop μ-loop
-loop-again-2 c = (
-  zipping-no (at-loop .loop .inv .0) (at-loop-test .loop-test .taken) (at-zip-at .zip-at .ensures) (c .if1 .left),
-  (
-    (at-zip-at .zip-at .kept .1 .0 ∙ at-loop .loop .inv .1 .0),
-    (
-      (at-zip-at .zip-at .kept .1 .1 .0 ∙ at-loop .loop .inv .1 .1 .0),
-      (
-        (at-zip-at .zip-at .kept .1 .1 .1 .0 ∙ at-loop .loop .inv .1 .1 .1 .0),
-        (
-          (at-zip-at .zip-at .kept .1 .1 .1 .1 .0 ∙ at-loop .loop .inv .1 .1 .1 .1 .0),
-          (
-            (at-zip-at .zip-at .kept .1 .1 .1 .1 .1 .0 ∙ at-loop .loop .inv .1 .1 .1 .1 .1 .0),
-            (
-              (at-zip-at .zip-at .kept .1 .1 .1 .1 .1 .1 .0 ∙ at-loop .loop .inv .1 .1 .1 .1 .1 .1 .0),
-              (at-zip-at .zip-at .kept .1 .1 .1 .1 .1 .1 .1 .0 ∙ at-loop .loop .inv .1 .1 .1 .1 .1 .1 .1),
-            ),
-          ),
-        ),
-      ),
-    ),
-  ),
-)
-  where
-    at-zip-at : tie.After-zip-at Inv-loop μ-loop
-    at-zip-at = let c : tie.After-p Inv-loop μ-loop = search in search
-
-    at-loop-test : tie.In-loop Inv-loop μ-loop
-    at-loop-test = let c = at-zip-at in search
-
-    at-loop : tie.At-loop Inv-loop μ-loop
-    at-loop = let c = at-loop-test in search
-
-same-length-8 : tie.Need-same-length-8 Inv-loop μ-loop
-same-length-8 c =
-    let at-loop : tie.At-loop Inv-loop μ-loop = search in
-    let at-chain-starts : tie.After-chain-starts Inv-loop μ-loop = search in
-    at-loop .loop .inv .0 .len ∙ at-chain-starts .chain-starts .kept .1 .1 .1 .1 .1 .0
-
-returns : tie.Need-returns Inv-loop μ-loop
-returns c =
-    let at-loop : tie.At-loop Inv-loop μ-loop = search in
-    let at-chain-starts : tie.After-chain-starts Inv-loop μ-loop = search in
-    zipping-end (at-loop .loop .inv .0) (c .loop-test .left) (at-chain-starts .chain-starts .ensures)
+returns-2 : tie.Need-returns-2
+returns-2 c =
+    zip-zipped
+    (start c .pre .0)
+    (at-absorb-chains c .absorb-chains .ensures)
+    (at-absorb-chains c .absorb-chains .kept .1 .1 .0)
+    (at-absorb-chains c .absorb-chains .kept .1 .1 .1 .0)
+    (at-absorb-chains c .absorb-chains .kept .1 .1 .1 .1 .1 .1 .0)
+    (at-move-all-edges c .move-all-edges .ensures)
+    (at-move-all-edges c .move-all-edges .kept .0)
+    (at-rvbi c .remove-vertices-by-id .ensures)
+    (at-pack c .pack .ensures)
+    (at-pack c .pack .kept .1 .1 .0)
+    (at-build-index c .build-index .ensures)
+    (at-build-index c .build-index .kept .1 .1 .1 .0)
+    (at-build-index c .build-index .kept .1 .1 .1 .1 .0)
+    (at-rvbi c .remove-vertices-by-id .kept .0)
+    (at-pack c .pack .kept .0)
+    (at-rvbi c .remove-vertices-by-id .kept .1 .0)
+    (at-rvbi c .remove-vertices-by-id .kept .1 .1 .1 .1 .1 .1 .0
+    ∙ at-absorb-chains c .absorb-chains .kept .1 .1 .1 .1 .1 .1 .1 .0)
 
 pub zip-linear-chains-spec : {M : Type 1} → statement M
 zip-linear-chains-spec =
     tie.close
     (tie.spec
-    Inv-loop
-    μ-loop
-    chain-starts-requires
-    loop-holds
-    (λ c. omega arith)
-    slice-read-s
-    (λ c. omega arith)
-    zip-at-requires
-    remap-numbers-requires
-    loop-less
-    loop-again
-    loop-less-2
-    loop-again-2
-    (λ c. let at-loop : tie.At-loop Inv-loop μ-loop = search in at-loop .loop .inv .1 .0)
-    (λ c. let at-loop : tie.At-loop Inv-loop μ-loop = search in at-loop .loop .inv .1 .1 .0)
-    (λ c. let at-loop : tie.At-loop Inv-loop μ-loop = search in at-loop .loop .inv .1 .1 .1 .0)
-    (λ c. let at-loop : tie.At-loop Inv-loop μ-loop = search in at-loop .loop .inv .1 .1 .1 .1 .0)
-    (λ c. let at-loop : tie.At-loop Inv-loop μ-loop = search in at-loop .loop .inv .1 .1 .1 .1 .1 .0)
-    (λ c. let at-loop : tie.At-loop Inv-loop μ-loop = search in at-loop .loop .inv .1 .1 .1 .1 .1 .1 .0)
-    (λ c. let at-loop : tie.At-loop Inv-loop μ-loop = search in at-loop .loop .inv .1 .1 .1 .1 .1 .1 .1)
-    same-length-8
-    returns)
+    own-froms-requires
+    absorb-chains-requires
+    (λ c. refl)
+    (λ c. search needs)
+    (λ c. search needs)
+    (λ c. search needs)
+    (λ c. search needs)
+    (λ c. search needs)
+    (λ c. search needs)
+    (λ c. search needs)
+    returns
+    move-all-edges-requires
+    remove-vertices-by-id-requires
+    mul-base
+    pack-requires
+    build-index-requires
+    add-t65
+    same-length-9
+    same-length-10
+    same-length-11
+    (λ c. let at-build-index : tie.After-build-index = search in at-build-index .build-index .kept .1 .1 .1 .0)
+    (λ c. let at-build-index : tie.After-build-index = search in at-build-index .build-index .kept .1 .1 .1 .1 .0)
+    same-length-14
+    same-length-15
+    same-length-16
+    returns-2)
