@@ -1,13 +1,13 @@
 -- The tests over the index are the definitions'. Assumes nothing.
-use mathlib.Core.Path.{_≡_, refl, sym, _∙_, subst}
+use mathlib.Core.Path.{_≡_, refl, sym, ap, _∙_, subst}
 use mathlib.Core.Bool.{Bool, true, false, _&&_}
 use mathlib.Core.List.{List, [], _∷_, map}
 use Prim.Native.Nat.{ℕ, zero, suc, _+_, _*_, _-_, _≤_, _<_}
 use native.Mathlib.Nat.{add-zero, zero-add, suc-add, add-suc, not-suc-le-zero}
 use native.Mathlib.Omega.{arith}
-use lib.ListN.{getD}
+use lib.ListN.{length, getD}
 use lib.Dec.{eqb, ltb}
-use borrow.Author.Tests.{eq-eqb, lt-ltb, le-ltb}
+use borrow.Author.Tests.{eq-eqb, ne-eqb, eqb-true, eqb-false, lt-ltb, le-ltb}
 use Rattle.defs.specs.Lists.{tab, tabFrom, allOf}
 use Rattle.defs.specs.SeqGraph.{outgoingNodes, outDegree, inDegree}
 use Rattle.defs.specs.Rewrites.{isDiamond, isTails}
@@ -15,10 +15,10 @@ use Rattle.laws.proofs.Walks.{byTest}
 use Rattle.laws.proofs.ListLaws.{allOf-same, all-yes, all-no}
 use Rattle.tabs.proofs.Tabs.{length-tab, and-then, and-else}
 use Rattle.store.specs.Store.{numsIn, graphIn}
-use Rattle.index.specs.Index.{edgeEnd, incidentEdges, Indexed}
-use Rattle.index.proofs.AdjLaws.{Testing, testing-start, testing-more}
+use Rattle.index.specs.Index.{edgeEnd, incidentEdges, Index, Indexed}
+use Rattle.index.proofs.AdjLaws.{ListWalked, walked-more, walked-end, Testing, testing-start, testing-more}
 use Rattle.index.proofs.IndexLaws.{out-degree-is, in-degree-is, outgoing-is, pair-first}
-use Rattle.diamond.specs.Diamond.{inCount, isMiddle, isTail, Diamond, Tails}
+use Rattle.diamond.specs.Diamond.{allEnter, inCount, outCount, isMiddle, isTail, Diamond, Tails}
 
 allOf-map : {A B : Type 0} (p : B → Bool) (f : A → B) (l : List A) → allOf p (map f l) ≡ allOf (λ (x : A). p (f x)) l
 unfolding allOf
@@ -89,13 +89,25 @@ module _ {m n : ℕ} {es nodes : List ℕ} {c : ℕ} where
   pub tails-is : {r : Bool} → 2 ≤ c → r ≡ allOf (isTail m es) (numsIn c nodes) → Tails m n es nodes c r
   tails-is h q = record { is = λ k vs p. q ∙ sym (tails-at k n m es vs p nodes c ∙ rw (lt-ltb 1 c (omega arith))) }
 
--- ---- two ends of is_middle: d edges in, o edges out, x that all enter
+-- ---- counting edges at v, up to c: d are passed, and e is the next
 
-pub mid-out : (d o r s : ℕ) (x : Bool) → r ≡ d → r ≡ 1 → s ≡ o → s < 1 → false ≡ (eqb d 1 && (ltb 0 o && x))
-mid-out d o r s x e h f l = and-else _ (le-ltb 0 o (omega arith)) ∙ and-then _ (eq-eqb d 1 (sym e ∙ h))
+-- one more than c
+pub count-past : {f : ℕ → ℕ} {m n : ℕ} {head next : ℕ → ℕ} {v c d e : ℕ} → Index f m n head next → ListWalked f m v d e → e < m → d ≡ c
+    → false ≡ eqb (length (incidentEdges f m v)) c
+count-past {f} {m} {v = v} {c = c} I W h q = sym (ne-eqb _ c (λ (z : length (incidentEdges f m v) ≡ c). omega (arith, z, q, walked-more I W h .left)))
 
-pub mid-all : (d o r s : ℕ) (x y : Bool) → r ≡ d → r ≡ 1 → s ≡ o → 1 ≤ s → y ≡ x → y ≡ (eqb d 1 && (ltb 0 o && x))
-mid-all d o r s x y e h f l q = q ∙ and-then _ (lt-ltb 0 o (omega arith)) ∙ and-then _ (eq-eqb d 1 (sym e ∙ h))
+pub count-end : {f : ℕ → ℕ} {m n : ℕ} {head next : ℕ → ℕ} {v d e : ℕ} (c : ℕ) → Index f m n head next → ListWalked f m v d e → m ≤ e
+    → eqb d c ≡ eqb (length (incidentEdges f m v)) c
+count-end c I W h = ap (λ (x : ℕ). eqb x c) (walked-end I W h)
+
+-- ---- two ends of is_middle: one edge in and none out, or one in and some out
+
+pub mid-out : (m : ℕ) (es : List ℕ) (v b : ℕ) → eqb (inCount m es v) 1 ≡ true → eqb (outCount m es v) 0 ≡ true → false ≡ isMiddle m es b v
+mid-out m es v b s t = and-else _ (le-ltb 0 (outCount m es v) (omega (arith, eqb-true (outCount m es v) 0 t))) ∙ and-then _ s
+
+pub mid-all : (m : ℕ) (es : List ℕ) (v b : ℕ) {y : Bool} → eqb (inCount m es v) 1 ≡ true → eqb (outCount m es v) 0 ≡ false
+    → y ≡ allEnter m es v b → y ≡ isMiddle m es b v
+mid-all m es v b s t q = q ∙ and-then _ (lt-ltb 0 (outCount m es v) (omega (arith, eqb-false (outCount m es v) 0 t))) ∙ and-then _ s
 
 -- ---- following v's edges out: all before e enter b
 

@@ -1,11 +1,41 @@
 // When the followers of a vertex are the middles of a diamond, or tails. Each test follows the lists of the index.
+// `off` 0 is the end that an edge leaves, 1 the end that it enters.
 ghost use mathlib.Core.Path.{_≡_};
-ghost use Prim.Native.Nat.{_+_, _*_, _<_};
+ghost use Prim.Native.Nat.{_+_, _*_, _<_, _≤_};
+ghost use lib.ListN.{length};
+ghost use lib.Dec.{eqb};
 ghost use Rattle.defs.specs.Lists.{allOf};
 ghost use Rattle.store.specs.Store.{numsIn};
 ghost use Rattle.compact.specs.Compact.{Below};
-ghost use Rattle.index.specs.Index.{Indexed};
+ghost use Rattle.index.specs.Index.{Indexed, edgeEnd, incidentEdges};
 ghost use Rattle.diamond.specs.Diamond.{allEnter, isMiddle, isTail, Diamond, Tails};
+
+// Whether c edges are at v, no more and no fewer. However many there are, it follows c + 1 of them at most: a vertex with many edges can
+// be asked for once for each of them.
+pub fn degree_is(
+    es: &[u32],
+    m: usize,
+    n: usize,
+    heads: &[u32],
+    nexts: &[u32],
+    off: usize,
+    v: usize,
+    c: usize,
+) -> bool
+    requires { ⌜ (v < n) × ((off ≤ 1) × Indexed m n (now es) (now heads) (now nexts)) ⌝ }
+    ensures { λ r. ⌜ r ≡ eqb (length (incidentEdges (edgeEnd off (now (es .entry))) m v)) c ⌝ }
+{
+    let mut d = 0;
+    let mut e = heads[2 * v + off] as usize;
+    while e < m {
+        if d == c {
+            return false;
+        }
+        d += 1;
+        e = nexts[2 * e + off] as usize;
+    }
+    d == c
+}
 
 // Whether every edge from v enters b.
 pub fn all_enter(
@@ -43,10 +73,10 @@ pub fn is_middle(
     requires { ⌜ (v < n) × Indexed m n (now es) (now heads) (now nexts) ⌝ }
     ensures { λ r. ⌜ r ≡ isMiddle m (now (es .entry)) b v ⌝ }
 {
-    if index::degree(es, m, n, heads, nexts, 1, v) != 1 {
+    if !degree_is(es, m, n, heads, nexts, 1, v, 1) {
         return false;
     }
-    if index::degree(es, m, n, heads, nexts, 0, v) < 1 {
+    if degree_is(es, m, n, heads, nexts, 0, v, 0) {
         return false;
     }
     all_enter(es, m, n, heads, nexts, v, b)
@@ -96,7 +126,7 @@ pub fn is_diamond(
     if !all_middles(es, m, n, heads, nexts, nodes, c, b) {
         return false;
     }
-    index::degree(es, m, n, heads, nexts, 1, b as usize) == c
+    degree_is(es, m, n, heads, nexts, 1, b as usize, c)
 }
 
 // Whether v has no edge out and one edge in.
@@ -104,10 +134,10 @@ pub fn is_tail(es: &[u32], m: usize, n: usize, heads: &[u32], nexts: &[u32], v: 
     requires { ⌜ (v < n) × Indexed m n (now es) (now heads) (now nexts) ⌝ }
     ensures { λ r. ⌜ r ≡ isTail m (now (es .entry)) v ⌝ }
 {
-    if index::degree(es, m, n, heads, nexts, 0, v) != 0 {
+    if !degree_is(es, m, n, heads, nexts, 0, v, 0) {
         return false;
     }
-    index::degree(es, m, n, heads, nexts, 1, v) == 1
+    degree_is(es, m, n, heads, nexts, 1, v, 1)
 }
 
 // Whether all of the first c of `nodes` are tails.

@@ -1,7 +1,5 @@
 -- `diamond::is_diamond` meets its contract. Assumes nothing.
-use mathlib.Core.Path.{sym, ap, _∙_}
-use Prim.Native.Nat.{ℕ}
-use lib.Dec.{eqb}
+use mathlib.Core.Path.{sym, _∙_}
 use borrow.Author.Tests.{not-true, not-false}
 use Rattle.diamond.proofs.TestLaws.{diamond-few, diamond-not, diamond-is}
 use borrow.Author.Needs.{needs}
@@ -13,11 +11,10 @@ returns-3 c =
     let at-if2 : tie.Else2 = search in
     let at-all-middles : tie.After-all-middles = search in
     let at-if1 : tie.Else1 = search in
-    let start : tie.Start = search in
     diamond-is
     (at-if1 .if1 .left)
     (sym (at-all-middles .all-middles .ensures) ∙ not-false _ (at-if2 .if2 .left))
-    (ap (λ (x : ℕ). eqb x (start .args .c)) (c .degree .ensures))
+    (c .degree-is .ensures)
 
 returns-2 : tie.Need-returns-2
 returns-2 c =
