@@ -2,18 +2,16 @@
 use mathlib.Core.Path.{_≡_, refl, sym, ap, _∙_, subst}
 use mathlib.Core.Bool.{Bool, true, false, _&&_, _||_}
 use mathlib.Core.List.{List}
-use Prim.Native.Nat.{ℕ, _+_, _/_, _≤_, _<_}
+use Prim.Native.Nat.{ℕ, _≤_}
 use native.Mathlib.Omega.{arith}
 use lib.ListN.{length}
 use lib.Dec.{eqb}
 use borrow.Author.Tests.{ne-eqb}
-use Rattle.defs.specs.Record.{kindOf, kOf, edgesOf, bytesOf, decode}
+use Rattle.defs.specs.Record.{kindOf, kOf, decode}
 use Rattle.defs.specs.Refusals.{sequenceOnly, refusalOf, layoutCauses, recordRefusal, doubledEdge, equalKmers, doubled, hasCycle}
 use Rattle.laws.proofs.ListLaws.{byOrder}
-use Rattle.laws.proofs.Measures.{load}
 use Rattle.store.specs.Store.{edgesIn}
 use Rattle.index.specs.Index.{Indexable}
-use Rattle.memory.specs.Memory.{graphOf, vertexRoom, edgeRoom, Room, Fit, Holds}
 use Rattle.memory.specs.declared.Held.{Held}
 use Rattle.record.specs.Kinds.{takesOf}
 use Rattle.record.specs.declared.Takes.the-variants.{SequenceOnly}
@@ -24,10 +22,10 @@ use Rattle.record.specs.declared.Layout.the-variants.{Formed}
 use Rattle.record.specs.declared.Layout.the-variants as checked
 use Rattle.record.proofs.Accepted.{well-formed, sequence-kind, formed-none, formed-size, refused-number, refused-some}
 use Rattle.load.specs.Loaded.{Loadable, Loaded}
+use Rattle.load.proofs.LoadLaws.{formed-laid}
 use Rattle.doubled.specs.Doubled.{Markable}
 use Rattle.cycle.specs.Peel.{Peelable, HasCycle}
-use Rattle.sound.proofs.Accepted.{refused-early, refused-6, refused-7, accepted, edges-read, read-bytes, read-good}
-use Rattle.sound.proofs.Measured.{read-light}
+use Rattle.sound.proofs.Accepted.{refused-early, refused-6, refused-7, accepted}
 use Rattle.accept.specs.Accept.{RoomFor, RoomToRead, readNumber, ReadAs}
 use Rattle.accept.specs.declared.Read.{Read}
 use Rattle.accept.specs.declared.Read.the-variants.{Graph, Refused}
@@ -57,75 +55,64 @@ unfolding held-in
 same-held {g} e = ap (held-in g) e
 
 -- what a caller learns: no cause is there, or the first one's number, which is not 0
-module _ {bs heads nexts : List ℕ} {r : Read} {es vs p : List ℕ} (A : ReadAs bs heads nexts r es vs p) where
+module _ {bs : List ℕ} {r : Read} {es vs : List ℕ} (A : ReadAs bs r es vs) where
   pub read-none : {h : Held} → r ≡ Graph h → recordRefusal sequenceOnly bs ≡ 0
   read-none e = sym (A .number) ∙ number-graph e
 
   pub read-number : {n : ℕ} → r ≡ Refused n → recordRefusal sequenceOnly bs ≡ n
   read-number e = sym (A .number) ∙ number-refused e
 
-module _ (bs : List ℕ) {heads nexts : List ℕ} where
-  refused-as : (n : ℕ) → n ≡ recordRefusal sequenceOnly bs → (n ≡ 0 → ⊥) → {es vs p : List ℕ} → ReadAs bs heads nexts (Refused n) es vs p
+module _ (bs : List ℕ) where
+  refused-as : (n : ℕ) → n ≡ recordRefusal sequenceOnly bs → (n ≡ 0 → ⊥) → {es vs : List ℕ} → ReadAs bs (Refused n) es vs
   refused-as n q o = record {
     number = number-refused refl ∙ q;
-    is = λ h e. not-both e refl;
-    holds = λ h e. not-both e refl;
+    loaded = λ h e. not-both e refl;
     refused = λ m e z. o (sym (number-refused refl) ∙ number-refused e ∙ z);
   }
 
-  pub read-refused : {r : Layout} {n : ℕ} {es vs p : List ℕ} → r ≡ layoutOf (refusalOf (layoutCauses (takesOf SequenceOnly) bs)) (kOf bs)
-      → r ≡ checked.Refused n → ReadAs bs heads nexts (Refused n) es vs p
+  pub read-refused : {r : Layout} {n : ℕ} {es vs : List ℕ} → r ≡ layoutOf (refusalOf (layoutCauses (takesOf SequenceOnly) bs)) (kOf bs)
+      → r ≡ checked.Refused n → ReadAs bs (Refused n) es vs
   unfolding takesOf
   read-refused {n = n} e f =
       let some = refused-some sequenceOnly bs e f in
       refused-as n
       (sym (refused-early sequenceOnly bs (sym (refused-number sequenceOnly bs e f)) (byOrder 1 n (λ b. b) (λ b. absurd (some (omega arith)))))) some
 
-  module _ (layout : refusalOf (layoutCauses sequenceOnly bs) ≡ 0) {es vs p nodes mp : List ℕ} (R :
-      Room es vs p heads nexts nodes mp) (Y : RoomToRead bs heads nexts) where
+  module _ (layout : refusalOf (layoutCauses sequenceOnly bs) ≡ 0) {es vs heads nexts nodes mp : List ℕ}
+      (Y : RoomToRead bs es vs heads nexts nodes mp) where
     formed : WellFormed bs
     formed = well-formed sequenceOnly bs layout
 
-    enough : RoomFor bs heads nexts
-    enough = Y .room formed (sequence-kind bs layout)
+    R : RoomFor bs es vs heads nexts nodes mp
+    R = Y .room formed
 
-    load-is : load (decode bs) ≡ edgesOf bs + bytesOf bs / 4
-    unfolding load
-    load-is = rw (edges-read bs, read-bytes bs formed) refl
+    pub read-loadable : Loadable bs es vs
+    read-loadable = record { laid = formed-laid formed; es-room = R .es-room; vs-room = R .vs-room }
 
-    pub read-loadable : Loadable bs es vs p
-    read-loadable = record {
-      good = formed;
-      es-room = omega (arith, R .es-room, enough .edges);
-      vs-room = omega (arith, R .vs-room, enough .vertices);
-      p-room = omega (arith, R .p-room, enough .weight);
-    }
+    module _ {h : Held} {es′ vs′ : List ℕ} (L : Loaded bs h es′ vs′) where
+      n-small : h .n ≤ 2048
+      n-small = omega (arith, L .n, formed .vertices)
 
-    module _ {h : Held} {es′ vs′ p′ : List ℕ} (L : Loaded bs h es′ vs′ p′) where
-      n-room : h .n < vertexRoom heads
-      n-room = omega (arith, L .n, enough .vertices)
-
-      m-room : h .m + vertexRoom heads ≤ edgeRoom nexts
-      m-room = omega (arith, L .m, enough .edges)
+      m-small : h .m ≤ 4096
+      m-small = omega (arith, L .m, formed .edges)
 
       pub read-indexable : length es′ ≡ length es → Indexable (h .m) (h .n) es′ heads nexts
       read-indexable l = record {
-        room = omega (arith, l, m-room, R .es-room);
-        heads-room = omega (arith, n-room);
-        nexts-room = omega (arith, m-room);
-        small = omega (arith, m-room, R .small);
+        room = omega (arith, l, L .m, R .es-room);
+        heads-room = omega (arith, L .n, R .heads-room);
+        nexts-room = omega (arith, L .m, R .nexts-room);
+        small = omega (arith, m-small);
         ends = L .ends;
       }
 
       pub read-markable : Markable (h .n) mp
-      read-markable = record { room = omega (arith, n-room, R .map-room); small = omega (arith, n-room, m-room, R .small) }
+      read-markable = record { room = omega (arith, L .n, R .mp-room); small = omega (arith, n-small) }
 
       pub read-peelable : {mp′ : List ℕ} → length mp′ ≡ length mp → Peelable (h .n) mp′ nodes
       read-peelable l = record {
-        degrees-room = omega (arith, l, n-room, R .map-room);
-        queue-room =
-            omega (arith, n-room, m-room, R .nodes-room);
-        small = omega (arith, n-room, m-room, R .small);
+        degrees-room = omega (arith, l, L .n, R .mp-room);
+        queue-room = omega (arith, L .n, R .nodes-room);
+        small = omega (arith, n-small);
       }
 
       doubled-is : doubled bs ≡ doubledEdge (edgesIn (h .m) es′)
@@ -137,34 +124,22 @@ module _ (bs : List ℕ) {heads nexts : List ℕ} where
           or-false true = refl
           or-false false = refl
 
-      pub read-6 : {d : Bool} → d ≡ doubledEdge (edgesIn (h .m) es′) → d ≡ true → {es₂ vs₂ p₂ : List ℕ} → ReadAs bs heads nexts (Refused 6) es₂ vs₂ p₂
+      pub read-6 : {d : Bool} → d ≡ doubledEdge (edgesIn (h .m) es′) → d ≡ true → {es₂ vs₂ : List ℕ} → ReadAs bs (Refused 6) es₂ vs₂
       read-6 a t = refused-as 6 (sym (refused-6 sequenceOnly bs layout (doubled-is ∙ sym a ∙ t))) (λ z. omega arith)
 
       module _ {d : Bool} (a : d ≡ doubledEdge (edgesIn (h .m) es′)) (t : d ≡ false) {c : Bool} (C : HasCycle (h .m) (h .n) es′ c) where
         cycle-is : hasCycle (decode bs) ≡ c
-        cycle-is = ap hasCycle (sym (L .is)) ∙ sym (C .is (h .k .0) vs′ p′)
+        cycle-is = ap hasCycle (sym (L .is)) ∙ sym (C .is (h .k .0) vs′ bs)
 
-        pub read-7 : c ≡ true → {es₂ vs₂ p₂ : List ℕ} → ReadAs bs heads nexts (Refused 7) es₂ vs₂ p₂
+        pub read-7 : c ≡ true → {es₂ vs₂ : List ℕ} → ReadAs bs (Refused 7) es₂ vs₂
         read-7 s = refused-as 7 (sym (refused-7 sequenceOnly bs layout (doubled-is ∙ sym a ∙ t) (cycle-is ∙ s))) (λ z. omega arith)
 
-        pub read-0 : c ≡ false → ReadAs bs heads nexts (Graph h) es′ vs′ p′
-        read-0 s =
-            let g = read-good bs formed (doubled-is ∙ sym a ∙ t) (cycle-is ∙ s) in
-            let fit : Fit (decode bs) heads nexts = record {
-              good = g;
-              light =
-                  omega (arith, read-light bs formed (enough .vertices) (enough .weight));
-              surplus = omega (arith, load-is, enough .edges);
-            }
-            in
-            let held : Holds h es′ vs′ p′ heads nexts =
-            record { fit = rw (L .is) fit; within = L .within; used-room = omega (arith, L .used, enough .weight) } in
-            record {
-              number = number-graph refl ∙ sym (accepted sequenceOnly bs layout (doubled-is ∙ sym a ∙ t) (cycle-is ∙ s));
-              is = λ g e. subst (λ (x : Held). graphOf x es′ vs′ p′ ≡ decode bs) (same-held e) (L .is);
-              holds = λ g e. subst (λ (x : Held). Holds x es′ vs′ p′ heads nexts) (same-held e) held;
-              refused = λ n e. not-both refl e;
-            }
+        pub read-0 : c ≡ false → ReadAs bs (Graph h) es′ vs′
+        read-0 s = record {
+          number = number-graph refl ∙ sym (accepted sequenceOnly bs layout (doubled-is ∙ sym a ∙ t) (cycle-is ∙ s));
+          loaded = λ g e. subst (λ (x : Held). Loaded bs x es′ vs′) (same-held e) L;
+          refused = λ n e. not-both refl e;
+        }
 
 -- the layout that was checked
 module _ (bs : List ℕ) {r : Layout} (e : r ≡ layoutOf (refusalOf (layoutCauses (takesOf SequenceOnly) bs)) (kOf bs)) where

@@ -1,5 +1,4 @@
-// Reading a record of kind 1: the number of its refusal, 1 to 7, or the graph in the slices.
-ghost use Rattle.memory.specs.Memory.{Room};
+// Reading a record of kind 1: the number of its refusal, 1 to 7, or the graph in the slices, its sequences in the record itself.
 ghost use Rattle.accept.specs.Accept.{RoomToRead, ReadAs};
 use memory::Held;
 use record::Layout;
@@ -15,20 +14,19 @@ pub fn read_sequence_graph(
     rec: &[u8],
     es: &mut [u32],
     vs: &mut [u32],
-    p: &mut [u8],
     heads: &mut [u32],
     nexts: &mut [u32],
     nodes: &mut [u32],
     map: &mut [u32],
 ) -> Read
-    requires { ⌜ Room (now es) (now vs) (now p) (now heads) (now nexts) (now nodes) (now map) × RoomToRead (now rec) (now heads) (now nexts) ⌝ }
-    ensures { λ r. ⌜ ReadAs (now (rec .entry)) (now (heads .entry)) (now (nexts .entry)) r (now (es .exit)) (now (vs .exit)) (now (p .exit)) ⌝ }
+    requires { ⌜ RoomToRead (now rec) (now es) (now vs) (now heads) (now nexts) (now nodes) (now map) ⌝ }
+    ensures { λ r. ⌜ ReadAs (now (rec .entry)) r (now (es .exit)) (now (vs .exit)) ⌝ }
 {
     let k = match record::check_layout(rec, Takes::SequenceOnly) {
         Layout::Formed(k) => k,
         Layout::Refused(number) => return Read::Refused(number),
     };
-    let held = load::load_graph(rec, k, es, vs, p);
+    let held = load::load_graph(rec, k, es, vs);
     let n = held.n;
     let m = held.m;
     index::build_index(es, m, n, heads, nexts);

@@ -3,22 +3,17 @@ use mathlib.Core.Bool.{Bool, not, _||_}
 use mathlib.Core.List.{List, [], _∷_}
 use Prim.Native.Nat.{ℕ, suc, _-_, _≤_}
 use native.Mathlib.Omega.{arith}
-use lib.Dec.{eqb}
 use lib.ListN.{length}
 use Rattle.defs.specs.Lists.{keepIf}
-use Rattle.defs.specs.SeqGraph.{Edge, Graph, nodeCount, edgesFrom, outDegree, compactVertices}
+use Rattle.defs.specs.SeqGraph.{Edge, Graph, nodeCount, compactVertices}
 use Rattle.defs.specs.Cleanup.{referenceSourceVertex, referenceSinkVertex, removeSingletonOrphanVertices, leadsToSource, leadsFromSink}
 use Rattle.defs.specs.Cleanup.{withoutNonRefEdges, cleanBetween, cleanNonRefPaths}
 use Rattle.laws.proofs.Walks.{byTest}
 use Rattle.laws.proofs.ListLaws.{of-keepIf, keepIf-yes, keepIf-no}
 use Rattle.laws.proofs.Counts.{Single}
 use Rattle.laws.proofs.Fuel.{Good}
-use Rattle.laws.proofs.Branching.{branching, sum-le}
-use Rattle.laws.proofs.Measures.{weight}
 use Rattle.laws.proofs.Whole.{byOption}
 use Rattle.laws.proofs.Cleaned.{orphans-keep}
-use Rattle.choice.specs.Choice.{Lean}
-use Rattle.choice.proofs.LeanLaws.{lean-restrict}
 
 -- ---- edges go
 
@@ -55,15 +50,6 @@ module _ (q : Edge → Bool) (g : Graph) where
     single-keep q (g .edges) o,
   )
 
-  thinned-branching : branching thinned ≤ branching g
-  unfolding branching outDegree edgesFrom nodeCount
-  thinned-branching = sum-le (λ v. outDegree thinned v - 1) (λ v. outDegree g v - 1) (length (g .verts)) (λ v l.
-      omega (arith, fewer (λ (e : Edge). eqb (e .from) v) q (g .edges)))
-
-  pub thinned-lean : {heads nexts : List ℕ} → Lean g heads nexts → Lean thinned heads nexts
-  unfolding weight
-  thinned-lean L = record { good = thinned-good (L .good); light = L .light; narrow = omega (arith, L .narrow, thinned-branching) }
-
 -- ---- the call
 
 -- what the removal of edges and of vertices keeps
@@ -81,6 +67,3 @@ module _ (P : Graph → Type 0) (thin : (q : Edge → Bool) (g : Graph) → P g 
       (λ s a. byOption (referenceSinkVertex g)
       (λ b. rw (a, b, cleanBetween) h)
       (λ t b. rw (a, b, cleanBetween) (between-keeps g s t h)))
-
-pub clean-lean : {heads nexts : List ℕ} (g : Graph) → Lean g heads nexts → Lean (cleanNonRefPaths g) heads nexts
-clean-lean {heads} {nexts} g L = clean-keeps (λ x. Lean x heads nexts) (λ q x. thinned-lean q x) lean-restrict g L

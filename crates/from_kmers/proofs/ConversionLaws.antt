@@ -10,7 +10,7 @@ use borrow.Author.Tests.{lt-ltb, le-ltb, ltb-false}
 use Rattle.defs.specs.Lists.{allOf}
 use Rattle.defs.specs.SeqGraph.{Edge, Graph}
 use Rattle.defs.specs.Simplify.{sequenceBytes}
-use Rattle.defs.specs.Record.{kindOf, decode}
+use Rattle.defs.specs.Record.{decode}
 use Rattle.defs.specs.Refusals.{refusalOf, NonePresent, kmerOnly, edgeWithoutOverlap, recordRefusal}
 use Rattle.defs.specs.Refusals.{layoutCauses, doubledCause, overlapCause, cycleCause, recordCauses}
 use Rattle.defs.specs.Assembly.{fromAssemblyGraph}
@@ -25,23 +25,23 @@ use Rattle.pool.specs.Pool.{bytesIn}
 use Rattle.pool.proofs.PoolLaws.{bytes-below}
 use Rattle.memory.specs.Memory.{graphOf}
 use Rattle.memory.specs.declared.Held.{Held}
-use Rattle.record.proofs.Accepted.{kmer-kind, well-formed}
+use Rattle.record.proofs.Accepted.{well-formed}
 use Rattle.record.specs.Layout.{WellFormed}
 use Rattle.sound.specs.Alike.{noEdge, SameEnds}
 use Rattle.sound.proofs.Accepted.{same-doubled, same-equal}
 use Rattle.kmer_order.proofs.EqualLaws.{same-kmers}
-use Rattle.convert.specs.Convert.{Trimmable, Trimmed, Separate, Convertible, EdgesSorted}
+use Rattle.convert.specs.Convert.{Trimmed, Separate, EdgesSorted}
 use Rattle.convert.proofs.CopyLaws.{converted}
 use Rattle.write_record.specs.Written.{Measured}
 use Rattle.write_record.proofs.WriteLaws.{bytes-are}
 use Rattle.calls.specs.Sending.{Sendable}
+use Rattle.accept.specs.Accept.{RoomFor}
 use Rattle.accept.specs.declared.Read.{Read}
 use Rattle.accept.specs.declared.Read.the-variants as read
 use Rattle.accept.specs.declared.Read.the-variants.{Refused}
 use Rattle.accept.proofs.AcceptLaws.{not-both, number-graph, number-refused, same-held}
-use Rattle.read_kmers.specs.Kmers as K
 use Rattle.read_kmers.specs.Kmers.{kmerCauses, overlappingCauses, HoldsKmers, KmersRead}
-use Rattle.from_kmers.specs.Conversion.{RoomToConvert, ConvertedAs}
+use Rattle.from_kmers.specs.Conversion.{RoomToConvert, ConvertedAs, ConvertibleKmers, KmersConverted}
 
 -- ---- the causes
 
@@ -97,9 +97,9 @@ module _ (bs : List ℕ) where
 
 -- ---- no k-mer and no edge is there twice
 
-module _ {bs : List ℕ} {h : Held} {es vs p heads nexts order : List ℕ} (H : HoldsKmers bs h es vs p heads nexts order) where
+module _ {bs : List ℕ} {h : Held} {es vs heads nexts order : List ℕ} (H : HoldsKmers bs h es vs heads nexts order) where
   same-ends : (a b : ℕ) → a < b → b < h .m → getD es (4 * a) 0 ≡ getD es (4 * b) 0 → getD es (4 * a + 1) 0 ≡ getD es (4 * b + 1) 0
-      → SameEnds (graphOf h es vs p)
+      → SameEnds (graphOf h es vs bs)
   same-ends a b o l qf qt =
       let ea = getD-tab (h .m) (edgeIn es) a noEdge (omega arith) in
       let eb = getD-tab (h .m) (edgeIn es) b noEdge l in
@@ -113,13 +113,13 @@ module _ {bs : List ℕ} {h : Held} {es vs p heads nexts order : List ℕ} (H : 
       }
 
   never-same : {X : Type 0} (a b : ℕ) → a < b → b < h .m → getD es (4 * a) 0 ≡ getD es (4 * b) 0 → getD es (4 * a + 1) 0 ≡ getD es (4 * b + 1) 0 → X
-  never-same a b o l qf qt = clash (same-doubled (graphOf h es vs p) (same-ends a b o l qf qt)) (H .single)
+  never-same a b o l qf qt = clash (same-doubled (graphOf h es vs bs) (same-ends a b o l qf qt)) (H .single)
 
-  separate : Separate (h .m) (h .n) es vs p
+  separate : Separate (h .m) (h .n) es vs bs
   separate = record {
     kmers = λ u v a b q. elim (ℕ-discrete u v) [
       | yes e ↦ e
-      | no ne ↦ clash (same-equal (graphIn 0 (h .n) 0 [] vs p) (same-kmers (H .ordered) u v a b ne q)) (H .distinct)
+      | no ne ↦ clash (same-equal (graphIn 0 (h .n) 0 [] vs bs) (same-kmers (H .ordered) u v a b ne q)) (H .distinct)
     ];
     edges = λ a b la lb qf qt. elim (ℕ-discrete a b) [
       | yes e ↦ e
@@ -127,7 +127,7 @@ module _ {bs : List ℕ} {h : Held} {es vs p heads nexts order : List ℕ} (H : 
     ];
   }
 
-refused-as : (bs : List ℕ) (n : ℕ) → n ≡ refusalOf (conversionCauses bs) → (n ≡ 0 → ⊥) → {es vs p : List ℕ} → ConvertedAs bs (Refused n) es vs p
+refused-as : (bs : List ℕ) (n : ℕ) → n ≡ refusalOf (conversionCauses bs) → (n ≡ 0 → ⊥) → {es vs : List ℕ} → ConvertedAs bs (Refused n) es vs
 refused-as bs n q o = record {
   number = number-refused refl ∙ q;
   is = λ h e. not-both e refl;
@@ -135,103 +135,103 @@ refused-as bs n q o = record {
   refused = λ m e z. o (sym (number-refused refl) ∙ number-refused e ∙ z);
 }
 
--- ---- the steps
+-- ---- a held graph is converted
 
-module _ {bs es vs p heads nexts order scratch place sorted : List ℕ} (R : RoomToConvert bs es vs p heads nexts order scratch place sorted) {r :
-    Read} {es′ vs′ p′ heads′ nexts′ order′ : List ℕ} (A : KmersRead (overlappingCauses bs) bs r es′ vs′ p′ heads′ nexts′ order′) where
-  pub refused : {n : ℕ} {es₂ vs₂ p₂ : List ℕ} → r ≡ Refused n → ConvertedAs bs (Refused n) es₂ vs₂ p₂
+module _ {h : Held} {es vs heads nexts order scratch place sorted : List ℕ} (C : ConvertibleKmers h es vs heads nexts order scratch place sorted)
+    {vs′ : List ℕ} (T : Trimmed (h .m) (h .n) es vs vs′) where
+  pub countable : length vs′ ≡ length vs → (2 * h .n ≤ length vs′) × (bytesIn (h .n) vs′ < 4294967296)
+  countable l =
+      let w = T .within 303136 (C .within) in
+      let most = sum-most 303136 (h .n) (λ (v : ℕ). getD vs′ (2 * v + 1) 0) (λ v b. omega (arith, w .at v b)) in
+      (omega (arith, C .trimmable .vs-room), omega (arith, C .vertices, most))
+
+  module _ {sorted′ : List ℕ} (S : EdgesSorted (h .m) (h .n) es order sorted′) where
+    module _ {bs : List ℕ} (H : HoldsKmers bs h es vs heads nexts order) where
+      inside : Within (length bs) (h .n) vs′
+      inside = T .within (length bs) (H .loaded .within)
+
+      graph-is : graphOf h sorted′ vs′ bs ≡ fromAssemblyGraph (decode bs)
+      graph-is = converted (h .k .0) bs (H .loaded .within) (separate H) (H .ordered) T S ∙ ap fromAssemblyGraph (H .loaded .is)
+
+      bytes-is : sequenceBytes ((fromAssemblyGraph (decode bs)) .verts) ≡ bytesIn (h .n) vs′
+      bytes-is = ap (λ (g : Graph). sequenceBytes (g .verts)) (sym graph-is) ∙ bytes-are 0 (h .k .0) (h .n) (h .m) sorted′ vs′ bs inside
+
+      sendable : bytesIn (h .n) vs′ ≤ 8192 → length vs′ ≡ length vs → length sorted′ ≡ length sorted → Sendable 0 h sorted′ vs′ bs
+      sendable l lv ls = record {
+        measured = measured;
+        within = inside;
+        writable = λ out enough. record {
+          status-fits = omega arith;
+          n-fits = omega (arith, H .vertices);
+          m-fits = omega (arith, H .edges);
+          lengths-fit = λ v c. omega (arith, bytes-below (h .n) v vs′ c);
+          ends = S .ends;
+          es-room = omega (arith, C .convertible .out-room);
+          within = inside;
+          measured = measured;
+          room = enough;
+        };
+      }
+        where
+          measured : Measured h vs′
+          measured = record { vs-room = omega (arith, C .trimmable .vs-room); small = omega (arith, H .vertices, H .edges) }
+
+    module _ {b : ℕ} (q : b ≡ bytesIn (h .n) vs′) where
+      pub over : 8192 < b → {es₂ vs₂ : List ℕ} → KmersConverted h es vs heads nexts order (Refused 8) es₂ vs₂
+      over l = record { is = λ bs none H. refused-as bs 8 (sym (too-long bs none (omega (arith, bytes-is H)))) (λ z. omega arith) }
+
+      pub done : b ≤ 8192 → length vs′ ≡ length vs → length sorted′ ≡ length sorted → KmersConverted h es vs heads nexts order (read.Graph h) sorted′ vs′
+      done l lv ls = record {
+        is = λ bs none H. record {
+          number = number-graph refl ∙ sym (no-cause bs none (omega (arith, bytes-is H)));
+          is = λ g e. subst (λ (x : Held). graphOf x sorted′ vs′ bs ≡ fromAssemblyGraph (decode bs)) (same-held e) (graph-is H);
+          sendable = λ g e. subst (λ (x : Held). Sendable 0 x sorted′ vs′ bs) (same-held e) (sendable H (omega arith) lv ls);
+          refused = λ n e. not-both refl e;
+        };
+      }
+
+-- ---- a record that was read
+
+module _ {bs : List ℕ} {r : Read} {es vs heads nexts order : List ℕ} (A : KmersRead (overlappingCauses bs) bs r es vs heads nexts order) where
+  pub refused : {n : ℕ} {es₂ vs₂ : List ℕ} → r ≡ Refused n → ConvertedAs bs (Refused n) es₂ vs₂
   refused {n} f = let o = A .refused n f in refused-as bs n (sym (early bs (sym (A .number) ∙ number-refused f) o)) o
 
   module _ {h : Held} (ok : r ≡ read.Graph h) where
-    held : HoldsKmers bs h es′ vs′ p′ heads′ nexts′ order′
-    held = A .holds h ok
-
     none : refusalOf (overlappingCauses bs) ≡ 0
     none = sym (A .number) ∙ number-graph ok
 
     formed : WellFormed bs
     formed = well-formed kmerOnly bs (layout-none bs none)
 
-    kind : kindOf bs ≡ 0
-    kind = kmer-kind bs (layout-none bs none)
+    pub converted-as : {x : Read} {sorted vs′ : List ℕ} → KmersConverted h es vs heads nexts order x sorted vs′ → ConvertedAs bs x sorted vs′
+    converted-as K = K .is bs none (A .holds h ok)
 
-    room : K.KmerRoom bs es vs p heads nexts order scratch
-    room = R .reading .reading .room formed kind
+    module _ {scratch place sorted : List ℕ} (R : RoomToConvert bs es vs heads nexts order scratch place sorted) where
+      room : RoomFor bs es vs heads nexts order scratch
+      room = R .reading .reading .room formed
 
-    pub convertible : {scratch′ place′ : List ℕ} → length es′ ≡ length es → length order′ ≡ length order → length scratch′ ≡ length scratch
-        → length place′ ≡ length place
-        → Convertible (h .m) (h .n) es′ order′ scratch′ place′ sorted
-    convertible a b c d = record {
-      numbers = held .ordered .numbers;
-      ends = held .ends;
-      es-room = omega (arith, held .m-is, room .es-room);
-      order-edges = omega (arith, held .m-is, R .order-room formed);
-      scratch-edges = omega (arith, held .m-is, R .scratch-room formed);
-      place-room = omega (arith, held .n-is, R .reading .place-room formed kind);
-      out-room = omega (arith, held .m-is, R .sorted-room formed);
-      few-vertices = omega (arith, held .vertices);
-      few-edges = omega (arith, held .edges);
-    }
+      held : HoldsKmers bs h es vs heads nexts order
+      held = A .holds h ok
 
-    pub trimmable : length vs′ ≡ length vs → Trimmable (h .n) vs′
-    trimmable l = record {
-      vs-room = omega (arith, held .n-is, room .vs-room);
-      whole = λ v b. omega (arith, held .sizes v b, held .k-least);
-      small = λ v b. omega (arith, held .within .at v b, held .used-most);
-    }
-
-    module _ {vs″ : List ℕ} (T : Trimmed (h .m) (h .n) es′ vs′ vs″) where
-      bytes-most : bytesIn (h .n) vs″ < 4294967296
-      bytes-most =
-          let w = T .within (h .used) (held .within) in
-          omega (arith, held .vertices, sum-most 262144 (h .n) (λ (v : ℕ). getD vs″ (2 * v + 1) 0) (λ v b. omega (arith, w .at v b, held .used-most)))
-
-      pub countable : length vs″ ≡ length vs′ → length vs′ ≡ length vs → (2 * h .n ≤ length vs″) × (bytesIn (h .n) vs″ < 4294967296)
-      countable a b = (omega (arith, held .n-is, room .vs-room), bytes-most)
-
-      module _ {sorted′ : List ℕ} (S : EdgesSorted (h .m) (h .n) es′ order′ sorted′) where
-        within : Within (length p′) (h .n) vs′
-        within = record { at = λ v b. omega (arith, held .within .at v b, held .used-room) }
-
-        graph-is : graphOf h sorted′ vs″ p′ ≡ fromAssemblyGraph (decode bs)
-        graph-is = converted (h .k .0) p′ within (separate held) (held .ordered) T S ∙ ap fromAssemblyGraph (held .is)
-
-        bytes-is : sequenceBytes ((fromAssemblyGraph (decode bs)) .verts) ≡ bytesIn (h .n) vs″
-        bytes-is = ap (λ (g : Graph). sequenceBytes (g .verts)) (sym graph-is)
-            ∙ bytes-are 0 (h .k .0) (h .n) (h .m) sorted′ vs″ p′ (T .within (length p′) within)
-
-        module _ {b : ℕ} (q : b ≡ bytesIn (h .n) vs″) where
-          pub over : 8192 < b → {es₂ vs₂ p₂ : List ℕ} → ConvertedAs bs (Refused 8) es₂ vs₂ p₂
-          over l = refused-as bs 8 (sym (too-long bs none (omega (arith, bytes-is)))) (λ z. omega arith)
-
-          pub done : b ≤ 8192 → length vs″ ≡ length vs′ → length vs′ ≡ length vs → length sorted′ ≡ length sorted
-              → ConvertedAs bs (read.Graph h) sorted′ vs″ p′
-          done l lv lw ls = record {
-            number = number-graph refl ∙ sym (no-cause bs none (omega (arith, bytes-is)));
-            is = λ g e. subst (λ (x : Held). graphOf x sorted′ vs″ p′ ≡ fromAssemblyGraph (decode bs)) (same-held e) graph-is;
-            sendable = λ g e. subst (λ (x : Held). Sendable 0 x sorted′ vs″ p′) (same-held e) sendable;
-            refused = λ n e. not-both refl e;
-          }
-            where
-              inside : Within (length p′) (h .n) vs″
-              inside = T .within (length p′) within
-
-              measured : Measured h vs″
-              measured = record { vs-room = omega (arith, held .n-is, room .vs-room); small = omega (arith, held .vertices, held .edges) }
-
-              sendable : Sendable 0 h sorted′ vs″ p′
-              sendable = record {
-                measured = measured;
-                within = inside;
-                writable = λ out enough. record {
-                  status-fits = omega arith;
-                  n-fits = omega (arith, held .vertices);
-                  m-fits = omega (arith, held .edges);
-                  lengths-fit = λ v c. omega (arith, bytes-below (h .n) v vs″ c);
-                  ends = S .ends;
-                  es-room = omega (arith, held .m-is, R .sorted-room formed);
-                  within = inside;
-                  measured = measured;
-                  room = enough;
-                };
-              }
+      pub convertible : ConvertibleKmers h es vs heads nexts order scratch place sorted
+      convertible = record {
+        convertible = record {
+          numbers = held .ordered .numbers;
+          ends = held .loaded .ends;
+          es-room = omega (arith, held .loaded .m, room .es-room);
+          order-edges = omega (arith, held .loaded .m, R .order-room formed);
+          scratch-edges = omega (arith, held .loaded .m, R .scratch-room formed);
+          place-room = omega (arith, held .loaded .n, R .reading .marks-room formed);
+          out-room = omega (arith, held .loaded .m, R .sorted-room formed);
+          few-vertices = omega (arith, held .vertices);
+          few-edges = omega (arith, held .edges);
+        };
+        trimmable = record {
+          vs-room = omega (arith, held .loaded .n, room .vs-room);
+          whole = λ v b. omega (arith, held .sizes v b, held .k-least);
+          small = λ v b. omega (arith, held .loaded .within .at v b, held .short);
+        };
+        indexed = held .indexed;
+        vertices = held .vertices;
+        within = record { at = λ v b. omega (arith, held .loaded .within .at v b, held .short) };
+      }

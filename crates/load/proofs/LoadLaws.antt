@@ -7,25 +7,44 @@ use native.Mathlib.Decide.{ℕ-discrete}
 use lib.ListN.{length, getD, set, length-set}
 use lib.Seq.{getD-set-same, getD-set-other}
 use Rattle.defs.specs.Lists.{tab, sum}
-use Rattle.defs.specs.SeqGraph.{Edge}
+use Rattle.defs.specs.SeqGraph.{Edge, Graph}
 use Rattle.defs.specs.Record.{flagIsRef, flagIsCapped, kOf, verticesOf, edgesOf, bytesOf, bytesAt, lengthAt, edgeStart, edgeAt, flagAt, sequenceStart, sequenceAt, decode}
 use Rattle.tabs.proofs.Tabs.{tab-ext, set-more}
 use Rattle.tabs.proofs.SumTabs.{sum-none, sum-more, sum-below}
 use Rattle.record.specs.Layout.{WellFormed}
 use Rattle.record.proofs.Fields.{edgeStart-is, isRef-is, capped-is, sequenceStart-is, sequenceAt-is, bytesAt-is, wholeLength-is}
-use Rattle.record.proofs.Sequences.{length-is}
-use Rattle.store.specs.Store.{edgeIn, edgesIn, putEdge, putVertex, seqIn, EndsBelow, Within}
+use Rattle.record.proofs.Sequences.{length-is, bytes-most}
+use Rattle.store.specs.Store.{edgeIn, edgesIn, putEdge, putVertex, seqIn, seqsIn, EndsBelow, Within}
 use Rattle.store.proofs.EdgeLaws.{length-put, put-same, put-other}
 use Rattle.pool.proofs.PoolLaws.{part-same}
+use Rattle.kmer.specs.declared.KmerSize.{KmerSize}
+use Rattle.memory.specs.Memory.{graphOf}
 use Rattle.memory.specs.declared.Held.{Held}
-use Rattle.load.specs.Loaded.{EdgesRead, VerticesRead, BytesRead, Loaded}
+use Rattle.load.specs.Loaded.{Laid, EdgesRead, VerticesRead, BytesRead, Loaded, Poolable, SequencesPooled}
 
--- a record's edges can be read
-pub record-edge-inside : {bs : List ℕ} → WellFormed bs → (i : ℕ) → i < edgesOf bs → edgeStart bs i + 9 ≤ length bs
-record-edge-inside {bs} W i h = omega (arith, length-is bs W, edgeStart-is bs i)
+-- a well formed record is laid out
+pub formed-laid : {bs : List ℕ} → WellFormed bs → Laid bs
+formed-laid {bs} W = record {
+  whole = W .whole;
+  small = omega (arith, length-is bs W, W .vertices, W .edges, bytes-most bs W);
+  lengths = W .lengths;
+  ends = λ i h. (W .good i h .from, W .good i h .to);
+}
 
-pub length-inside : {bs : List ℕ} → WellFormed bs → (i : ℕ) → i < verticesOf bs → 34 + 2 * i ≤ length bs
-length-inside {bs} W i h = omega (arith, length-is bs W)
+-- how long it is; its edges and lengths can be read
+module _ {bs : List ℕ} (L : Laid bs) where
+  pub laid-length : length bs ≡ 32 + 2 * verticesOf bs + 9 * edgesOf bs + bytesOf bs
+  laid-length = omega (arith, L .whole, wholeLength-is (verticesOf bs) (edgesOf bs) (bytesOf bs), bytesAt-is (verticesOf bs) (edgesOf bs))
+
+  pub record-edge-inside : (i : ℕ) → i < edgesOf bs → edgeStart bs i + 9 ≤ length bs
+  record-edge-inside i h = omega (arith, laid-length, edgeStart-is bs i)
+
+  pub length-inside : (i : ℕ) → i < verticesOf bs → 34 + 2 * i ≤ length bs
+  length-inside i h = omega (arith, laid-length)
+
+  -- the sequences before a vertex's end
+  pub vertex-inside : (v : ℕ) → v < verticesOf bs → sum (tab v (lengthAt bs)) + lengthAt bs v ≤ bytesOf bs
+  vertex-inside v h = omega (arith, sum-below (verticesOf bs) v (lengthAt bs) h, L .lengths)
 
 -- ---- edges
 
@@ -37,7 +56,7 @@ pub record ReadingEdges (bs es₀ es : List ℕ) (i : ℕ) : Type 0 where
 pub edges-start : {bs es : List ℕ} → ReadingEdges bs es es 0
 edges-start = record { high = omega arith; len = refl; done = record { at = λ i h. absurd (omega arith) } }
 
-module _ {bs es₀ es : List ℕ} {i : ℕ} (W : WellFormed bs) (R : ReadingEdges bs es₀ es i) (h : i < edgesOf bs) (room : 4 * edgesOf bs ≤ length es₀) where
+module _ {bs es₀ es : List ℕ} {i : ℕ} (R : ReadingEdges bs es₀ es i) (h : i < edgesOf bs) (room : 4 * edgesOf bs ≤ length es₀) where
   pub edges-more : {es′ : List ℕ} {a b s f : ℕ} → a ≡ (edgeAt bs i) .from → b ≡ (edgeAt bs i) .to → s ≡ (edgeAt bs i) .support → f ≡ flagAt bs i
       → es′ ≡ putEdge es i a b s f → ReadingEdges bs es₀ es′ (i + 1)
   edges-more {es′} {a} {b} {s} {f} qa qb qs qf is = record {
@@ -67,32 +86,33 @@ edges-end R q h = record { at = λ k c. R .done .at k (omega arith) }
 
 -- ---- vertices
 
-pub record ReadingVertices (bs vs₀ vs : List ℕ) (i start : ℕ) : Type 0 where
+pub record ReadingVertices (bs : List ℕ) (at : ℕ) (vs₀ vs : List ℕ) (i start : ℕ) : Type 0 where
   pub high : i ≤ verticesOf bs
   pub len : length vs ≡ length vs₀
-  pub small : start ≤ 65535 * i
-  pub start-is : start ≡ sum (tab i (lengthAt bs))
-  pub done : VerticesRead bs i vs
+  pub start-is : start ≡ at + sum (tab i (lengthAt bs))
+  pub done : VerticesRead bs at i vs
 
-pub vertices-start : {bs vs : List ℕ} → ReadingVertices bs vs vs 0 0
+pub vertices-start : {bs : List ℕ} {at : ℕ} {vs : List ℕ} → ReadingVertices bs at vs vs 0 at
 vertices-start {bs} = record {
   high = omega arith;
   len = refl;
-  small = omega arith;
-  start-is = sym (sum-none (lengthAt bs));
+  start-is = omega (arith, sum-none (lengthAt bs));
   done = record { starts = λ i h. absurd (omega arith); sizes = λ i h. absurd (omega arith) };
 }
 
-module _ {bs vs₀ vs : List ℕ} {i start : ℕ} (R : ReadingVertices bs vs₀ vs i start) (h : i < verticesOf bs) where
+module _ {bs : List ℕ} {at : ℕ} {vs₀ vs : List ℕ} {i start : ℕ} (R : ReadingVertices bs at vs₀ vs i start) (h : i < verticesOf bs) where
+  -- a start is a place in the record, and so fits 32 bits
+  pub start-small : Laid bs → at ≤ 32 + 2 * verticesOf bs + 9 * edgesOf bs → {len : ℕ} → len ≡ lengthAt bs i → start + len < 4294967296
+  start-small L a q = omega (arith, R .start-is, q, a, vertex-inside L i h, laid-length L, L .small)
+
   module _ (room : 2 * verticesOf bs ≤ length vs₀) where
-    pub vertices-more : {vs′ : List ℕ} {len : ℕ} → len ≡ lengthAt bs i → len < 65536 → vs′ ≡ putVertex vs i start len
-        → ReadingVertices bs vs₀ vs′ (i + 1) (start + len)
+    pub vertices-more : {vs′ : List ℕ} {len : ℕ} → len ≡ lengthAt bs i → vs′ ≡ putVertex vs i start len
+        → ReadingVertices bs at vs₀ vs′ (i + 1) (start + len)
     unfolding putVertex
-    vertices-more {vs′} {len} ql l is = record {
+    vertices-more {vs′} {len} ql is = record {
       high = omega arith;
       len = ap length is ∙ length-set (set vs (2 * i) start) (2 * i + 1) len ∙ length-set vs (2 * i) start ∙ R .len;
-      small = omega (arith, R .small);
-      start-is = omega (arith, R .start-is, sum-more i (lengthAt bs));
+      start-is = omega (arith, R .start-is, ql, sum-more i (lengthAt bs));
       done = record {
         starts = λ k c. ap (λ (l : List ℕ). getD l (2 * k) 0) is ∙ getD-set-other (set vs (2 * i) start) (2 * i + 1) (2 * k) len 0 (λ z.
             omega arith) ∙ elim (ℕ-discrete k i) [
@@ -107,7 +127,8 @@ module _ {bs vs₀ vs : List ℕ} {i start : ℕ} (R : ReadingVertices bs vs₀ 
       };
     }
 
-pub vertices-end : {bs vs₀ vs : List ℕ} {i start n : ℕ} → ReadingVertices bs vs₀ vs i start → n ≡ verticesOf bs → n ≤ i → VerticesRead bs n vs
+pub vertices-end : {bs : List ℕ} {at : ℕ} {vs₀ vs : List ℕ} {i start n : ℕ} → ReadingVertices bs at vs₀ vs i start → n ≡ verticesOf bs → n ≤ i
+    → VerticesRead bs at n vs
 vertices-end R q h = record { starts = λ k c. R .done .starts k (omega arith); sizes = λ k c. R .done .sizes k (omega arith) }
 
 -- ---- bytes
@@ -133,60 +154,87 @@ bytes-end R h = record { is = λ k c. R .done .is k (omega arith) }
 
 -- ---- the graph
 
-module _ {bs : List ℕ} (W : WellFormed bs) where
+module _ {bs : List ℕ} (L : Laid bs) where
   bytes-inside : bytesAt (verticesOf bs) (edgesOf bs) + bytesOf bs ≤ length bs
-  bytes-inside = omega (arith, W .whole, wholeLength-is (verticesOf bs) (edgesOf bs) (bytesOf bs))
+  bytes-inside = omega (arith, L .whole, wholeLength-is (verticesOf bs) (edgesOf bs) (bytesOf bs))
 
-  pub read-edges : {m : ℕ} {es : List ℕ} → m ≡ edgesOf bs → EdgesRead bs m es → edgesIn m es ≡ tab (edgesOf bs) (edgeAt bs)
+  read-edges : {m : ℕ} {es : List ℕ} → m ≡ edgesOf bs → EdgesRead bs m es → edgesIn m es ≡ tab (edgesOf bs) (edgeAt bs)
   read-edges {m} {es} q R = tab-ext m (edgeIn es) (edgeAt bs) (R .at) ∙ ap (λ (x : ℕ). tab x (edgeAt bs)) q
 
-  pub read-ends : {m n : ℕ} {es : List ℕ} → m ≡ edgesOf bs → n ≡ verticesOf bs → EdgesRead bs m es → EndsBelow n m es
+  read-ends : {m n : ℕ} {es : List ℕ} → m ≡ edgesOf bs → n ≡ verticesOf bs → EdgesRead bs m es → EndsBelow n m es
   read-ends {m} {n} {es} qm qn R = record {
-    at = λ k h. let g = W .good k (omega arith) in (
-      omega (arith, g .from, ap (λ (e : Edge). e .from) (R .at k h)),
-      omega (arith, g .to, ap (λ (e : Edge). e .to) (R .at k h)),
+    at = λ k h. let g = L .ends k (omega arith) in (
+      omega (arith, g .0, ap (λ (e : Edge). e .from) (R .at k h)),
+      omega (arith, g .1, ap (λ (e : Edge). e .to) (R .at k h)),
     );
   }
 
-  module _ {n : ℕ} {vs : List ℕ} (q : n ≡ verticesOf bs) (R : VerticesRead bs n vs) where
-    vertex-inside : (v : ℕ) → v < n → sum (tab v (lengthAt bs)) + lengthAt bs v ≤ bytesOf bs
-    vertex-inside v h = omega (arith, sum-below (verticesOf bs) v (lengthAt bs) (omega arith), W .lengths)
+  module _ {at n : ℕ} {vs : List ℕ} (q : n ≡ verticesOf bs) (R : VerticesRead bs at n vs) where
+    read-within : {b : ℕ} → at + bytesOf bs ≤ b → Within b n vs
+    read-within l = record { at = λ v h. omega (arith, R .starts v h, R .sizes v h, vertex-inside L v (omega arith)) }
 
-    pub read-within : {b : ℕ} → b ≡ bytesOf bs → Within b n vs
-    read-within qb = record { at = λ v h. omega (arith, R .starts v h, R .sizes v h, vertex-inside v h) }
-
-    -- the pool's bytes are the record's from `at` on
-    module _ {p : List ℕ} {at b : ℕ} (qa : at ≡ bytesAt (verticesOf bs) (edgesOf bs)) (qb : b ≡ bytesOf bs) (room : bytesOf bs ≤ length p)
-        (B : BytesRead bs at b p) where
+    -- the pool's bytes from `at` on are the sequences
+    module _ (p : List ℕ) (room : at + bytesOf bs ≤ length p) (B : (i : ℕ) → i < bytesOf bs
+        → getD p (at + i) 0 ≡ getD bs (bytesAt (verticesOf bs) (edgesOf bs) + i) 0) where
       read-seq : (v : ℕ) → v < n → seqIn vs p v ≡ sequenceAt bs v
       read-seq v h =
-          let i = vertex-inside v h in
+          let i = vertex-inside L v (omega arith) in
           rw (R .starts v h, R .sizes v h)
-          (part-same bs p (sequenceStart bs v) (sum (tab v (lengthAt bs))) (lengthAt bs v)
+          (part-same bs p (sequenceStart bs v) (at + sum (tab v (lengthAt bs))) (lengthAt bs v)
           (omega (arith, sequenceStart-is bs v, bytes-inside)) (omega arith) (byte v i)
           ∙ sym (sequenceAt-is bs v))
         where
           byte : (v : ℕ) → sum (tab v (lengthAt bs)) + lengthAt bs v ≤ bytesOf bs → (i : ℕ) → i < lengthAt bs v
-              → getD p (sum (tab v (lengthAt bs)) + i) 0 ≡ getD bs (sequenceStart bs v + i) 0
-          byte v h i c = B .is (sum (tab v (lengthAt bs)) + i) (omega arith) ∙ ap (λ (x : ℕ). getD bs x 0) (omega (arith, sequenceStart-is bs v))
+              → getD p (at + sum (tab v (lengthAt bs)) + i) 0 ≡ getD bs (sequenceStart bs v + i) 0
+          byte v h i c =
+              ap (λ (x : ℕ). getD p x 0) (omega arith) ∙ B (sum (tab v (lengthAt bs)) + i) (omega arith)
+              ∙ ap (λ (x : ℕ). getD bs x 0) (omega (arith, sequenceStart-is bs v))
 
-      pub read-seqs : tab n (seqIn vs p) ≡ tab (verticesOf bs) (sequenceAt bs)
+      read-seqs : seqsIn n vs p ≡ (decode bs) .verts
+      unfolding decode
       read-seqs = tab-ext n (seqIn vs p) (sequenceAt bs) read-seq ∙ ap (λ (x : ℕ). tab x (sequenceAt bs)) q
 
-  -- the header's numbers, and the three parts
-  pub loaded : {r : Held} {es vs p : List ℕ} {at : ℕ} → r .k .0 ≡ kOf bs → r .n ≡ verticesOf bs → r .m ≡ edgesOf bs → r .used ≡ bytesOf bs
-      → at ≡ 32 + 2 * r .n + 9 * r .m → bytesOf bs ≤ length p
-      → EdgesRead bs (r .m) es → VerticesRead bs (r .n) vs → BytesRead bs at (r .used) p → Loaded bs r es vs p
+  -- the header's numbers, the edges and the vertices
+  pub loaded : {r : Held} {es vs : List ℕ} → r .k .0 ≡ kOf bs → r .n ≡ verticesOf bs → r .m ≡ edgesOf bs
+      → EdgesRead bs (r .m) es → VerticesRead bs (32 + 2 * r .n + 9 * r .m) (r .n) vs → Loaded bs r es vs
   unfolding decode
-  loaded {r} {es} {vs} {p} {at} qk qn qm qu qa room E Q B = record {
-    is = λ j. record { k = qk j; verts = read-seqs qn Q at-is qu room B j; edges = read-edges qm E j };
+  loaded {r} {es} {vs} qk qn qm E Q = record {
+    is = λ j. record { k = qk j; verts = read-seqs qn Q bs room (λ i h. ap (λ (x : ℕ). getD bs x 0) (omega (arith, at-is))) j; edges = read-edges qm E j };
     k = qk;
     n = qn;
     m = qm;
-    used = qu;
-    within = read-within qn Q qu;
+    within = read-within qn Q room;
     ends = read-ends qm qn E;
   }
     where
-      at-is : at ≡ bytesAt (verticesOf bs) (edgesOf bs)
-      at-is = omega (arith, bytesAt-is (verticesOf bs) (edgesOf bs))
+      at-is : 32 + 2 * r .n + 9 * r .m ≡ bytesAt (verticesOf bs) (edgesOf bs)
+      at-is = omega (arith, qn, qm, bytesAt-is (verticesOf bs) (edgesOf bs))
+
+      room : 32 + 2 * r .n + 9 * r .m + bytesOf bs ≤ length bs
+      room = omega (arith, at-is, bytes-inside)
+
+-- the sequences in a pool
+pub pooled : {bs : List ℕ} {h r : Held} {vs₀ p₀ vs p : List ℕ} → Poolable bs h vs₀ p₀ → length p ≡ length p₀
+    → r .k ≡ h .k → r .n ≡ h .n → r .m ≡ h .m → r .used ≡ bytesOf bs
+    → VerticesRead bs 0 (h .n) vs → BytesRead bs (32 + 2 * h .n + 9 * h .m) (r .used) p → SequencesPooled bs h r vs p
+pooled {bs} {h} {r} {vs = vs} {p} Y l qk qn qm qu Q B = record {
+  is = ap (λ (x : ℕ). seqsIn x vs p) qn ∙ read-seqs (Y .laid) (Y .n) Q p (omega (arith, l, Y .p-room)) byte;
+  k = qk;
+  n = qn;
+  m = qm;
+  used = qu;
+  within = rw (qn, qu) (read-within (Y .laid) (Y .n) Q (omega arith));
+}
+  where
+    byte : (i : ℕ) → i < bytesOf bs → getD p (0 + i) 0 ≡ getD bs (bytesAt (verticesOf bs) (edgesOf bs) + i) 0
+    byte i c =
+        ap (λ (x : ℕ). getD p x 0) (omega arith) ∙ B .is i (omega (arith, qu))
+        ∙ ap (λ (x : ℕ). getD bs x 0) (omega (arith, Y .n, Y .m, bytesAt-is (verticesOf bs) (edgesOf bs)))
+
+-- the graph with its sequences there is the record's
+pub pooled-graph : {bs : List ℕ} {h r : Held} {es vs vs′ p′ : List ℕ} → Loaded bs h es vs → SequencesPooled bs h r vs′ p′ → graphOf r es vs′ p′ ≡ decode bs
+pooled-graph {h = h} {r} {es} L P = λ j. record {
+  k = (ap (λ (k : KmerSize). k .0) (P .k) ∙ ap (λ (g : Graph). g .k) (L .is)) j;
+  verts = P .is j;
+  edges = (ap (λ (x : ℕ). edgesIn x es) (P .m) ∙ ap (λ (g : Graph). g .edges) (L .is)) j;
+}

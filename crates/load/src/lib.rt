@@ -1,15 +1,15 @@
-// The graph of an accepted record, read into the slices.
+// The graph of an accepted record, read into the slices. The sequences stay where they stand: the record itself is the pool. Where a graph is
+// rewritten they are copied to a pool of its own.
 ghost use mathlib.Core.Path.{_≡_};
-ghost use Prim.Native.Nat.{_+_, _*_, _≤_};
+ghost use Prim.Native.Nat.{_+_, _*_, _≤_, _<_};
 ghost use lib.ListN.{length};
 ghost use Rattle.defs.specs.Record.{kOf, edgesOf, verticesOf};
-ghost use Rattle.record.specs.Layout.{WellFormed};
-ghost use Rattle.load.specs.Loaded.{EdgesRead, VerticesRead, BytesRead, Loadable, Loaded};
+ghost use Rattle.load.specs.Loaded.{Laid, EdgesRead, VerticesRead, BytesRead, Loadable, Loaded, Poolable, SequencesPooled};
 use kmer::KmerSize;
 use memory::Held;
 
 fn load_edges(rec: &[u8], es: &mut [u32], m: usize)
-    requires { ⌜ WellFormed (now rec) × ((m ≡ edgesOf (now rec)) × (4 * m ≤ length (now es))) ⌝ }
+    requires { ⌜ Laid (now rec) × ((m ≡ edgesOf (now rec)) × (4 * m ≤ length (now es))) ⌝ }
     ensures { λ _. ⌜ EdgesRead (now (rec .entry)) m (now (es .exit)) ⌝ }
 {
     let mut i = 0;
@@ -22,13 +22,13 @@ fn load_edges(rec: &[u8], es: &mut [u32], m: usize)
     }
 }
 
-// Where each sequence starts, counted from the first one's start, and how long it is.
-fn load_vertices(rec: &[u8], vs: &mut [u32], n: usize)
-    requires { ⌜ WellFormed (now rec) × ((n ≡ verticesOf (now rec)) × (2 * n ≤ length (now vs))) ⌝ }
-    ensures { λ _. ⌜ VerticesRead (now (rec .entry)) n (now (vs .exit)) ⌝ }
+// Where each sequence starts, if the first one starts at `at`, and how long it is.
+fn load_vertices(rec: &[u8], vs: &mut [u32], n: usize, at: usize)
+    requires { ⌜ Laid (now rec) × ((n ≡ verticesOf (now rec)) × ((2 * n ≤ length (now vs)) × (at ≤ 32 + 2 * n + 9 * edgesOf (now rec)))) ⌝ }
+    ensures { λ _. ⌜ VerticesRead (now (rec .entry)) at n (now (vs .exit)) ⌝ }
 {
     let mut i = 0;
-    let mut start = 0;
+    let mut start = at;
     while i < n {
         let len = record::length_at(rec, i);
         store::put_vertex(vs, i, start as u32, len as u32);
@@ -49,21 +49,38 @@ fn load_bytes(rec: &[u8], p: &mut [u8], at: usize, b: usize)
     }
 }
 
-// The size k is the one that the check of the layout made.
-pub fn load_graph(rec: &[u8], k: KmerSize, es: &mut [u32], vs: &mut [u32], p: &mut [u8]) -> Held
-    requires { ⌜ (k .0 ≡ kOf (now rec)) × Loadable (now rec) (now es) (now vs) (now p) ⌝ }
-    ensures { λ r. ⌜ Loaded (now (rec .entry)) r (now (es .exit)) (now (vs .exit)) (now (p .exit)) ⌝ }
+// The size k is the one that the check of the layout made. The bytes in use are the whole record's.
+pub fn load_graph(rec: &[u8], k: KmerSize, es: &mut [u32], vs: &mut [u32]) -> Held
+    requires { ⌜ (k .0 ≡ kOf (now rec)) × Loadable (now rec) (now es) (now vs) ⌝ }
+    ensures { λ r. ⌜ Loaded (now (rec .entry)) r (now (es .exit)) (now (vs .exit)) ⌝ }
 {
     let n = record::vertex_count(rec);
     let m = record::edge_count(rec);
-    let b = record::byte_count(rec);
     load_edges(rec, es, m);
-    load_vertices(rec, vs, n);
-    load_bytes(rec, p, 32 + 2 * n + 9 * m, b);
+    load_vertices(rec, vs, n, 32 + 2 * n + 9 * m);
     Held {
         k: k,
         n: n,
         m: m,
+        used: rec.len(),
+    }
+}
+
+// Copies the sequences of a graph that was read to the pool's front.
+pub fn load_pool(rec: &[u8], held: Held, vs: &mut [u32], p: &mut [u8]) -> Held
+    requires { ⌜ Poolable (now rec) held (now vs) (now p) ⌝ }
+    ensures { λ r. ⌜ SequencesPooled (now (rec .entry)) held r (now (vs .exit)) (now (p .exit)) ⌝ }
+{
+    let vertices = held.n;
+    let edges = held.m;
+    let b = record::byte_count(rec);
+    load_vertices(rec, vs, vertices, 0);
+    load_bytes(rec, p, 32 + 2 * vertices + 9 * edges, b);
+    let kmer_size = held.k;
+    Held {
+        k: kmer_size,
+        n: vertices,
+        m: edges,
         used: b,
     }
 }

@@ -4,13 +4,11 @@ use mathlib.Core.Bool.{Bool, false, _||_}
 use mathlib.Core.List.{List, [], _∷_, _++_}
 use Prim.Native.Nat.{ℕ, _+_, _*_, _≤_, _<_}
 use lib.ListN.{length, getD}
-use Rattle.defs.specs.Record.{kindOf, verticesOf, edgesOf, bytesOf, decode}
 use Rattle.defs.specs.Refusals.{Cause, refusalOf, kmerOnly, doubledEdge, equalKmers, layoutCauses, doubledCause, overlapCause, cycleCause}
-use Rattle.record.specs.Layout.{WellFormed}
-use Rattle.store.specs.Store.{edgesIn, seqsIn, EndsBelow, Within}
+use Rattle.store.specs.Store.{edgesIn, seqsIn}
 use Rattle.index.specs.Index.{Indexed}
-use Rattle.memory.specs.Memory.{graphOf}
 use Rattle.memory.specs.declared.Held.{Held}
+use Rattle.load.specs.Loaded.{Loaded}
 use Rattle.accept.specs.Accept.{readNumber}
 use Rattle.accept.specs.declared.Read.{Read}
 use Rattle.accept.specs.declared.Read.the-variants.{Graph, Refused}
@@ -23,51 +21,28 @@ kmerCauses bs = layoutCauses kmerOnly bs ++ (doubledCause bs ∷ [])
 abbrev pub overlappingCauses : List ℕ → List Cause
 overlappingCauses bs = layoutCauses kmerOnly bs ++ (doubledCause bs ∷ overlapCause bs ∷ cycleCause bs ∷ [])
 
--- room for the record's vertices, edges and bytes
-pub record KmerRoom (bs es vs p heads nexts order scratch : List ℕ) : Type 0 where
-  pub es-room : 4 * edgesOf bs ≤ length es
-  pub vs-room : 2 * verticesOf bs ≤ length vs
-  pub p-room : bytesOf bs ≤ length p
-  pub heads-room : 2 * verticesOf bs ≤ length heads
-  pub nexts-room : 2 * edgesOf bs ≤ length nexts
-  pub order-room : verticesOf bs ≤ length order
-  pub scratch-room : verticesOf bs ≤ length scratch
-
--- there is room if the record's layout is that of a k-mer graph
-pub record RoomToReadKmers (bs es vs p heads nexts order scratch : List ℕ) : Type 0 where
-  pub room : WellFormed bs → kindOf bs ≡ 0 → KmerRoom bs es vs p heads nexts order scratch
-
--- and room for the search for a cycle
-pub record RoomToReadOverlapping (bs es vs p heads nexts order scratch place : List ℕ) : Type 0 where
-  pub reading : RoomToReadKmers bs es vs p heads nexts order scratch
-  pub place-room : WellFormed bs → kindOf bs ≡ 0 → verticesOf bs ≤ length place
-
 -- two edges with the same ends, or two equal k-mers; where neither, the vertices in the order of their k-mers
 pub record Doubles (m n : ℕ) (es vs p : List ℕ) (r : Bool) (order : List ℕ) : Type 0 where
   pub is : r ≡ (doubledEdge (edgesIn m es) || equalKmers (seqsIn n vs p))
   pub ordered : r ≡ false → KmerOrder n vs p order
 
--- the record's graph in the slices, indexed, without doubled edges or k-mers, and its vertices in the order of their k-mers
-pub record HoldsKmers (bs : List ℕ) (h : Held) (es vs p heads nexts order : List ℕ) : Type 0 where
-  pub is : graphOf h es vs p ≡ decode bs
-  pub n-is : h .n ≡ verticesOf bs
-  pub m-is : h .m ≡ edgesOf bs
+-- the record's graph in the slices, its k-mers in the record itself; indexed, without doubled edges or k-mers, and its vertices in the order of
+-- their k-mers
+pub record HoldsKmers (bs : List ℕ) (h : Held) (es vs heads nexts order : List ℕ) : Type 0 where
+  pub loaded : Loaded bs h es vs
   pub single : doubledEdge (edgesIn (h .m) es) ≡ false
-  pub distinct : equalKmers (seqsIn (h .n) vs p) ≡ false
+  pub distinct : equalKmers (seqsIn (h .n) vs bs) ≡ false
   pub k-least : 2 ≤ h .k .0
   pub k-most : h .k .0 ≤ 128
   pub vertices : h .n ≤ 2048
   pub edges : h .m ≤ 4096
+  pub short : length bs ≤ 303136
   pub sizes : (v : ℕ) → v < h .n → getD vs (2 * v + 1) 0 ≡ h .k .0
-  pub within : Within (h .used) (h .n) vs
-  pub used-most : h .used ≤ 262144
-  pub used-room : h .used ≤ length p
-  pub ends : EndsBelow (h .n) (h .m) es
   pub indexed : Indexed (h .m) (h .n) es heads nexts
-  pub ordered : KmerOrder (h .n) vs p order
+  pub ordered : KmerOrder (h .n) vs bs order
 
 -- the number is that of the causes; a graph that was read is the record's, and held; a refusal has a number
-pub record KmersRead (causes : List Cause) (bs : List ℕ) (r : Read) (es vs p heads nexts order : List ℕ) : Type 0 where
+pub record KmersRead (causes : List Cause) (bs : List ℕ) (r : Read) (es vs heads nexts order : List ℕ) : Type 0 where
   pub number : readNumber r ≡ refusalOf causes
-  pub holds : (h : Held) → r ≡ Graph h → HoldsKmers bs h es vs p heads nexts order
+  pub holds : (h : Held) → r ≡ Graph h → HoldsKmers bs h es vs heads nexts order
   pub refused : (n : ℕ) → r ≡ Refused n → n ≡ 0 → ⊥

@@ -1,10 +1,11 @@
-// Reading a record of kind 0, a k-mer graph: the number of its refusal, or the graph in the slices, indexed, with the vertices in the order of
-// their k-mers. What is asked behind 6 depends on the call: conversion asks 15, whether the k-mers overlap, and then 7.
+// Reading a record of kind 0, a k-mer graph: the number of its refusal, or the graph in the slices, its k-mers in the record itself, indexed, with
+// the vertices in the order of their k-mers. What is asked behind 6 depends on the call: conversion asks 15, whether the k-mers overlap, and then 7.
 ghost use Rattle.index.specs.Index.{Indexed};
 ghost use Rattle.doubled.specs.Doubled.{Markable};
+ghost use Rattle.accept.specs.Accept.{RoomToRead, RoomToMark};
 ghost use Rattle.sort.specs.Sort.{Sortable};
 ghost use Rattle.kmer_order.specs.Order.{ReadableSequence};
-ghost use Rattle.read_kmers.specs.Kmers.{kmerCauses, overlappingCauses, RoomToReadKmers, RoomToReadOverlapping, Doubles, KmersRead};
+ghost use Rattle.read_kmers.specs.Kmers.{kmerCauses, overlappingCauses, Doubles, KmersRead};
 use accept::Read;
 use record::Layout;
 use record::Takes;
@@ -37,25 +38,24 @@ pub fn read_kmer_graph(
     rec: &[u8],
     es: &mut [u32],
     vs: &mut [u32],
-    p: &mut [u8],
     heads: &mut [u32],
     nexts: &mut [u32],
     order: &mut [u32],
     scratch: &mut [u32],
 ) -> Read
-    requires { ⌜ RoomToReadKmers (now rec) (now es) (now vs) (now p) (now heads) (now nexts) (now order) (now scratch) ⌝ }
-    ensures { λ r. ⌜ KmersRead (kmerCauses (now (rec .entry))) (now (rec .entry)) r (now (es .exit)) (now (vs .exit)) (now (p .exit)) (now (heads .exit))
+    requires { ⌜ RoomToRead (now rec) (now es) (now vs) (now heads) (now nexts) (now order) (now scratch) ⌝ }
+    ensures { λ r. ⌜ KmersRead (kmerCauses (now (rec .entry))) (now (rec .entry)) r (now (es .exit)) (now (vs .exit)) (now (heads .exit))
         (now (nexts .exit)) (now (order .exit)) ⌝ }
 {
     let k = match record::check_layout(rec, Takes::KmerOnly) {
         Layout::Formed(k) => k,
         Layout::Refused(number) => return Read::Refused(number),
     };
-    let held = load::load_graph(rec, k, es, vs, p);
+    let held = load::load_graph(rec, k, es, vs);
     let n = held.n;
     let m = held.m;
     index::build_index(es, m, n, heads, nexts);
-    if is_doubled(es, m, n, vs, p, heads, nexts, order, scratch) {
+    if is_doubled(es, m, n, vs, rec, heads, nexts, order, scratch) {
         return Read::Refused(6);
     }
     Read::Graph(held)
@@ -66,18 +66,17 @@ pub fn read_overlapping_kmer_graph(
     rec: &[u8],
     es: &mut [u32],
     vs: &mut [u32],
-    p: &mut [u8],
     heads: &mut [u32],
     nexts: &mut [u32],
     order: &mut [u32],
     scratch: &mut [u32],
     place: &mut [u32],
 ) -> Read
-    requires { ⌜ RoomToReadOverlapping (now rec) (now es) (now vs) (now p) (now heads) (now nexts) (now order) (now scratch) (now place) ⌝ }
-    ensures { λ r. ⌜ KmersRead (overlappingCauses (now (rec .entry))) (now (rec .entry)) r (now (es .exit)) (now (vs .exit)) (now (p .exit))
+    requires { ⌜ RoomToMark (now rec) (now es) (now vs) (now heads) (now nexts) (now order) (now scratch) (now place) ⌝ }
+    ensures { λ r. ⌜ KmersRead (overlappingCauses (now (rec .entry))) (now (rec .entry)) r (now (es .exit)) (now (vs .exit))
         (now (heads .exit)) (now (nexts .exit)) (now (order .exit)) ⌝ }
 {
-    let held = match read_kmer_graph(rec, es, vs, p, heads, nexts, order, scratch) {
+    let held = match read_kmer_graph(rec, es, vs, heads, nexts, order, scratch) {
         Read::Graph(held) => held,
         Read::Refused(number) => return Read::Refused(number),
     };

@@ -18,9 +18,6 @@ pub const MOST_EDGES: usize = 4096;
 
 pub const MOST_BYTES: usize = 8192;
 
-// So the k-mers of a record have at most 2,048 times 128 bytes.
-pub const MOST_KMER_BYTES: usize = 128 * MOST_VERTICES;
-
 // Which kinds a call takes.
 pub enum Takes {
     KmerOnly,
@@ -34,7 +31,8 @@ pub enum Layout {
     Refused(u32),
 }
 
-fn kmer_size_of(rec: &[u8]) -> MadeSize
+// The size k that the header tells, if it is one.
+pub fn kmer_size_of(rec: &[u8]) -> MadeSize
     requires { ⌜ 32 ≤ length (now rec) ⌝ }
     ensures { λ r. ⌜ r ≡ sizeOf (kOf (now (rec .entry))) ⌝ }
 {

@@ -18,13 +18,13 @@ use Rattle.reread.proofs.Graphs.{answer-reread}
 use Rattle.reread.proofs.Read.{Bytes, sequence-input}
 
 module _ (g : Graph) (I : SequenceInput g) where
-  narrow : Narrow g
+  narrow : Narrow 4096 8192 10240 g
   narrow = limits-narrow g (I .good) record { vertices = I .vertices; edges = I .edges; few = I .bytes }
 
   fields : Fields (g .k) g
   fields = record { k-is = refl; supports = I .supports }
 
-  answer-of : (h : Graph) → Fits h → sequenceBytes (h .verts) ≤ 8192 → Fields (g .k) h → SequenceAnswer h
+  answer-of : (h : Graph) → Fits 10240 16384 h → sequenceBytes (h .verts) ≤ 8192 → Fields (g .k) h → SequenceAnswer h
   answer-of h L b F = record {
     good = L .single;
     k-least = omega (arith, F .k-is, I .k-least);
@@ -41,7 +41,7 @@ module _ (g : Graph) (I : SequenceInput g) where
       answer-of ((simplifyGraphFull minTailSuffixLen g) .graph) (narrow-fits _ N) (N .few) (simplify-fields g fields)
 
   cleaned-answer : SequenceAnswer ((cleanupSeqGraph g) .graph)
-  cleaned-answer = answer-of ((cleanupSeqGraph g) .graph) (cleanup-fits g narrow) (cleanup-bytes g narrow) (cleanup-fields g fields)
+  cleaned-answer = answer-of ((cleanupSeqGraph g) .graph) (cleanup-fits (omega arith) g narrow) (cleanup-bytes g narrow) (cleanup-fields g fields)
 
 status-most : (s : Status) → statusNumber s ≤ 2
 unfolding statusNumber
@@ -52,8 +52,11 @@ module _ (bs : List ℕ) (small : Bytes bs) (ok : recordRefusal sequenceOnly bs 
   abbrev simplifiedGraph : Graph
   simplifiedGraph = (simplifyGraphFull minTailSuffixLen (decode bs)) .graph
 
+  pub simplify-within : SequenceAnswer simplifiedGraph
+  simplify-within = simplified-answer (decode bs) (sequence-input bs small ok)
+
   pub simplify-reread : RereadAs simplifiedGraph (encode sequenceGraph 0 simplifiedGraph)
-  simplify-reread = answer-reread simplifiedGraph (simplified-answer (decode bs) (sequence-input bs small ok)) 0 (omega arith)
+  simplify-reread = answer-reread simplifiedGraph simplify-within 0 (omega arith)
 
   abbrev cleaned : Graph
   cleaned = (cleanupSeqGraph (decode bs)) .graph

@@ -14,10 +14,11 @@ use Rattle.defs.specs.Refusals.{Takes, kmerOnly, sequenceOnly, bothKinds, takes
 use Rattle.record.proofs.Fields.{wholeLength-is, bytesAt-is}
 use Rattle.codec.specs.Encodable.{Encodable}
 use Rattle.codec.proofs.RoundTrip.{decode-encode, answer-encodable, within-encodable}
+use Rattle.load.specs.Loaded.{Laid}
 use Rattle.reread.specs.Reread.{pastInputCount, RereadAs, ReacceptedAs}
 use Rattle.reread.specs.Recordable.{graphPastLimit, Recordable, SequenceInput, KmerInput, SequenceAnswer}
 use Rattle.reread.proofs.Fields.{length-written}
-use Rattle.reread.proofs.Written.{written-refusal}
+use Rattle.reread.proofs.Written.{written-refusal, written-laid}
 
 takes-sequence : takesKind sequenceOnly (recordKindNumber sequenceGraph) ≡ true
 unfolding takesKind recordKindNumber
@@ -83,6 +84,9 @@ module _ (g : Graph) (A : SequenceAnswer g) where
     refusal = answer-refusal status s sequenceOnly takes-sequence;
     refusal-both = answer-refusal status s bothKinds (takes-both sequenceGraph);
   }
+
+  pub answer-laid : (status : ℕ) → status ≤ 2 → Laid (encode sequenceGraph status g)
+  answer-laid status s = written-laid sequenceGraph status g (answer-recordable status s)
 
 -- within the limits of input: accepted
 module _ (g : Graph) (I : SequenceInput g) where

@@ -14,6 +14,7 @@ use Rattle.laws.proofs.ListLaws.{at-mem}
 use Rattle.codec.proofs.Encoded.{k-read, vertices-read, edges-read, length-read, edge-read}
 use Rattle.codec.proofs.RoundTrip.{decode-encode}
 use Rattle.record.proofs.Fields.{wholeLength-is, bytesAt-is}
+use Rattle.load.specs.Loaded.{Laid}
 use Rattle.sound.specs.Alike.{noEdge}
 use Rattle.reread.specs.Recordable.{graphPastLimit, KmerVertices, Recordable}
 use Rattle.reread.proofs.Fields.{mark-written, kind-written, status-written, length-written, bytes-written, lengths-at-written}
@@ -76,14 +77,16 @@ module _ (kind : RecordKind) (status : ℕ) (g : Graph) (ok : Recordable kind st
       sizes-are
 
   -- 5
-  fifth : anyBadEdge bs ≡ false
-  fifth = edges-right bs (λ i h.
+  ends-are : (i : ℕ) → i < edgesOf bs → ((edgeAt bs i) .from < verticesOf bs) × ((edgeAt bs i) .to < verticesOf bs)
+  ends-are i h =
       let e : edgeAt bs i ≡ getD (g .edges) i noEdge = edge-read kind status g (ok .encodable) noEdge i (omega (arith, edges-are)) in
       let b = ok .good .0 .bounded (getD (g .edges) i noEdge) (at-mem noEdge (g .edges) i (omega (arith, edges-are))) in (
         omega (arith, ap (λ (x : Edge). x .from) e, b .0, vertices-are),
         omega (arith, ap (λ (x : Edge). x .to) e, b .1, vertices-are),
-        flag-written kind status g (ok .encodable) i (omega (arith, edges-are)),
-      ))
+      )
+
+  fifth : anyBadEdge bs ≡ false
+  fifth = edges-right bs (λ i h. let b = ends-are i h in (b .0, b .1, flag-written kind status g (ok .encodable) i (omega (arith, edges-are))))
 
   -- 6, 7
   sixth : doubled bs ≡ false
@@ -95,3 +98,15 @@ module _ (kind : RecordKind) (status : ℕ) (g : Graph) (ok : Recordable kind st
   -- a call that takes the record's kind refuses it with 3 where k or a count is past a limit of input, and else accepts it
   pub written-refusal : (t : Takes) → takesKind t (recordKindNumber kind) ≡ true → recordRefusal t (encode kind status g) ≡ cond (graphPastLimit kind g) 3 0
   written-refusal t k = three-decides t bs first (second t k) fourth fifth sixth seventh ∙ ap (λ (b : Bool). cond b 3 0) third
+
+  -- its parts lie where its counts say, whatever the limits of input
+  pub written-laid : Laid (encode kind status g)
+  written-laid = record {
+    whole = whole-length;
+    small = omega (arith, whole-length, vertices-are, edges-are, bytes-are, ok .whole, wholes-are);
+    lengths = sum-written kind status g (ok .encodable) ∙ sym bytes-are;
+    ends = ends-are;
+  }
+    where
+      wholes-are : wholeLength (verticesOf bs) (edgesOf bs) (bytesOf bs) ≡ wholeLength (nodeCount g) (length (g .edges)) (sequenceBytes (g .verts))
+      wholes-are = λ i. wholeLength (vertices-are i) (edges-are i) (bytes-are i)

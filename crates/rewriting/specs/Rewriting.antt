@@ -12,7 +12,7 @@ use Rattle.memory.specs.declared.Held.{Held}
 use Rattle.accept.specs.Accept.{readNumber}
 use Rattle.accept.specs.declared.Read.{Read}
 use Rattle.accept.specs.declared.Read.the-variants as read
-use Rattle.choice.specs.Choice.{Cleanable}
+use Rattle.choice.specs.Choice.{HoldsLean}
 use Rattle.rewriting.specs.declared.Rewritten.{Rewritten}
 use Rattle.rewriting.specs.declared.RewritingCall.{RewritingCall}
 use Rattle.rewriting.specs.declared.RewritingCall.the-variants.{SimplifyGraph, CleanupSeqGraph}
@@ -33,28 +33,19 @@ resultOf CleanupSeqGraph g =
     let c = cleanupSeqGraph g in
     record { graph = c .graph; status = statusNumber (c .status); rewrites = c .rewrites; rounds = 0; end = 0 }
 
--- the same, of the held graph h
-abbrev pub resultIn : Held → Rewritten → List ℕ → List ℕ → List ℕ → Result
-resultIn h r es vs p = record { graph = graphOf h es vs p; status = r .status; rewrites = r .rewrites; rounds = r .rounds; end = r .end }
+-- the same, of what became of a graph in slices
+abbrev pub resultIn : Rewritten → List ℕ → List ℕ → List ℕ → Result
+resultIn r es vs p = record { graph = graphOf (r .held) es vs p; status = r .status; rewrites = r .rewrites; rounds = r .rounds; end = r .end }
+
+-- What is held of a record for rewriting: the number is the definition's; a graph is the record's, with its sequences in the pool, and the room is
+-- for it, whatever vertices go; a refusal has a number.
+pub record HeldAs (bs heads nexts : List ℕ) (r : Read) (es vs p : List ℕ) : Type 0 where
+  pub number : readNumber r ≡ recordRefusal sequenceOnly bs
+  pub is : (h : Held) → r ≡ read.Graph h → graphOf h es vs p ≡ decode bs
+  pub holds : (h : Held) → r ≡ read.Graph h → HoldsLean h es vs p heads nexts
+  pub refused : (n : ℕ) → r ≡ read.Refused n → n ≡ 0 → ⊥
 
 -- a graph that was rewritten, and is held
 pub record GraphRewritten (call : RewritingCall) (h : Held) (es vs p heads nexts : List ℕ) (r : Rewritten) (es′ vs′ p′ : List ℕ) : Type 0 where
-  pub left : Held
-  pub read-is : r .read ≡ read.Graph left
-  pub is : resultIn left r es′ vs′ p′ ≡ resultOf call (graphOf h es vs p)
-  pub holds : Holds left es′ vs′ p′ heads nexts
-
-pub record ReadCleanable (x : Read) (es vs p heads nexts nodes mp starts tried sig : List ℕ) : Type 0 where
-  pub cleanable : (h : Held) → x ≡ read.Graph h → Cleanable h es vs p heads nexts nodes mp starts tried sig
-
--- a refusal stays one, a graph is rewritten
-pub record ReadRewritten (call : RewritingCall) (x : Read) (es vs p heads nexts : List ℕ) (r : Rewritten) (es′ vs′ p′ : List ℕ) : Type 0 where
-  pub refused : (n : ℕ) → x ≡ read.Refused n → r .read ≡ read.Refused n
-  pub graph : (h : Held) → x ≡ read.Graph h → GraphRewritten call h es vs p heads nexts r es′ vs′ p′
-
--- the number is the definition's; a graph is what the call makes of the record's, and held; a refusal has a number
-pub record RewrittenAs (call : RewritingCall) (bs heads nexts : List ℕ) (r : Rewritten) (es vs p : List ℕ) : Type 0 where
-  pub number : readNumber (r .read) ≡ recordRefusal sequenceOnly bs
-  pub is : (h : Held) → r .read ≡ read.Graph h → resultIn h r es vs p ≡ resultOf call (decode bs)
-  pub holds : (h : Held) → r .read ≡ read.Graph h → Holds h es vs p heads nexts
-  pub refused : (n : ℕ) → r .read ≡ read.Refused n → n ≡ 0 → ⊥
+  pub is : resultIn r es′ vs′ p′ ≡ resultOf call (graphOf h es vs p)
+  pub holds : Holds (r .held) es′ vs′ p′ heads nexts

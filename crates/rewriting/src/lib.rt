@@ -1,11 +1,11 @@
-// The calls that rewrite a graph: a record is read, and its graph simplified or cleaned, in slices. What the two calls have in common is said
-// once, over which of them it is.
+// The calls that rewrite a graph: a record is read and held, and its graph simplified or cleaned, in slices. What the two calls have in common
+// is said once, over which of them it is.
 ghost use mathlib.Core.Path.{_≡_};
 ghost use Rattle.defs.specs.Cleanup.{statusNumber};
-ghost use Rattle.arrays.specs.Sized.{Lent};
+ghost use Rattle.arrays.specs.Sized.{LentGraph};
 ghost use Rattle.choice.specs.Choice.{Cleanable};
 ghost use Rattle.cleanup_steps.specs.CleanUp.{cleanupStatusOf};
-ghost use Rattle.rewriting.specs.Rewriting.{ReadCleanable, GraphRewritten, ReadRewritten, RewrittenAs};
+ghost use Rattle.rewriting.specs.Rewriting.{HeldAs, GraphRewritten};
 ghost use Rattle.rewriting.specs.declared.RewritingCall.the-variants as call;
 use accept::Read;
 use cleanup_steps::SeqGraphCleanupStatus;
@@ -16,10 +16,9 @@ pub enum RewritingCall {
     CleanupSeqGraph,
 }
 
-// What became of a record: its graph, rewritten, which the slices hold, or the number of the refusal; and what the call counted. A number that
-// a call does not have is 0.
+// What became of a graph: it is rewritten, and the slices hold it; and what the call counted. A number that a call does not have is 0.
 pub struct Rewritten {
-    pub read: Read,
+    pub held: Held,
     pub status: u32,
     pub rewrites: u32,
     pub rounds: u32,
@@ -69,7 +68,7 @@ fn simplify(
     );
     let left = s.held;
     Rewritten {
-        read: Read::Graph(left),
+        held: left,
         status: 0,
         rewrites: s.rewrites,
         rounds: s.rounds,
@@ -111,7 +110,7 @@ fn clean_up(
     let end = c.status;
     let status = status_number(end);
     Rewritten {
-        read: Read::Graph(left),
+        held: left,
         status: status,
         rewrites: c.rewrites,
         rounds: 0,
@@ -119,9 +118,9 @@ fn clean_up(
     }
 }
 
-fn rewrite(
+pub fn rewrite(
     call: RewritingCall,
-    read: Read,
+    held: Held,
     es: &mut [u32],
     vs: &mut [u32],
     p: &mut [u8],
@@ -133,20 +132,10 @@ fn rewrite(
     tried: &mut [u8],
     sig: &mut [u32],
 ) -> Rewritten
-    requires { ⌜ ReadCleanable read (now es) (now vs) (now p) (now heads) (now nexts) (now nodes) (now map) (now starts) (now tried) (now sig) ⌝ }
-    ensures { λ r. ⌜ ReadRewritten call read (now (es .entry)) (now (vs .entry)) (now (p .entry)) (now (heads .entry)) (now (nexts .entry)) r
+    requires { ⌜ Cleanable held (now es) (now vs) (now p) (now heads) (now nexts) (now nodes) (now map) (now starts) (now tried) (now sig) ⌝ }
+    ensures { λ r. ⌜ GraphRewritten call held (now (es .entry)) (now (vs .entry)) (now (p .entry)) (now (heads .entry)) (now (nexts .entry)) r
         (now (es .exit)) (now (vs .exit)) (now (p .exit)) ⌝ }
 {
-    let held = match read {
-        Read::Graph(held) => held,
-        Read::Refused(number) => return Rewritten {
-            read: Read::Refused(number),
-            status: 0,
-            rewrites: 0,
-            rounds: 0,
-            end: 0,
-        },
-    };
     match call {
         RewritingCall::SimplifyGraph => {
             return simplify(
@@ -181,8 +170,8 @@ fn rewrite(
     }
 }
 
-pub fn read_and_rewrite(
-    call: RewritingCall,
+// A record's graph, with its sequences in the pool, or the number of the refusal.
+pub fn read_and_hold(
     rec: &[u8],
     es: &mut [u32],
     vs: &mut [u32],
@@ -191,26 +180,14 @@ pub fn read_and_rewrite(
     nexts: &mut [u32],
     nodes: &mut [u32],
     map: &mut [u32],
-    starts: &mut [u32],
-    tried: &mut [u8],
-    sig: &mut [u32],
-) -> Rewritten
-    requires { ⌜ Lent (now rec) (now es) (now vs) (now p) (now heads) (now nexts) (now nodes) (now map) (now starts) (now tried) (now sig) ⌝ }
-    ensures { λ r. ⌜ RewrittenAs call (now (rec .entry)) (now (heads .entry)) (now (nexts .entry)) r (now (es .exit)) (now (vs .exit)) (now (p .exit)) ⌝ }
+) -> Read
+    requires { ⌜ LentGraph (now rec) (now es) (now vs) (now p) (now heads) (now nexts) (now nodes) (now map) ⌝ }
+    ensures { λ r. ⌜ HeldAs (now (rec .entry)) (now (heads .exit)) (now (nexts .exit)) r (now (es .exit)) (now (vs .exit)) (now (p .exit)) ⌝ }
 {
-    let read = accept::read_sequence_graph(rec, es, vs, p, heads, nexts, nodes, map);
-    rewrite(
-        call,
-        read,
-        es,
-        vs,
-        p,
-        heads,
-        nexts,
-        nodes,
-        map,
-        starts,
-        tried,
-        sig,
-    )
+    let held = match accept::read_sequence_graph(rec, es, vs, heads, nexts, nodes, map) {
+        Read::Graph(held) => held,
+        Read::Refused(number) => return Read::Refused(number),
+    };
+    let pooled = load::load_pool(rec, held, vs, p);
+    Read::Graph(pooled)
 }

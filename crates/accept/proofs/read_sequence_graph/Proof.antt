@@ -1,6 +1,4 @@
 -- `accept::read_sequence_graph` meets its contract. Assumes nothing.
-use native.Mathlib.Omega.{arith}
-use mathlib.Core.Path.{refl, sym, _∙_}
 use Rattle.accept.proofs.AcceptLaws.{
   layout-none,
   layout-size,
@@ -33,8 +31,7 @@ load-graph-requires : tie.Need-load-graph-requires
 load-graph-requires c κs = (
   layout-size (start .args .rec .now) (at-check-layout .check-layout .ensures) (at-k .k .given .1),
   read-loadable (start .args .rec .now)
-      (layout-none (start .args .rec .now) (at-check-layout .check-layout .ensures) (at-k .k .given .1)) (start .pre .0)
-      (start .pre .1),
+      (layout-none (start .args .rec .now) (at-check-layout .check-layout .ensures) (at-k .k .given .1)) (start .pre),
 )
   where
     at-k : tie.After-k
@@ -51,8 +48,7 @@ build-index-requires c κs =
     read-indexable
     (start .args .rec .now)
     (layout-none (start .args .rec .now) (at-check-layout .check-layout .ensures) (at-k .k .given .1))
-    (start .pre .0)
-    (start .pre .1)
+    (start .pre)
     (at-load-graph .load-graph .ensures)
     (at-load-graph .load-graph .kept .1 .1 .0)
   where
@@ -72,8 +68,7 @@ doubled-edge-requires : tie.Need-doubled-edge-requires
 doubled-edge-requires c κs = (
   at-build-index .build-index .ensures,
   read-markable (start .args .rec .now)
-      (layout-none (start .args .rec .now) (at-check-layout .check-layout .ensures) (at-k .k .given .1)) (start .pre .0)
-      (start .pre .1) (at-load-graph .load-graph .ensures),
+      (layout-none (start .args .rec .now) (at-check-layout .check-layout .ensures) (at-k .k .given .1)) (start .pre) (at-load-graph .load-graph .ensures),
 )
   where
     at-build-index : tie.After-build-index
@@ -96,8 +91,7 @@ returns-2 c =
     read-6
     (start .args .rec .now)
     (layout-none (start .args .rec .now) (at-check-layout .check-layout .ensures) (at-k .k .given .1))
-    (start .pre .0)
-    (start .pre .1)
+    (start .pre)
     (at-load-graph .load-graph .ensures)
     (at-doubled-edge .doubled-edge .ensures)
     (c .if1 .taken)
@@ -122,11 +116,11 @@ has-cycle-requires c κs = (
   at-build-index .build-index .ensures,
   (
     read-indexable (start .args .rec .now)
-        (layout-none (start .args .rec .now) (at-check-layout .check-layout .ensures) (at-k .k .given .1)) (start .pre .0)
-        (start .pre .1) (at-load-graph .load-graph .ensures) (at-load-graph .load-graph .kept .1 .1 .0) .small,
+        (layout-none (start .args .rec .now) (at-check-layout .check-layout .ensures) (at-k .k .given .1)) (start .pre)
+        (at-load-graph .load-graph .ensures) (at-load-graph .load-graph .kept .1 .1 .0) .small,
     read-peelable (start .args .rec .now)
-        (layout-none (start .args .rec .now) (at-check-layout .check-layout .ensures) (at-k .k .given .1)) (start .pre .0)
-        (start .pre .1) (at-load-graph .load-graph .ensures) (at-doubled-edge .doubled-edge .kept .1 .1 .1 .1 .1 .0),
+        (layout-none (start .args .rec .now) (at-check-layout .check-layout .ensures) (at-k .k .given .1)) (start .pre)
+        (at-load-graph .load-graph .ensures) (at-doubled-edge .doubled-edge .kept .1 .1 .1 .1 .1 .0),
   ),
 )
   where
@@ -148,20 +142,14 @@ has-cycle-requires c κs = (
     start : tie.Start
     start = let c = at-check-layout in search
 
+same-length-6 : tie.Need-same-length-6
+same-length-6 c = at-load-graph .load-graph .kept .1 .1 .0
+  where
+    at-load-graph : tie.After-load-graph
+    at-load-graph = let c : tie.Else1 = search in let c : tie.After-build-index = search in search
+
 same-length-7 : tie.Need-same-length-7
-same-length-7 c = at-load-graph .load-graph .kept .1 .1 .0
-  where
-    at-load-graph : tie.After-load-graph
-    at-load-graph = let c : tie.Else1 = search in let c : tie.After-build-index = search in search
-
-same-length-8 : tie.Need-same-length-8
-same-length-8 c = at-load-graph .load-graph .kept .1 .1 .1 .0
-  where
-    at-load-graph : tie.After-load-graph
-    at-load-graph = let c : tie.Else1 = search in let c : tie.After-build-index = search in search
-
-same-length-9 : tie.Need-same-length-9
-same-length-9 c = at-load-graph .load-graph .kept .1 .1 .1 .1 .0
+same-length-7 c = at-load-graph .load-graph .kept .1 .1 .1 .0
   where
     at-load-graph : tie.After-load-graph
     at-load-graph = let c : tie.Else1 = search in let c : tie.After-build-index = search in search
@@ -171,8 +159,7 @@ returns-3 c =
     read-7
     (start .args .rec .now)
     (layout-none (start .args .rec .now) (at-check-layout .check-layout .ensures) (at-k .k .given .1))
-    (start .pre .0)
-    (start .pre .1)
+    (start .pre)
     (at-load-graph .load-graph .ensures)
     (at-doubled-edge .doubled-edge .ensures)
     (at-if1 .if1 .left)
@@ -205,8 +192,7 @@ returns-4 c =
     read-0
     (start .args .rec .now)
     (layout-none (start .args .rec .now) (at-check-layout .check-layout .ensures) (at-k .k .given .1))
-    (start .pre .0)
-    (start .pre .1)
+    (start .pre)
     (at-load-graph .load-graph .ensures)
     (at-doubled-edge .doubled-edge .ensures)
     (at-if1 .if1 .left)
@@ -250,18 +236,15 @@ read-sequence-graph-spec =
     (λ c. search needs)
     (λ c. search needs)
     (λ c. search needs)
-    (λ c. search needs)
     returns-2
     has-cycle-requires
+    same-length-6
     same-length-7
-    same-length-8
-    same-length-9
     (λ c. search needs)
     (λ c. search needs)
     (λ c. search needs)
     (λ c. search needs)
     returns-3
-    (λ c. search needs)
     (λ c. search needs)
     (λ c. search needs)
     (λ c. search needs)

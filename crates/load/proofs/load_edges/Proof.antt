@@ -14,7 +14,6 @@ abbrev μ-loop : tie.MeasureT-loop
 loop-again : tie.Need-loop-again Inv-loop μ-loop
 loop-again c =
     edges-more
-    (start .pre .0)
     (at-loop .loop .inv)
     (omega arith)
     (omega arith)
@@ -41,9 +40,6 @@ loop-again c =
 
     at-loop : tie.At-loop Inv-loop μ-loop
     at-loop = let c = at-edge-from-at in search
-
-    start : tie.Start Inv-loop μ-loop
-    start = let c = at-loop in search
 
 returns : tie.Need-returns Inv-loop μ-loop
 returns c =

@@ -1,18 +1,21 @@
 -- `load::load_vertices` meets its contract. Assumes nothing.
 use native.Mathlib.Omega.{arith}
 use Prim.Native.Nat.{_-_}
-use Rattle.load.proofs.LoadLaws.{ReadingVertices, length-inside, vertices-start, vertices-more, vertices-end}
+use Rattle.load.proofs.LoadLaws.{ReadingVertices, length-inside, vertices-start, start-small, vertices-more, vertices-end}
 use Rattle.load.proofs.load_vertices.Statement.{statement}
 use Rattle.load.proofs.load_vertices.Tie as tie
 
 abbrev Inv-loop : tie.InvT-loop
-Inv-loop rec vs₀ n i₀ start₀ vs i start = ReadingVertices rec vs₀ vs i start
+Inv-loop rec vs₀ n at i₀ start₀ vs i start = ReadingVertices rec at vs₀ vs i start
 
 abbrev μ-loop : tie.MeasureT-loop
-μ-loop rec vs₀ n i₀ start₀ vs i start = n - i
+μ-loop rec vs₀ n at i₀ start₀ vs i start = n - i
 
 add-start : tie.Need-add-start Inv-loop μ-loop
-add-start c = omega (arith, at-loop .loop .inv .small, start .pre .0 .vertices, at-length-at .length-at .ensures)
+add-start c = omega (
+  arith,
+  start-small (at-loop .loop .inv) (omega arith) (start .pre .0) (omega (arith, start .pre .1)) (at-length-at .length-at .ensures .0),
+)
   where
     at-length-at : tie.After-length-at Inv-loop μ-loop
     at-length-at = search
@@ -30,7 +33,6 @@ loop-again c =
     (omega arith)
     (omega arith)
     (at-length-at .length-at .ensures .0)
-    (at-length-at .length-at .ensures .1)
     (at-put-vertex .put-vertex .ensures)
   where
     at-put-vertex : tie.After-put-vertex Inv-loop μ-loop
@@ -43,10 +45,16 @@ loop-again c =
     at-loop = let c = at-length-at in search
 
 cast-put-vertex : tie.Need-cast-put-vertex Inv-loop μ-loop
-cast-put-vertex c = omega (arith, at-loop .loop .inv .small, start .pre .0 .vertices)
+cast-put-vertex c = omega (
+  arith,
+  start-small (at-loop .loop .inv) (omega arith) (start .pre .0) (omega (arith, start .pre .1)) (at-length-at .length-at .ensures .0),
+)
   where
+    at-length-at : tie.After-length-at Inv-loop μ-loop
+    at-length-at = search
+
     at-loop : tie.At-loop Inv-loop μ-loop
-    at-loop = search
+    at-loop = let c = at-length-at in search
 
     start : tie.Start Inv-loop μ-loop
     start = let c = at-loop in search

@@ -72,8 +72,7 @@ is-doubled-requires c κs = (
         (at-load-graph .load-graph .ensures),
     read-sortable (start .args .rec .now)
         (layout-none (start .args .rec .now) (at-check-layout .check-layout .ensures) (at-k .k .given .1)) (start .pre)
-        (at-load-graph .load-graph .ensures) (at-load-graph .load-graph .kept .1 .1 .1 .0)
-        (at-load-graph .load-graph .kept .1 .1 .1 .1 .0),
+        (at-load-graph .load-graph .ensures) (at-load-graph .load-graph .kept .1 .1 .1 .0),
   ),
 )
   where
@@ -96,8 +95,11 @@ module _ (c : tie.Then1) where
   abbrev at-is-doubled : tie.After-is-doubled
   at-is-doubled = search
 
+  abbrev at-build-index : tie.After-build-index
+  at-build-index = let c = at-is-doubled in search
+
   abbrev at-load-graph : tie.After-load-graph
-  at-load-graph = let c = at-is-doubled in let c : tie.After-build-index = search in search
+  at-load-graph = let c = at-build-index in search
 
   abbrev at-k : tie.After-k
   at-k = let c = at-load-graph in search
@@ -115,7 +117,16 @@ same-length-2 : tie.Need-same-length-2
 same-length-2 c = at-load-graph c .load-graph .kept .1 .1 .1 .0
 
 same-length-3 : tie.Need-same-length-3
-same-length-3 c = at-load-graph c .load-graph .kept .1 .1 .1 .1 .0
+same-length-3 c = at-build-index c .build-index .kept .1 .1 .1 .0
+
+same-length-4 : tie.Need-same-length-4
+same-length-4 c = at-build-index c .build-index .kept .1 .1 .1 .1 .0
+
+same-length-5 : tie.Need-same-length-5
+same-length-5 c = at-is-doubled c .is-doubled .kept .1 .1 .1 .1 .1 .1 .1 .0
+
+same-length-6 : tie.Need-same-length-6
+same-length-6 c = at-is-doubled c .is-doubled .kept .1 .1 .1 .1 .1 .1 .1 .1 .0
 
 returns-2 : tie.Need-returns-2
 returns-2 c =
@@ -131,11 +142,11 @@ module _ (c : tie.Else1) where
   abbrev at-is-doubled-2 : tie.After-is-doubled
   at-is-doubled-2 = search
 
-  abbrev at-build-index : tie.After-build-index
-  at-build-index = let c = at-is-doubled-2 in search
+  abbrev at-build-index-2 : tie.After-build-index
+  at-build-index-2 = let c = at-is-doubled-2 in search
 
   abbrev at-load-graph-2 : tie.After-load-graph
-  at-load-graph-2 = let c = at-build-index in search
+  at-load-graph-2 = let c = at-build-index-2 in search
 
   abbrev at-k-2 : tie.After-k
   at-k-2 = let c = at-load-graph-2 in search
@@ -146,23 +157,23 @@ module _ (c : tie.Else1) where
   abbrev start-2 : tie.Start
   start-2 = let c = at-check-layout-2 in search
 
+same-length-7 : tie.Need-same-length-7
+same-length-7 c = at-load-graph-2 c .load-graph .kept .1 .1 .0
+
 same-length-8 : tie.Need-same-length-8
-same-length-8 c = at-load-graph-2 c .load-graph .kept .1 .1 .0
+same-length-8 c = at-load-graph-2 c .load-graph .kept .1 .1 .1 .0
 
 same-length-9 : tie.Need-same-length-9
-same-length-9 c = at-load-graph-2 c .load-graph .kept .1 .1 .1 .0
+same-length-9 c = at-build-index-2 c .build-index .kept .1 .1 .1 .0
 
 same-length-10 : tie.Need-same-length-10
-same-length-10 c = at-load-graph-2 c .load-graph .kept .1 .1 .1 .1 .0
+same-length-10 c = at-build-index-2 c .build-index .kept .1 .1 .1 .1 .0
 
 same-length-11 : tie.Need-same-length-11
-same-length-11 c = at-build-index c .build-index .kept .1 .1 .1 .0
+same-length-11 c = at-is-doubled-2 c .is-doubled .kept .1 .1 .1 .1 .1 .1 .1 .0
 
 same-length-12 : tie.Need-same-length-12
-same-length-12 c = at-build-index c .build-index .kept .1 .1 .1 .1 .0
-
-same-length-14 : tie.Need-same-length-14
-same-length-14 c = at-is-doubled-2 c .is-doubled .kept .1 .1 .1 .1 .1 .1 .1 .1 .0
+same-length-12 c = at-is-doubled-2 c .is-doubled .kept .1 .1 .1 .1 .1 .1 .1 .1 .0
 
 returns-3 : tie.Need-returns-3
 returns-3 c =
@@ -173,26 +184,7 @@ returns-3 c =
     (at-load-graph-2 c .load-graph .ensures)
     (at-is-doubled-2 c .is-doubled .ensures)
     (c .if1 .left)
-    (at-load-graph-2 c .load-graph .kept .1 .1 .1 .1 .0)
-    (at-build-index c .build-index .ensures)
-
-same-length-4 : tie.Need-same-length-4
-same-length-4 c =
-    let at-build-index : tie.After-build-index = let c : tie.After-is-doubled-arg = search in search in
-    at-build-index .build-index .kept .1 .1 .1 .0
-
-same-length-5 : tie.Need-same-length-5
-same-length-5 c =
-    let at-build-index : tie.After-build-index = let c : tie.After-is-doubled-arg = search in search in
-    at-build-index .build-index .kept .1 .1 .1 .1 .0
-
-same-length-7 : tie.Need-same-length-7
-same-length-7 c =
-    let at-is-doubled : tie.After-is-doubled = search in
-    at-is-doubled .is-doubled .kept .1 .1 .1 .1 .1 .1 .1 .1 .0
-
-same-length-13 : tie.Need-same-length-13
-same-length-13 c = at-is-doubled-2 c .is-doubled .kept .1 .1 .1 .1 .1 .1 .1 .0
+    (at-build-index-2 c .build-index .ensures)
 
 pub read-kmer-graph-spec : {M : Type 1} → statement M
 read-kmer-graph-spec =
@@ -210,14 +202,12 @@ read-kmer-graph-spec =
     same-length-3
     same-length-4
     same-length-5
-    (λ c. search needs)
-    same-length-7
+    same-length-6
     returns-2
+    same-length-7
     same-length-8
     same-length-9
     same-length-10
     same-length-11
     same-length-12
-    same-length-13
-    same-length-14
     returns-3)

@@ -18,7 +18,7 @@ returns c = overlapping-refused (at-read-kmer-graph .read-kmer-graph .ensures) (
     at-number = search
 
     at-read-kmer-graph : tie.After-read-kmer-graph
-    at-read-kmer-graph = let c = at-number in let c : tie.After-p = search in search
+    at-read-kmer-graph = let c = at-number in search
 
 edge-without-overlap-requires : tie.Need-edge-without-overlap-requires
 edge-without-overlap-requires c κs =
@@ -28,7 +28,7 @@ edge-without-overlap-requires c κs =
     at-held = search
 
     at-read-kmer-graph : tie.After-read-kmer-graph
-    at-read-kmer-graph = let c = at-held in let c : tie.After-p = search in search
+    at-read-kmer-graph = let c = at-held in search
 
 returns-2 : tie.Need-returns-2
 returns-2 c =
@@ -45,7 +45,7 @@ returns-2 c =
     at-held = let c = at-ewo in search
 
     at-read-kmer-graph : tie.After-read-kmer-graph
-    at-read-kmer-graph = let c = at-held in let c : tie.After-p = search in search
+    at-read-kmer-graph = let c = at-held in search
 
 has-cycle-requires : tie.Need-has-cycle-requires
 has-cycle-requires c κs =
@@ -53,13 +53,13 @@ has-cycle-requires c κs =
     (at-read-kmer-graph .read-kmer-graph .ensures)
     (at-held .held .given .1)
     (start .pre)
-    (at-read-kmer-graph .read-kmer-graph .kept .1 .1 .1 .1 .1 .1 .1 .0)
+    (at-read-kmer-graph .read-kmer-graph .kept .1 .1 .1 .1 .1 .1 .0)
   where
     at-held : tie.After-held
     at-held = search
 
     at-read-kmer-graph : tie.After-read-kmer-graph
-    at-read-kmer-graph = let c = at-held in let c : tie.After-p = search in search
+    at-read-kmer-graph = let c = at-held in search
 
     start : tie.Start
     start = let c = at-read-kmer-graph in let c : tie.After-slice-known4 = search in search
@@ -87,7 +87,7 @@ returns-3 c =
     at-held = let c = at-ewo in search
 
     at-read-kmer-graph : tie.After-read-kmer-graph
-    at-read-kmer-graph = let c = at-held in let c : tie.After-p = search in search
+    at-read-kmer-graph = let c = at-held in search
 
 returns-4 : tie.Need-returns-4
 returns-4 c =
@@ -112,14 +112,13 @@ returns-4 c =
     at-held = let c = at-ewo in search
 
     at-read-kmer-graph : tie.After-read-kmer-graph
-    at-read-kmer-graph = let c = at-held in let c : tie.After-p = search in search
+    at-read-kmer-graph = let c = at-held in search
 
 pub read-overlapping-kmer-graph-spec : {M : Type 1} → statement M
 read-overlapping-kmer-graph-spec =
     tie.close
     (tie.spec
     (λ c κs. search needs)
-    (λ c. search needs)
     (λ c. search needs)
     (λ c. search needs)
     (λ c. search needs)
@@ -136,7 +135,6 @@ read-overlapping-kmer-graph-spec =
     (λ c. search needs)
     (λ c. search needs)
     (λ c. search needs)
-    (λ c. search needs)
     returns-2
     has-cycle-requires
     (λ c. search needs)
@@ -146,9 +144,7 @@ read-overlapping-kmer-graph-spec =
     (λ c. search needs)
     (λ c. search needs)
     (λ c. search needs)
-    (λ c. search needs)
     returns-3
-    (λ c. search needs)
     (λ c. search needs)
     (λ c. search needs)
     (λ c. search needs)

@@ -1,27 +1,11 @@
 -- `rewriting::rewrite` meets its contract. Assumes nothing.
-use mathlib.Core.Path.{refl}
-use Rattle.rewriting.proofs.RewritingLaws.{stays-refused, is-rewritten}
+use Rattle.rewriting.proofs.RewritingLaws.{is-rewritten}
 use borrow.Author.Needs.{needs}
 use Rattle.rewriting.proofs.rewrite.Statement.{statement}
 use Rattle.rewriting.proofs.rewrite.Tie as tie
-use Rattle.rewriting.proofs.rewrite.Reads as reads
-use Rattle.rewriting.proofs.rewrite.Lts as lts
-use Rattle.rewriting.proofs.simplify.Reads as simplify-reads
-use Rattle.rewriting.proofs.clean_up.Reads as clean-up-reads
 
 returns : tie.Need-returns
-returns c =
-    let at-refused : tie.After-read2 = search in
-    stays-refused (at-refused .read2 .given .1) refl
-
-simplify-requires : tie.Need-simplify-requires
-simplify-requires c κs =
-    let at-graph : tie.After-read = search in
-    let start : tie.Start = let c : tie.After-slice-known5 = search in search in
-    start .pre .cleanable _ (at-graph .read .given .1)
-
-returns-2 : tie.Need-returns-2
-returns-2 c = is-rewritten (at-graph .read .given .1) (at-call .enum-told .given .1) (at-simplify .simplify .ensures)
+returns c = is-rewritten (at-call .enum-told .given .1) (at-simplify .simplify .ensures)
   where
     at-simplify : tie.After-simplify
     at-simplify = let c : tie.After-nexts = search in search
@@ -29,17 +13,8 @@ returns-2 c = is-rewritten (at-graph .read .given .1) (at-call .enum-told .given
     at-call : tie.After-enum-told
     at-call = let c = at-simplify in search
 
-    at-graph : tie.After-read
-    at-graph = let c = at-call in search
-
-clean-up-requires : tie.Need-clean-up-requires
-clean-up-requires c κs =
-    let at-graph : tie.After-read = search in
-    let start : tie.Start = let c : tie.After-slice-known5 = search in search in
-    start .pre .cleanable _ (at-graph .read .given .1)
-
-returns-3 : tie.Need-returns-3
-returns-3 c = is-rewritten (at-graph .read .given .1) (at-call .enum-told2 .given .1) (at-clean-up .clean-up .ensures)
+returns-2 : tie.Need-returns-2
+returns-2 c = is-rewritten (at-call .enum-told2 .given .1) (at-clean-up .clean-up .ensures)
   where
     at-clean-up : tie.After-clean-up
     at-clean-up = let c : tie.After-nexts2 = search in search
@@ -47,8 +22,11 @@ returns-3 c = is-rewritten (at-graph .read .given .1) (at-call .enum-told2 .give
     at-call : tie.After-enum-told2
     at-call = let c = at-clean-up in search
 
-    at-graph : tie.After-read
-    at-graph = let c = at-call in search
+simplify-requires : tie.Need-simplify-requires
+simplify-requires c κs = search needs
+
+clean-up-requires : tie.Need-clean-up-requires
+clean-up-requires c κs = search needs
 
 same-length : tie.Need-same-length
 same-length c = search needs
@@ -115,9 +93,6 @@ rewrite-spec =
     tie.close
     (tie.spec
     (λ c. search needs)
-    (λ c. search needs)
-    returns
-    (λ c. search needs)
     simplify-requires
     same-length
     same-length-2
@@ -129,7 +104,7 @@ rewrite-spec =
     same-length-8
     same-length-9
     same-length-10
-    returns-2
+    returns
     (λ c. search needs)
     clean-up-requires
     same-length-11
@@ -142,4 +117,4 @@ rewrite-spec =
     same-length-18
     same-length-19
     same-length-20
-    returns-3)
+    returns-2)
