@@ -1,22 +1,57 @@
 -- The arrays of a call: what the code on slices asks of them, and how long they are. Assumes nothing.
 use mathlib.Core.Path.{_≡_}
 use mathlib.Core.List.{List}
-use Prim.Native.Nat.{ℕ, _+_, _*_, _≤_}
+use Prim.Native.Nat.{ℕ, _+_, _*_, _/_, _≤_, _<_}
 use lib.ListN.{length}
+use Rattle.defs.specs.Record.{kindOf, verticesOf, edgesOf, bytesOf}
+use Rattle.record.specs.Layout.{WellFormed}
 use Rattle.memory.specs.Memory.{vertexRoom, edgeRoom, signatureRoom, Room, Scratch}
 use Rattle.accept.specs.Accept.{RoomToRead}
+
+-- ---- to read
+
+-- v vertices and e edges are enough to read the record bs, if its layout is right
+pub record FewToRead (v e : ℕ) (bs : List ℕ) : Type 0 where
+  pub vertices : WellFormed bs → verticesOf bs ≤ v
+  pub edges : WellFormed bs → edgesOf bs ≤ e
+
+-- the lengths of arrays for v vertices and e edges (`RoomToRead`)
+pub record SizedToRead (v e : ℕ) (es vs heads nexts nodes mp : List ℕ) : Type 0 where
+  pub es-is : length es ≡ 4 * e
+  pub vs-is : length vs ≡ 2 * v
+  pub heads-is : length heads ≡ 2 * v
+  pub nexts-is : length nexts ≡ 2 * e
+  pub nodes-is : length nodes ≡ v
+  pub mp-is : length mp ≡ v
+
+-- the same, with a mark for each vertex (`RoomToMark`)
+pub record SizedToMark (v e : ℕ) (es vs heads nexts nodes mp marks : List ℕ) : Type 0 where
+  pub reading : SizedToRead v e es vs heads nexts nodes mp
+  pub marks-is : length marks ≡ v
+
+-- ---- to rewrite
+
+-- Room for what becomes of the graph of bs, by the record's own counts: one vertex more than it has, for the empty one that cleanup may add; N,
+-- which is at most V and B together; and the edges, of which there may be E and a quarter of B more than vertices.
+pub record RoomToRewrite (bs heads nexts : List ℕ) : Type 0 where
+  pub vertices : WellFormed bs → kindOf bs ≡ 1 → verticesOf bs < vertexRoom heads
+  pub weight : WellFormed bs → kindOf bs ≡ 1 → verticesOf bs + bytesOf bs ≤ vertexRoom heads
+  pub edges : WellFormed bs → kindOf bs ≡ 1 → edgesOf bs + bytesOf bs / 4 + vertexRoom heads ≤ edgeRoom nexts
+
+-- the same, of v vertices and e edges
+pub record FewToRewrite (v e : ℕ) (bs : List ℕ) : Type 0 where
+  pub reading : FewToRead v e bs
+  pub vertices : WellFormed bs → kindOf bs ≡ 1 → verticesOf bs < v
+  pub weight : WellFormed bs → kindOf bs ≡ 1 → verticesOf bs + bytesOf bs ≤ v
+  pub edges : WellFormed bs → kindOf bs ≡ 1 → edgesOf bs + bytesOf bs / 4 + v ≤ e
 
 -- Slices lent for the record bs: room to read it and for every rewrite of its graph; and no more vertices and edges than an answer may have.
 pub record LentGraph (bs es vs p heads nexts nodes mp : List ℕ) : Type 0 where
   pub room : Room es vs p heads nexts nodes mp
-  pub roomy : RoomToRead bs heads nexts
+  pub reading : RoomToRead bs es vs heads nexts nodes mp
+  pub roomy : RoomToRewrite bs heads nexts
   pub vertices-most : vertexRoom heads ≤ 10240
   pub edges-most : edgeRoom nexts ≤ 16384
-
--- the same, with marks for the vertices
-pub record LentMarks (bs es vs p heads nexts nodes mp tried : List ℕ) : Type 0 where
-  pub graph : LentGraph bs es vs p heads nexts nodes mp
-  pub tried-room : vertexRoom heads ≤ length tried
 
 -- the same, with the lists of a round
 pub record Lent (bs es vs p heads nexts nodes mp starts tried sig : List ℕ) : Type 0 where
@@ -33,11 +68,6 @@ pub record SizedGraph (v e : ℕ) (es vs p heads nexts nodes mp : List ℕ) : Ty
   pub nexts-is : length nexts ≡ 2 * e
   pub nodes-is : length nodes ≡ e
   pub mp-is : length mp ≡ 2 * v
-
--- the same, with marks for the vertices
-pub record SizedMarks (v e : ℕ) (es vs p heads nexts nodes mp tried : List ℕ) : Type 0 where
-  pub graph : SizedGraph v e es vs p heads nexts nodes mp
-  pub tried-is : length tried ≡ v
 
 -- the same, with the lists of a round
 pub record Sized (v e : ℕ) (es vs p heads nexts nodes mp starts tried sig : List ℕ) : Type 0 where

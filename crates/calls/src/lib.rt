@@ -86,7 +86,15 @@ pub fn cleanup_answer(sent: Answer, status: u32, made: u32) -> CountedCleanup
     }
 }
 
-fn send_record(out: &mut [u8], status: u32, held: Held, es: &[u32], vs: &[u32], p: &[u8]) -> Answer
+// The record of a held graph, where it fits.
+pub fn send_record(
+    out: &mut [u8],
+    status: u32,
+    held: Held,
+    es: &[u32],
+    vs: &[u32],
+    p: &[u8],
+) -> Answer
     requires { ⌜ Sendable status held (now es) (now vs) (now p) ⌝ }
     ensures { λ r. ⌜ Responds (fits (length (now (out .entry)))
         (encode sequenceGraph status (graphOf held (now (es .entry)) (now (vs .entry)) (now (p .entry))))) (now (out .entry)) r (now (out .exit)) ⌝ }

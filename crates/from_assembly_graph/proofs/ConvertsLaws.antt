@@ -1,6 +1,6 @@
 -- The promise of from_assembly_graph. Assumes nothing.
 use mathlib.Core.Path.{_≡_, refl, sym, ap, _∙_, subst}
-use mathlib.Core.List.{List, _∷_}
+use mathlib.Core.List.{List, [], _∷_}
 use Prim.Native.Nat.{ℕ, _≤_, _<_}
 use native.Mathlib.Omega.{arith}
 use lib.ListN.{length, take}
@@ -9,14 +9,12 @@ use Rattle.defs.specs.SeqGraph.{Graph}
 use Rattle.defs.specs.Calls as D
 use Rattle.defs.specs.Calls.{callerCause, conversionCauses}
 use Rattle.defs.specs.Calls.{fromAssemblyGraphCauses, fromAssemblyGraphResponse, fromAssemblyGraphAnswer}
-use Rattle.defs.specs.Record.{kindOf, verticesOf, edgesOf, bytesOf, sequenceGraph, encode, decode}
+use Rattle.defs.specs.Record.{sequenceGraph, encode, decode}
 use Rattle.defs.specs.Refusals.{Cause, refusalOf, layoutCauses}
 use Rattle.defs.specs.Assembly.{edgesSorted, fromAssemblyGraph, SourcesHoldKmers, RunsAreKmers}
 use Rattle.defs.specs.Simplify.{sequenceBytes}
 use Rattle.laws.proofs.Fuel.{Good}
 use Rattle.laws.proofs.Causes.{numbers-other}
-use Rattle.record.specs.Layout.{WellFormed}
-use Rattle.record.proofs.Sequences.{length-is}
 use Rattle.reread.specs.Reread.{ReacceptedAs}
 use Rattle.reread.specs.Recordable.{SequenceInput, KmerInput}
 use Rattle.reread.proofs.Graphs.{input-reaccepted}
@@ -24,13 +22,19 @@ use Rattle.reread.proofs.Read.{Bytes, kmer-input}
 use Rattle.convert.proofs.SortLaws.{of-sort, length-sort, single-sort}
 use Rattle.calls.specs.Sending.{Responds, GraphSendable, SendsGraph}
 use Rattle.calls.specs.declared.Answer.{Answer}
+use Rattle.calls.proofs.SendLaws.{sends-refused}
 use Rattle.calls.proofs.ResponseLaws.{answered-holds, room-enough}
 use Rattle.calls.proofs.CallerLaws.{caller-other, caller-none, sends-above, sends-within}
 use Rattle.overlap.proofs.Runs.{order-converted, sources-hold-kmers, runs-are-kmers}
-use Rattle.read_kmers.proofs.KmerLaws.{kmer-bytes-least, kmer-bytes-most}
-use Rattle.from_kmers.specs.Conversion.{RoomToConvert, ConvertedAs}
+use Rattle.arrays.specs.Sized.{FewToRead}
+use Rattle.arrays.proofs.SizedLaws.{all-to-read}
+use Rattle.memory.specs.declared.Held.{Held}
 use Rattle.accept.specs.declared.Read.{Read}
-use Rattle.from_kmers.proofs.ConversionLaws.{conversion-numbered, none-early, none-late, all-overlap}
+use Rattle.accept.specs.declared.Read.the-variants as read
+use Rattle.accept.specs.declared.Read.the-variants.{Refused}
+use Rattle.read_kmers.specs.Kmers.{overlappingCauses, KmersRead}
+use Rattle.from_kmers.specs.Conversion.{RoomToConvert, ConvertedAs, KmersConverted}
+use Rattle.from_kmers.proofs.ConversionLaws.{conversion-numbered, none-early, none-late, all-overlap, refused, converted-as}
 use Rattle.from_assembly_graph.specs.Converts.{conversionResponse, Converts, SizedToConvert}
 
 -- ---- the converted graph is within the limits of input
@@ -81,14 +85,21 @@ convert-runs bs small none =
 
 -- ---- what is sent
 
-module _ {bs : List ℕ} {r : Read} {sorted vs p : List ℕ} (C : ConvertedAs bs r sorted vs p) where
-  pub converted-sendable : GraphSendable 0 r sorted vs p
-  converted-sendable = record { sendable = C .sendable }
-
-  pub converted-sent : {out out′ : List ℕ} {s : Answer} → SendsGraph 0 r sorted vs p out s out′
-      → Responds (conversionResponse bs (length out)) out s out′
+module _ {bs : List ℕ} {r : Read} {sorted vs : List ℕ} (C : ConvertedAs bs r sorted vs) {out out′ : List ℕ} {s : Answer} where
+  converted-sent : SendsGraph 0 r sorted vs bs out s out′ → Responds (conversionResponse bs (length out)) out s out′
   converted-sent S = S .is (conversionCauses bs) (D.convertedRecord bs)
       record { numbered = conversion-numbered bs; number = C .number; is = λ h ok. ap (encode sequenceGraph 0) (C .is h ok); refused = C .refused }
+
+module _ {bs : List ℕ} {r : Read} {es vs heads nexts order : List ℕ} (A : KmersRead (overlappingCauses bs) bs r es vs heads nexts order) where
+  pub refused-sent : {n : ℕ} → r ≡ Refused n → {out : List ℕ} → Responds (conversionResponse bs (length out)) out record { number = n; length = 0 } out
+  refused-sent f = converted-sent (refused A {es₂ = []} {vs₂ = []} f) (sends-refused refl)
+
+  module _ {h : Held} (ok : r ≡ read.Graph h) {made : Read} {sorted vs′ : List ℕ} (K : KmersConverted h es vs heads nexts order made sorted vs′) where
+    pub made-sendable : GraphSendable 0 made sorted vs′ bs
+    made-sendable = record { sendable = converted-as A ok K .sendable }
+
+    pub made-sent : {out out′ : List ℕ} {s : Answer} → SendsGraph 0 made sorted vs′ bs out s out′ → Responds (conversionResponse bs (length out)) out s out′
+    made-sent S = converted-sent (converted-as A ok K) S
 
 -- ---- the whole call
 
@@ -135,59 +146,33 @@ module _ (bs : List ℕ) {caller : ℕ} {out : List ℕ} (small : Bytes bs) wher
 
 -- ---- room
 
--- v vertices, e edges and b bytes of k-mers are enough for the record bs; o is the larger of v and e
-record Enough (v e b o : ℕ) (bs : List ℕ) : Type 0 where
-  vertices : WellFormed bs → kindOf bs ≡ 0 → verticesOf bs ≤ v
-  edges : WellFormed bs → edgesOf bs ≤ e
-  bytes : WellFormed bs → kindOf bs ≡ 0 → bytesOf bs ≤ b
-  more-vertices : v ≤ o
-  more-edges : e ≤ o
-
-large : (bs : List ℕ) → Enough 2048 4096 262144 4096 bs
-large bs = record {
-  vertices = λ W z. W .vertices;
-  edges = λ W. W .edges;
-  bytes = λ W z. omega (arith, kmer-bytes-most bs W z);
-  more-vertices = omega arith;
-  more-edges = omega arith;
-}
-
-small : (bs : List ℕ) → length bs ≤ 4096 → Enough 1016 451 4064 1016 bs
-small bs l = record {
-  vertices = λ W z. omega (arith, length-is bs W, kmer-bytes-least bs W z);
-  edges = λ W. omega (arith, length-is bs W);
-  bytes = λ W z. omega (arith, length-is bs W);
-  more-vertices = omega arith;
-  more-edges = omega arith;
-}
-
-module _ {bs es vs p heads nexts order scratch place sorted : List ℕ} where
-  roomy : {v e b o : ℕ} → Enough v e b o bs → SizedToConvert v e b o es vs p heads nexts order scratch place sorted
-      → RoomToConvert bs es vs p heads nexts order scratch place sorted
-  roomy S Z = record {
+module _ {bs es vs heads nexts order scratch place sorted : List ℕ} where
+  room-to-convert : {v e : ℕ} → v ≤ e → FewToRead v e bs → SizedToConvert v e es vs heads nexts order scratch place sorted
+      → RoomToConvert bs es vs heads nexts order scratch place sorted
+  room-to-convert more F Z = record {
     reading = record {
       reading = record {
-        room = λ W z. record {
-          es-room = omega (arith, S .edges W, Z .es-is);
-          vs-room = omega (arith, S .vertices W z, Z .vs-is);
-          p-room = omega (arith, S .bytes W z, Z .p-is);
-          heads-room = omega (arith, S .vertices W z, Z .heads-is);
-          nexts-room = omega (arith, S .edges W, Z .nexts-is);
-          order-room = omega (arith, S .vertices W z, S .more-vertices, Z .order-is);
-          scratch-room = omega (arith, S .vertices W z, S .more-vertices, Z .scratch-is);
+        room = λ W. record {
+          es-room = omega (arith, F .edges W, Z .es-is);
+          vs-room = omega (arith, F .vertices W, Z .vs-is);
+          heads-room = omega (arith, F .vertices W, Z .heads-is);
+          nexts-room = omega (arith, F .edges W, Z .nexts-is);
+          nodes-room = omega (arith, F .vertices W, more, Z .order-is);
+          mp-room = omega (arith, F .vertices W, more, Z .scratch-is);
         };
       };
-      place-room = λ W z. omega (arith, S .vertices W z, Z .place-is);
+      marks-room = λ W. omega (arith, F .vertices W, Z .place-is);
     };
-    order-room = λ W. omega (arith, S .edges W, S .more-edges, Z .order-is);
-    scratch-room = λ W. omega (arith, S .edges W, S .more-edges, Z .scratch-is);
-    sorted-room = λ W. omega (arith, S .edges W, Z .sorted-is);
+    order-room = λ W. omega (arith, F .edges W, Z .order-is);
+    scratch-room = λ W. omega (arith, F .edges W, Z .scratch-is);
+    sorted-room = λ W. omega (arith, F .edges W, Z .sorted-is);
   }
 
-  pub large-roomy : SizedToConvert 2048 4096 262144 4096 es vs p heads nexts order scratch place sorted
-      → RoomToConvert bs es vs p heads nexts order scratch place sorted
-  large-roomy = roomy (large bs)
+  -- of the two classes
+  pub large-roomy : SizedToConvert 2048 4096 es vs heads nexts order scratch place sorted
+      → RoomToConvert bs es vs heads nexts order scratch place sorted
+  large-roomy = room-to-convert (omega arith) (all-to-read bs)
 
-  pub small-roomy : length bs ≤ 4096 → SizedToConvert 1016 451 4064 1016 es vs p heads nexts order scratch place sorted
-      → RoomToConvert bs es vs p heads nexts order scratch place sorted
-  small-roomy l = roomy (small bs l)
+  pub small-roomy : FewToRead 512 512 bs → SizedToConvert 512 512 es vs heads nexts order scratch place sorted
+      → RoomToConvert bs es vs heads nexts order scratch place sorted
+  small-roomy = room-to-convert (omega arith)

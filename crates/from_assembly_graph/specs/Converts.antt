@@ -27,15 +27,14 @@ pub record Converts (bs out : List ℕ) (caller : ℕ) (r : Answer) (out′ : Li
 abbrev pub conversionResponse : List ℕ → ℕ → Response
 conversionResponse bs room = respond (withOutput (conversionCauses bs) room (convertedRecord bs)) (convertedRecord bs)
 
--- the lengths of arrays for v vertices, e edges, once in the record's order and once sorted, and b bytes of k-mers; o numbers of vertices, then
--- of edges, stand in an array
-pub record SizedToConvert (v e b o : ℕ) (es vs p heads nexts order scratch place sorted : List ℕ) : Type 0 where
+-- the lengths of arrays for v vertices and e edges, once in the record's order and once sorted; numbers of vertices, then of edges, of which there
+-- may be more, stand in `order` and `scratch`
+pub record SizedToConvert (v e : ℕ) (es vs heads nexts order scratch place sorted : List ℕ) : Type 0 where
   pub es-is : length es ≡ 4 * e
   pub vs-is : length vs ≡ 2 * v
-  pub p-is : length p ≡ b
   pub heads-is : length heads ≡ 2 * v
   pub nexts-is : length nexts ≡ 2 * e
-  pub order-is : length order ≡ o
-  pub scratch-is : length scratch ≡ o
+  pub order-is : length order ≡ e
+  pub scratch-is : length scratch ≡ e
   pub place-is : length place ≡ v
   pub sorted-is : length sorted ≡ 4 * e

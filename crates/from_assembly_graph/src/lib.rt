@@ -1,63 +1,25 @@
 // The public call `from_assembly_graph`: a k-mer record's graph as a sequence graph's record. Nothing is asked of the caller.
-ghost use Prim.Native.Nat.{_≤_};
 ghost use lib.ListN.{length};
 ghost use Rattle.calls.specs.Sending.{Responds};
-ghost use Rattle.from_kmers.specs.Conversion.{RoomToConvert};
+ghost use Rattle.arrays.specs.Sized.{FewToRead};
 ghost use Rattle.from_assembly_graph.specs.Converts.{conversionResponse, Converts};
+use accept::Read;
+use arrays::FEW_EDGES;
+use arrays::FEW_VERTICES;
+use arrays::SMALL_RECORD;
 use calls::Answer;
 use record::MOST_EDGES;
-use record::MOST_KMER_BYTES;
 use record::MOST_VERTICES;
 use tallies::LAST_CALLER;
 
-// For a record of at most 4,096 bytes, of which 32 are its head, nine stand for each edge, and two for each vertex beside its k-mer, which has
-// at least two: a tenth of the room, and so less time to clear it.
-const SMALL_RECORD: usize = 4096;
-
-const SMALL_VERTICES: usize = 1016;
-
-const SMALL_EDGES: usize = 451;
-
-const SMALL_BYTES: usize = 4064;
-
-fn convert_in(
-    rec: &[u8],
-    out: &mut [u8],
-    es: &mut [u32],
-    vs: &mut [u32],
-    p: &mut [u8],
-    heads: &mut [u32],
-    nexts: &mut [u32],
-    order: &mut [u32],
-    scratch: &mut [u32],
-    place: &mut [u32],
-    sorted: &mut [u32],
-) -> Answer
-    requires { ⌜ RoomToConvert (now rec) (now es) (now vs) (now p) (now heads) (now nexts) (now order) (now scratch) (now place) (now sorted) ⌝ }
-    ensures { λ r. ⌜ Responds (conversionResponse (now (rec .entry)) (length (now (out .entry)))) (now (out .entry)) r (now (out .exit)) ⌝ }
-{
-    let read = from_kmers::read_and_convert(
-        rec,
-        es,
-        vs,
-        p,
-        heads,
-        nexts,
-        order,
-        scratch,
-        place,
-        sorted,
-    );
-    calls::send(read, 0, out, sorted, vs, p)
-}
-
-// Whole arrays, whose lengths are known. `order` and `scratch` hold numbers of vertices, then of edges.
+// Whole arrays, whose lengths are known. A record is read here, and not in a function that both classes call: were there only one call here, the
+// compiler would lay this function's caller, and so the frames of both classes, into one. `order` and `scratch` hold numbers of vertices, then of
+// edges.
 fn large_with(
     rec: &[u8],
     out: &mut [u8],
     es: &mut [u32; 4 * MOST_EDGES],
     vs: &mut [u32; 2 * MOST_VERTICES],
-    p: &mut [u8; MOST_KMER_BYTES],
     heads: &mut [u32; 2 * MOST_VERTICES],
     nexts: &mut [u32; 2 * MOST_EDGES],
     order: &mut [u32; MOST_EDGES],
@@ -67,19 +29,24 @@ fn large_with(
 ) -> Answer
     ensures { λ r. ⌜ Responds (conversionResponse (now (rec .entry)) (length (now (out .entry)))) (now (out .entry)) r (now (out .exit)) ⌝ }
 {
-    convert_in(
+    let held = match read_kmers::read_overlapping_kmer_graph(
         rec,
-        out,
         es,
         vs,
-        p,
         heads,
         nexts,
         order,
         scratch,
         place,
-        sorted,
-    )
+    ) {
+        Read::Graph(held) => held,
+        Read::Refused(number) => return Answer {
+            number: number,
+            length: 0,
+        },
+    };
+    let made = from_kmers::convert(held, es, vs, heads, nexts, order, scratch, place, sorted);
+    calls::send(made, 0, out, sorted, vs, rec)
 }
 
 fn large(rec: &[u8], out: &mut [u8]) -> Answer
@@ -87,7 +54,6 @@ fn large(rec: &[u8], out: &mut [u8]) -> Answer
 {
     let mut es = [0u32; 4 * MOST_EDGES];
     let mut vs = [0u32; 2 * MOST_VERTICES];
-    let mut p = [0u8; MOST_KMER_BYTES];
     let mut heads = [0u32; 2 * MOST_VERTICES];
     let mut nexts = [0u32; 2 * MOST_EDGES];
     let mut order = [0u32; MOST_EDGES];
@@ -99,7 +65,6 @@ fn large(rec: &[u8], out: &mut [u8]) -> Answer
         out,
         &mut es,
         &mut vs,
-        &mut p,
         &mut heads,
         &mut nexts,
         &mut order,
@@ -112,53 +77,55 @@ fn large(rec: &[u8], out: &mut [u8]) -> Answer
 fn small_with(
     rec: &[u8],
     out: &mut [u8],
-    es: &mut [u32; 4 * SMALL_EDGES],
-    vs: &mut [u32; 2 * SMALL_VERTICES],
-    p: &mut [u8; SMALL_BYTES],
-    heads: &mut [u32; 2 * SMALL_VERTICES],
-    nexts: &mut [u32; 2 * SMALL_EDGES],
-    order: &mut [u32; SMALL_VERTICES],
-    scratch: &mut [u32; SMALL_VERTICES],
-    place: &mut [u32; SMALL_VERTICES],
-    sorted: &mut [u32; 4 * SMALL_EDGES],
+    es: &mut [u32; 4 * FEW_EDGES],
+    vs: &mut [u32; 2 * FEW_VERTICES],
+    heads: &mut [u32; 2 * FEW_VERTICES],
+    nexts: &mut [u32; 2 * FEW_EDGES],
+    order: &mut [u32; FEW_EDGES],
+    scratch: &mut [u32; FEW_EDGES],
+    place: &mut [u32; FEW_VERTICES],
+    sorted: &mut [u32; 4 * FEW_EDGES],
 ) -> Answer
-    requires { ⌜ length (now rec) ≤ 4096 ⌝ }
+    requires { ⌜ FewToRead 512 512 (now rec) ⌝ }
     ensures { λ r. ⌜ Responds (conversionResponse (now (rec .entry)) (length (now (out .entry)))) (now (out .entry)) r (now (out .exit)) ⌝ }
 {
-    convert_in(
+    let held = match read_kmers::read_overlapping_kmer_graph(
         rec,
-        out,
         es,
         vs,
-        p,
         heads,
         nexts,
         order,
         scratch,
         place,
-        sorted,
-    )
+    ) {
+        Read::Graph(held) => held,
+        Read::Refused(number) => return Answer {
+            number: number,
+            length: 0,
+        },
+    };
+    let made = from_kmers::convert(held, es, vs, heads, nexts, order, scratch, place, sorted);
+    calls::send(made, 0, out, sorted, vs, rec)
 }
 
 fn small(rec: &[u8], out: &mut [u8]) -> Answer
-    requires { ⌜ length (now rec) ≤ 4096 ⌝ }
+    requires { ⌜ FewToRead 512 512 (now rec) ⌝ }
     ensures { λ r. ⌜ Responds (conversionResponse (now (rec .entry)) (length (now (out .entry)))) (now (out .entry)) r (now (out .exit)) ⌝ }
 {
-    let mut es = [0u32; 4 * SMALL_EDGES];
-    let mut vs = [0u32; 2 * SMALL_VERTICES];
-    let mut p = [0u8; SMALL_BYTES];
-    let mut heads = [0u32; 2 * SMALL_VERTICES];
-    let mut nexts = [0u32; 2 * SMALL_EDGES];
-    let mut order = [0u32; SMALL_VERTICES];
-    let mut scratch = [0u32; SMALL_VERTICES];
-    let mut place = [0u32; SMALL_VERTICES];
-    let mut sorted = [0u32; 4 * SMALL_EDGES];
+    let mut es = [0u32; 4 * FEW_EDGES];
+    let mut vs = [0u32; 2 * FEW_VERTICES];
+    let mut heads = [0u32; 2 * FEW_VERTICES];
+    let mut nexts = [0u32; 2 * FEW_EDGES];
+    let mut order = [0u32; FEW_EDGES];
+    let mut scratch = [0u32; FEW_EDGES];
+    let mut place = [0u32; FEW_VERTICES];
+    let mut sorted = [0u32; 4 * FEW_EDGES];
     small_with(
         rec,
         out,
         &mut es,
         &mut vs,
-        &mut p,
         &mut heads,
         &mut nexts,
         &mut order,
@@ -168,13 +135,21 @@ fn small(rec: &[u8], out: &mut [u8]) -> Answer
     )
 }
 
+// In the arrays of the record's class. The large ones stand behind two tests: with one call of `large` the compiler would lay its frame into this
+// one, and every record would take it.
 fn convert(rec: &[u8], out: &mut [u8]) -> Answer
     ensures { λ r. ⌜ Responds (conversionResponse (now (rec .entry)) (length (now (out .entry)))) (now (out .entry)) r (now (out .exit)) ⌝ }
 {
     if rec.len() <= SMALL_RECORD {
         return small(rec, out);
     }
-    large(rec, out)
+    if FEW_VERTICES < record::vertex_count(rec) {
+        return large(rec, out);
+    }
+    if FEW_EDGES < record::edge_count(rec) {
+        return large(rec, out);
+    }
+    small(rec, out)
 }
 
 // A caller above 15 is refused before the record is looked at.

@@ -1,94 +1,132 @@
 -- Reading, then what the call does with the graph. Assumes nothing.
 use mathlib.Core.Path.{_≡_, refl, sym, ap, _∙_, subst}
 use mathlib.Core.List.{List}
-use Prim.Native.Nat.{ℕ, _≤_, _<_}
+use Prim.Native.Nat.{ℕ, _+_, _*_, _≤_, _<_}
 use native.Mathlib.Omega.{arith}
-use lib.ListN.{length}
+use lib.ListN.{length, getD}
+use Rattle.defs.specs.SeqGraph.{Graph}
+use Rattle.defs.specs.Simplify.{sequenceBytes}
 use Rattle.defs.specs.Cleanup.{cleanNonRefPaths}
-use Rattle.defs.specs.Record.{sequenceGraph, encode, decode}
+use Rattle.defs.specs.Record.{sequenceGraph, bytesOf, encode}
 use Rattle.defs.specs.Refusals.{sequenceOnly, layoutCauses, recordCauses, recordRefusal}
-use Rattle.defs.specs.Calls.{refused, cleanNonRefPathsCauses, cleanNonRefPathsResponse}
+use Rattle.defs.specs.Calls.{refused, reducedRecord, cleanNonRefPathsCauses, cleanNonRefPathsResponse}
 use Rattle.defs.specs.Calls.{referencePathBytesCauses, referencePathBytesResponse, pathBasesBytesCauses, pathBasesBytesResponse}
+use Rattle.tabs.proofs.SumTabs.{sum-most}
+use Rattle.record.proofs.Accepted.{sequence-kind}
+use Rattle.record.proofs.Sequences.{length-is}
+use Rattle.store.specs.Store.{Within}
 use Rattle.compact.specs.Compact.{Compactable}
 use Rattle.index.specs.Index.{Indexable}
-use Rattle.memory.specs.Memory.{graphOf, Holds}
+use Rattle.memory.specs.Memory.{graphOf}
 use Rattle.memory.specs.declared.Held.{Held}
-use Rattle.memory.proofs.RoomLaws.{room-kept, fit-bytes}
+use Rattle.sound.proofs.Accepted.{accepted-early, accepted-layout, accepted-good, read-bytes}
 use Rattle.reach.specs.Reach.{Walkable}
 use Rattle.orphans.specs.Orphans.{Reduced}
-use Rattle.accept.specs.Accept.{ReadAs}
+use Rattle.accept.specs.Accept.{RoomToMark, ReadAs}
 use Rattle.accept.specs.declared.Read.{Read}
 use Rattle.accept.specs.declared.Read.the-variants as read
-use Rattle.accept.proofs.AcceptLaws.{not-both, number-graph, same-held, read-none, read-number}
-use Rattle.paths.proofs.BytesLaws.{held-spellable}
-use Rattle.choice.proofs.ChoiceLaws.{lean-holds, holds-lean-kept, reduced-lean, held-compactable, held-indexable, held-walkable}
-use Rattle.cleanup_room.proofs.ReadLean.{read-lean}
-use Rattle.cleanup_room.proofs.CleanLean.{clean-lean}
-use Rattle.arrays.specs.Sized.{LentMarks}
-use Rattle.calls.specs.Sending.{Sendable, Responds, GraphSendable, SendsGraph}
+use Rattle.accept.proofs.AcceptLaws.{read-none, read-number}
+use Rattle.write_record.specs.Written.{Measured}
+use Rattle.calls.specs.Sending.{fits, Sendable, Responds}
 use Rattle.calls.specs.declared.Answer.{Answer}
-use Rattle.calls.proofs.SendLaws.{held-sendable, responds-refused, responds-as}
-use Rattle.calls.proofs.ResponseLaws.{respond-refused}
+use Rattle.calls.proofs.SendLaws.{responds-refused, responds-as}
+use Rattle.calls.proofs.ResponseLaws.{respond-refused, respond-fits}
 use Rattle.calls.proofs.CauseLaws.{record-numbered}
 use Rattle.calls.proofs.CallerLaws.{respond-above, respond-within}
 use Rattle.reading_calls.specs.Reading.{cleaningResponse, referenceResponse, pathResponse, readingResponse, readingResponseTo}
-use Rattle.reading_calls.specs.Reading.{Answerable, Tellable, GraphAnswered, ReadAnswerable, ReadAnswered}
+use Rattle.reading_calls.specs.Reading.{Answerable, GraphAnswered}
 use Rattle.reading_calls.specs.declared.ReadingCall.{ReadingCall}
 use Rattle.reading_calls.specs.declared.ReadingCall.the-variants.{CleanNonRefPaths, ReferencePathBytes, PathBasesBytes}
 use Rattle.reading_calls.proofs.BytesLaws.{reference-refused, path-refused}
 
--- what is lent is room enough for what was read
-module _ {bs es vs p heads nexts nodes mp tried : List ℕ} (Z : LentMarks bs es vs p heads nexts nodes mp tried) where
-  pub lent-answerable : {x : Read} {es′ vs′ p′ heads′ nexts′ nodes′ mp′ : List ℕ} → ReadAs bs heads nexts x es′ vs′ p′
-      → length es′ ≡ length es → length vs′ ≡ length vs → length p′ ≡ length p → length heads′ ≡ length heads → length nexts′ ≡ length nexts
-      → length nodes′ ≡ length nodes → length mp′ ≡ length mp
-      → ReadAnswerable x es′ vs′ p′ heads′ nexts′ nodes′ mp′ tried
-  lent-answerable A la lb lc ld le lf lg = record {
-    answerable = λ h ok. record {
-      room = room-kept (Z .graph .room) la lb lc ld le lf lg;
-      holds = holds-lean-kept (read-lean A (Z .graph .roomy) ok) ld le;
-      tried-room = omega (arith, ld, Z .tried-room);
-      vertices-most = omega (arith, ld, Z .graph .vertices-most);
-      edges-most = omega (arith, le, Z .graph .edges-most);
-    };
-  }
+-- the room is enough for what was read
+module _ {bs es vs heads nexts nodes mp tried : List ℕ} (Z : RoomToMark bs es vs heads nexts nodes mp tried) where
+  pub room-answerable : {x : Read} → ReadAs bs x es vs → {h : Held} → x ≡ read.Graph h → Answerable h es vs bs heads nexts nodes mp tried
+  room-answerable A {h} ok =
+      let z = read-none A ok in
+      let L = A .loaded h ok in
+      let W = accepted-layout sequenceOnly bs z in
+      let R = Z .reading .room W in
+      let bytes = W .bytes (sequence-kind bs (accepted-early sequenceOnly bs z)) in
+      let total : sequenceBytes (graphOf h es vs bs .verts) ≡ bytesOf bs = ap (λ (g : Graph). sequenceBytes (g .verts)) (L .is) ∙ read-bytes bs W in
+      record {
+        tellable = record {
+          indexable = record {
+            room = omega (arith, L .m, R .es-room);
+            heads-room = omega (arith, L .n, R .heads-room);
+            nexts-room = omega (arith, L .m, R .nexts-room);
+            small = omega (arith, L .m, W .edges);
+            ends = L .ends;
+          };
+          spellable = record {
+            sound = rw (L .is) (accepted-good sequenceOnly bs z .0);
+            within = L .within;
+            vs-room = omega (arith, L .n, R .vs-room);
+            nodes-room = omega (arith, L .n, R .nodes-room);
+            small = omega (arith, L .n, W .vertices);
+            bytes = omega (arith, total, length-is bs W);
+          };
+          few = omega (arith, total, bytes);
+        };
+        compactable = record {
+          es-room = omega (arith, L .m, R .es-room);
+          vs-room = omega (arith, L .n, R .vs-room);
+          mp-room = omega (arith, L .n, R .mp-room);
+          small = omega (arith, L .n, W .vertices);
+          ends = L .ends;
+        };
+        walkable = record {
+          marks-room = omega (arith, L .n, Z .marks-room W);
+          queue-room = omega (arith, L .n, R .nodes-room);
+          small = omega (arith, L .n, W .vertices);
+        };
+        vertices = omega (arith, L .n, W .vertices);
+        edges = omega (arith, L .m, W .edges);
+        short = omega (arith, length-is bs W, W .vertices, W .edges, bytes);
+      }
 
 module _ {h : Held} {es vs p heads nexts nodes mp tried : List ℕ} (Q : Answerable h es vs p heads nexts nodes mp tried) where
-  pub answerable-tellable : Tellable h es vs p heads nexts nodes
-  answerable-tellable = record {
-    indexable = held-indexable (Q .room) (lean-holds (Q .holds));
-    spellable = held-spellable (Q .room) (lean-holds (Q .holds));
-    few = omega (arith, fit-bytes (lean-holds (Q .holds) .fit), Q .vertices-most);
-  }
-
   pub answerable-walkable : Compactable (h .n) (h .m) es vs mp × (Indexable (h .m) (h .n) es heads nexts × Walkable (h .n) tried nodes)
-  answerable-walkable =
-      let H = lean-holds (Q .holds) in
-      (held-compactable (Q .room) H, (held-indexable (Q .room) H, held-walkable (Q .room) H (Q .tried-room)))
+  answerable-walkable = (Q .compactable, (Q .tellable .indexable, Q .walkable))
 
   -- the cleaned graph's record can be written where it fits
   pub cleaned-sendable : {c : Held} {es′ vs′ : List ℕ} → Reduced cleanNonRefPaths h es vs c es′ vs′ → length es′ ≡ length es → length vs′
-      ≡ length vs → GraphSendable 0 (read.Graph c) es′ vs′ p
+      ≡ length vs → Sendable 0 c es′ vs′ p
   cleaned-sendable {c} {es′} {vs′} R a b = record {
-    sendable = λ x e. subst (λ (y : Held). Sendable 0 y es′ vs′ p) (same-held e)
-        (held-sendable 0 (omega arith) (omega (arith, Q .vertices-most)) (omega (arith, Q .edges-most))
-        (room-kept {heads′ = heads} {nexts′ = nexts} {nodes′ = nodes} {mp′ = mp} (Q .room) a b refl refl refl refl refl) held);
+    measured = measured;
+    within = within;
+    writable = λ out room. record {
+      status-fits = omega arith;
+      n-fits = omega (arith, R .most-n, Q .vertices);
+      m-fits = omega (arith, R .most-m, Q .edges);
+      lengths-fit = λ v l. omega (arith, size-most v l);
+      ends = R .ends;
+      es-room = omega (arith, a, R .most-m, Q .compactable .es-room);
+      within = within;
+      measured = measured;
+      room = room;
+    };
   }
     where
-      held : Holds c es′ vs′ p heads nexts
-      held = lean-holds (reduced-lean R (Q .holds) (clean-lean (graphOf h es vs p) (Q .holds .lean)))
+      within : Within (length p) (c .n) vs′
+      within = R .within (length p) (Q .tellable .spellable .within)
+
+      size-most : (v : ℕ) → v < c .n → getD vs′ (2 * v + 1) 0 ≤ 49184
+      size-most v l = omega (arith, within .at v l, Q .short)
+
+      measured : Measured c vs′
+      measured = record {
+        vs-room = omega (arith, b, R .most-n, Q .compactable .vs-room);
+        small =
+            omega (arith, R .most-n, R .most-m, Q .vertices, Q .edges, sum-most 49184 (c .n) (λ (v : ℕ). getD vs′ (2 * v + 1) 0) size-most);
+      }
 
 pub cleaned-answered : {h : Held} {es vs p : List ℕ} {c : Held} {es′ vs′ out out′ : List ℕ} {s : Answer} → Reduced cleanNonRefPaths h es vs c es′ vs′
-    → SendsGraph 0 (read.Graph c) es′ vs′ p out s out′ → GraphAnswered cleaningResponse h es vs p out s out′
+    → Responds (fits (length out) (encode sequenceGraph 0 (graphOf c es′ vs′ p))) out s out′ → GraphAnswered cleaningResponse h es vs p out s out′
 unfolding cleaningResponse recordRefusal
-cleaned-answered {p = p} {es′ = es′} {vs′ = vs′} R S = record {
-  is = λ bs z e. S .is (recordCauses sequenceOnly bs) (encode sequenceGraph 0 (cleanNonRefPaths (decode bs))) record {
-    numbered = record-numbered sequenceOnly bs;
-    number = number-graph refl ∙ sym z;
-    is = λ x q. ap (encode sequenceGraph 0)
-        (subst (λ (y : Held). graphOf y es′ vs′ p ≡ cleanNonRefPaths (decode bs)) (same-held q) (R .is p ∙ ap cleanNonRefPaths e));
-    refused = λ n q. not-both refl q;
-  };
+cleaned-answered {p = p} {out = out} {out′} {s} R S = record {
+  is = λ bs z e. responds-as (respond-fits (recordCauses sequenceOnly bs) (length out) (reducedRecord bs) (record-numbered sequenceOnly bs) z)
+      (subst (λ (g : Graph). Responds (fits (length out) (encode sequenceGraph 0 g)) out s out′) (R .is p ∙ ap cleanNonRefPaths e) S);
 }
 
 -- a record that is refused is refused by every call
@@ -103,35 +141,36 @@ call-refused CleanNonRefPaths list bs room e o = clean-refused bs room e o
 call-refused ReferencePathBytes list bs room e o = reference-refused bs room e o
 call-refused (PathBasesBytes start) list bs room e o = path-refused bs start list room e o
 
--- by the case of what was read, and of the call
-module _ (call : ReadingCall) (list : List ℕ) {x : Read} {es vs p out : List ℕ} where
-  pub answer-refused : {n : ℕ} → x ≡ read.Refused n → ReadAnswered (readingResponse call list) x es vs p out record { number = n; length = 0 } out
-  answer-refused {n} f = record {
-    is = λ bs heads nexts A. responds-refused (call-refused call list bs (length out) (read-number A f) (A .refused n f)) refl refl;
-  }
+-- ---- the call that was asked for
 
-  module _ {h : Held} (ok : x ≡ read.Graph h) {s : Answer} {out′ : List ℕ} where
-    by-call : {which : ReadingCall} → call ≡ which → GraphAnswered (readingResponse which list) h es vs p out s out′
-        → ReadAnswered (readingResponse call list) x es vs p out s out′
-    by-call w G = record {
-      is = λ bs heads nexts A. subst (λ (y : ReadingCall). Responds (readingResponse y list bs (length out)) out s out′) (sym w)
-          (G .is bs (read-none A ok) (A .is h ok));
-    }
+module _ (call : ReadingCall) (list : List ℕ) {h : Held} {es vs p out : List ℕ} {s : Answer} {out′ : List ℕ} where
+  by-call : {which : ReadingCall} → call ≡ which → GraphAnswered (readingResponse which list) h es vs p out s out′
+      → GraphAnswered (readingResponse call list) h es vs p out s out′
+  by-call w G = subst (λ (y : ReadingCall). GraphAnswered (readingResponse y list) h es vs p out s out′) (sym w) G
 
-    pub answer-cleaned : call ≡ CleanNonRefPaths → GraphAnswered cleaningResponse h es vs p out s out′
-        → ReadAnswered (readingResponse call list) x es vs p out s out′
-    unfolding readingResponse
-    answer-cleaned w G = by-call w G
+  pub answer-cleaned : call ≡ CleanNonRefPaths → GraphAnswered cleaningResponse h es vs p out s out′ → GraphAnswered (readingResponse call list) h es vs p out s out′
+  unfolding readingResponse
+  answer-cleaned w G = by-call w G
 
-    pub answer-reference : call ≡ ReferencePathBytes → GraphAnswered referenceResponse h es vs p out s out′
-        → ReadAnswered (readingResponse call list) x es vs p out s out′
-    unfolding readingResponse
-    answer-reference w G = by-call w G
+  pub answer-reference : call ≡ ReferencePathBytes → GraphAnswered referenceResponse h es vs p out s out′
+      → GraphAnswered (readingResponse call list) h es vs p out s out′
+  unfolding readingResponse
+  answer-reference w G = by-call w G
 
-    pub answer-path : {start : ℕ} → call ≡ PathBasesBytes start → GraphAnswered (pathResponse start list) h es vs p out s out′
-        → ReadAnswered (readingResponse call list) x es vs p out s out′
-    unfolding readingResponse
-    answer-path w G = by-call w G
+  pub answer-path : {start : ℕ} → call ≡ PathBasesBytes start → GraphAnswered (pathResponse start list) h es vs p out s out′
+      → GraphAnswered (readingResponse call list) h es vs p out s out′
+  unfolding readingResponse
+  answer-path w G = by-call w G
+
+-- ---- a record
+
+module _ (call : ReadingCall) (list : List ℕ) {bs : List ℕ} {x : Read} {es vs : List ℕ} (A : ReadAs bs x es vs) {out : List ℕ} where
+  pub record-refused : {n : ℕ} → x ≡ read.Refused n → Responds (readingResponse call list bs (length out)) out record { number = n; length = 0 } out
+  record-refused {n} f = responds-refused (call-refused call list bs (length out) (read-number A f) (A .refused n f)) refl refl
+
+  pub record-answered : {h : Held} → x ≡ read.Graph h → {s : Answer} {out′ : List ℕ} → GraphAnswered (readingResponse call list) h es vs bs out s out′
+      → Responds (readingResponse call list bs (length out)) out s out′
+  record-answered {h} ok G = G .is bs (read-none A ok) (A .loaded h ok .is)
 
 -- ---- a caller
 

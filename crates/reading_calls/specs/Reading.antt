@@ -8,16 +8,14 @@ use Rattle.defs.specs.Record.{decode}
 use Rattle.defs.specs.Refusals.{sequenceOnly, recordCauses, recordRefusal}
 use Rattle.defs.specs.Calls.{Response, respond, reducedRecord, referenceCause, referenceBytes, pathCause, pathBytes}
 use Rattle.defs.specs.Calls.{cleanNonRefPathsResponse, referencePathBytesResponse, pathBasesBytesResponse}
+use Rattle.compact.specs.Compact.{Compactable}
 use Rattle.index.specs.Index.{Indexable}
-use Rattle.memory.specs.Memory.{graphOf, vertexRoom, edgeRoom, Room}
+use Rattle.memory.specs.Memory.{graphOf}
 use Rattle.memory.specs.declared.Held.{Held}
-use Rattle.accept.specs.Accept.{ReadAs}
-use Rattle.accept.specs.declared.Read.{Read}
-use Rattle.accept.specs.declared.Read.the-variants as read
 use Rattle.spell.specs.declared.OptionBytes.{OptionBytes}
 use Rattle.spell.specs.declared.OptionBytes.the-variants.{Some, None}
 use Rattle.paths.specs.Paths.{Spellable}
-use Rattle.choice.specs.Choice.{HoldsLean}
+use Rattle.reach.specs.Reach.{Walkable}
 use Rattle.calls.specs.Sending.{withOutput, Responds}
 use Rattle.calls.specs.declared.Answer.{Answer}
 use Rattle.reading_calls.specs.declared.ReadingCall.{ReadingCall}
@@ -51,27 +49,21 @@ pub record Tells (told : OptionBytes) (room missing : ℕ) (s : Answer) : Type 0
   pub short : (n : ℕ) → told ≡ Some n → room < n → s ≡ record { number = 11; length = 0 }
   pub whole : (n : ℕ) → told ≡ Some n → n ≤ room → s ≡ record { number = 0; length = n }
 
--- a held graph that can be cleaned and its record written
-pub record Answerable (h : Held) (es vs p heads nexts nodes mp tried : List ℕ) : Type 0 where
-  pub room : Room es vs p heads nexts nodes mp
-  pub holds : HoldsLean h es vs p heads nexts
-  pub tried-room : vertexRoom heads ≤ length tried
-  pub vertices-most : vertexRoom heads ≤ 10240
-  pub edges-most : edgeRoom nexts ≤ 16384
-
 -- a held graph that can be indexed and its paths spelled
 pub record Tellable (h : Held) (es vs p heads nexts nodes : List ℕ) : Type 0 where
   pub indexable : Indexable (h .m) (h .n) es heads nexts
   pub spellable : Spellable h es vs p nodes
   pub few : sequenceBytes (graphOf h es vs p .verts) < 4294967296
 
+-- and that can be cleaned and its record written
+pub record Answerable (h : Held) (es vs p heads nexts nodes mp tried : List ℕ) : Type 0 where
+  pub tellable : Tellable h es vs p heads nexts nodes
+  pub compactable : Compactable (h .n) (h .m) es vs mp
+  pub walkable : Walkable (h .n) tried nodes
+  pub vertices : h .n ≤ 2048
+  pub edges : h .m ≤ 4096
+  pub short : length p ≤ 49184
+
 -- what is sent responds, for every accepted record of the held graph
 pub record GraphAnswered (f : List ℕ → ℕ → Response) (h : Held) (es vs p out : List ℕ) (s : Answer) (out′ : List ℕ) : Type 0 where
   pub is : (bs : List ℕ) → recordRefusal sequenceOnly bs ≡ 0 → graphOf h es vs p ≡ decode bs → Responds (f bs (length out)) out s out′
-
-pub record ReadAnswerable (x : Read) (es vs p heads nexts nodes mp tried : List ℕ) : Type 0 where
-  pub answerable : (h : Held) → x ≡ read.Graph h → Answerable h es vs p heads nexts nodes mp tried
-
--- the same, for every record of which x was read
-pub record ReadAnswered (f : List ℕ → ℕ → Response) (x : Read) (es vs p out : List ℕ) (s : Answer) (out′ : List ℕ) : Type 0 where
-  pub is : (bs heads nexts : List ℕ) → ReadAs bs heads nexts x es vs p → Responds (f bs (length out)) out s out′

@@ -1,20 +1,20 @@
 // The calls that read a graph and do not rewrite it, from record to record or to bytes: what they have in common is said once, over which of
-// them it is. First in slices, then in arrays of two sizes, which a call has on its stack.
+// them it is. First in slices, then in arrays of two classes, which a call has on its stack. The sequences are read in the record itself.
 ghost use mathlib.Core.Path.{_≡_};
-ghost use Prim.Native.Nat.{ℕ, _≤_, _<_};
+ghost use Prim.Native.Nat.{ℕ, _<_};
 ghost use lib.ListN.{length};
-ghost use Rattle.arrays.specs.Sized.{LentMarks};
+ghost use Rattle.arrays.specs.Sized.{FewToRead};
 ghost use Rattle.calls.specs.Sending.{Responds};
 ghost use Rattle.reading_calls.specs.Reading.{cleaningResponse, referenceResponse, pathResponse, readingResponse, readingResponseTo};
-ghost use Rattle.reading_calls.specs.Reading.{Answerable, Tellable, Tells, GraphAnswered, ReadAnswerable, ReadAnswered};
+ghost use Rattle.reading_calls.specs.Reading.{Answerable, Tellable, Tells, GraphAnswered};
 use accept::Read;
-use arrays::LARGE_EDGES;
-use arrays::LARGE_VERTICES;
-use arrays::SMALL_EDGES;
+use arrays::FEW_EDGES;
+use arrays::FEW_VERTICES;
 use arrays::SMALL_RECORD;
-use arrays::SMALL_VERTICES;
 use calls::Answer;
 use memory::Held;
+use record::MOST_EDGES;
+use record::MOST_VERTICES;
 use spell::OptionBytes;
 use tallies::LAST_CALLER;
 
@@ -65,7 +65,7 @@ fn clean_in(
         (now (out .exit)) ⌝ }
 {
     let cleaned = non_ref_paths::clean_non_ref_paths(held, es, vs, heads, nexts, nodes, map, tried);
-    calls::send(Read::Graph(cleaned), 0, out, es, vs, p)
+    calls::send_record(out, 0, cleaned, es, vs, p)
 }
 
 // 10 where there is no reference path.
@@ -110,105 +110,70 @@ fn path_in(
     tell(told, out.len(), 9)
 }
 
-fn answer_read(
+fn answer_graph(
     call: ReadingCall,
     list: &[u32],
-    read: Read,
+    rec: &[u8],
+    held: Held,
     out: &mut [u8],
     es: &mut [u32],
     vs: &mut [u32],
-    p: &[u8],
     heads: &mut [u32],
     nexts: &mut [u32],
     nodes: &mut [u32],
     map: &mut [u32],
     tried: &mut [u8],
 ) -> Answer
-    requires { ⌜ ReadAnswerable read (now es) (now vs) (now p) (now heads) (now nexts) (now nodes) (now map) (now tried) ⌝ }
-    ensures { λ r. ⌜ ReadAnswered (readingResponse call (now (list .entry))) read (now (es .entry)) (now (vs .entry)) (now (p .entry))
+    requires { ⌜ Answerable held (now es) (now vs) (now rec) (now heads) (now nexts) (now nodes) (now map) (now tried) ⌝ }
+    ensures { λ r. ⌜ GraphAnswered (readingResponse call (now (list .entry))) held (now (es .entry)) (now (vs .entry)) (now (rec .entry))
         (now (out .entry)) r (now (out .exit)) ⌝ }
 {
-    let held = match read {
+    match call {
+        ReadingCall::CleanNonRefPaths => {
+            return clean_in(held, out, es, vs, rec, heads, nexts, nodes, map, tried);
+        }
+        ReadingCall::ReferencePathBytes => {
+            return reference_in(held, out, es, vs, rec, heads, nexts, nodes);
+        }
+        ReadingCall::PathBasesBytes(start) => {
+            return path_in(held, start, list, out, es, vs, rec, heads, nexts, nodes);
+        }
+    }
+}
+
+// Whole arrays, whose lengths are known. A record is read here, and not in a function that both classes call: were there only one call here, the
+// compiler would lay this function's caller, and so the frames of both classes, into one.
+fn large_with(
+    call: ReadingCall,
+    list: &[u32],
+    rec: &[u8],
+    out: &mut [u8],
+    es: &mut [u32; 4 * MOST_EDGES],
+    vs: &mut [u32; 2 * MOST_VERTICES],
+    heads: &mut [u32; 2 * MOST_VERTICES],
+    nexts: &mut [u32; 2 * MOST_EDGES],
+    nodes: &mut [u32; MOST_VERTICES],
+    map: &mut [u32; MOST_VERTICES],
+    tried: &mut [u8; MOST_VERTICES],
+) -> Answer
+    ensures { λ r. ⌜ Responds (readingResponse call (now (list .entry)) (now (rec .entry)) (length (now (out .entry)))) (now (out .entry)) r
+        (now (out .exit)) ⌝ }
+{
+    let held = match accept::read_sequence_graph(rec, es, vs, heads, nexts, nodes, map) {
         Read::Graph(held) => held,
         Read::Refused(number) => return Answer {
             number: number,
             length: 0,
         },
     };
-    match call {
-        ReadingCall::CleanNonRefPaths => {
-            return clean_in(held, out, es, vs, p, heads, nexts, nodes, map, tried);
-        }
-        ReadingCall::ReferencePathBytes => {
-            return reference_in(held, out, es, vs, p, heads, nexts, nodes);
-        }
-        ReadingCall::PathBasesBytes(start) => {
-            return path_in(held, start, list, out, es, vs, p, heads, nexts, nodes);
-        }
-    }
-}
-
-fn answer_in(
-    call: ReadingCall,
-    list: &[u32],
-    rec: &[u8],
-    out: &mut [u8],
-    es: &mut [u32],
-    vs: &mut [u32],
-    p: &mut [u8],
-    heads: &mut [u32],
-    nexts: &mut [u32],
-    nodes: &mut [u32],
-    map: &mut [u32],
-    tried: &mut [u8],
-) -> Answer
-    requires { ⌜ LentMarks (now rec) (now es) (now vs) (now p) (now heads) (now nexts) (now nodes) (now map) (now tried) ⌝ }
-    ensures { λ r. ⌜ Responds (readingResponse call (now (list .entry)) (now (rec .entry)) (length (now (out .entry)))) (now (out .entry)) r
-        (now (out .exit)) ⌝ }
-{
-    let read = accept::read_sequence_graph(rec, es, vs, p, heads, nexts, nodes, map);
-    answer_read(
-        call,
-        list,
-        read,
-        out,
-        es,
-        vs,
-        p,
-        heads,
-        nexts,
-        nodes,
-        map,
-        tried,
-    )
-}
-
-// Whole arrays, whose lengths are known.
-fn large_with(
-    call: ReadingCall,
-    list: &[u32],
-    rec: &[u8],
-    out: &mut [u8],
-    es: &mut [u32; 8 * LARGE_EDGES],
-    vs: &mut [u32; 4 * LARGE_VERTICES],
-    p: &mut [u8; 3 * LARGE_VERTICES],
-    heads: &mut [u32; 2 * LARGE_VERTICES],
-    nexts: &mut [u32; 2 * LARGE_EDGES],
-    nodes: &mut [u32; LARGE_EDGES],
-    map: &mut [u32; 2 * LARGE_VERTICES],
-    tried: &mut [u8; LARGE_VERTICES],
-) -> Answer
-    ensures { λ r. ⌜ Responds (readingResponse call (now (list .entry)) (now (rec .entry)) (length (now (out .entry)))) (now (out .entry)) r
-        (now (out .exit)) ⌝ }
-{
-    answer_in(
+    answer_graph(
         call,
         list,
         rec,
+        held,
         out,
         es,
         vs,
-        p,
         heads,
         nexts,
         nodes,
@@ -221,14 +186,13 @@ fn large(call: ReadingCall, list: &[u32], rec: &[u8], out: &mut [u8]) -> Answer
     ensures { λ r. ⌜ Responds (readingResponse call (now (list .entry)) (now (rec .entry)) (length (now (out .entry)))) (now (out .entry)) r
         (now (out .exit)) ⌝ }
 {
-    let mut es = [0u32; 8 * LARGE_EDGES];
-    let mut vs = [0u32; 4 * LARGE_VERTICES];
-    let mut p = [0u8; 3 * LARGE_VERTICES];
-    let mut heads = [0u32; 2 * LARGE_VERTICES];
-    let mut nexts = [0u32; 2 * LARGE_EDGES];
-    let mut nodes = [0u32; LARGE_EDGES];
-    let mut map = [0u32; 2 * LARGE_VERTICES];
-    let mut tried = [0u8; LARGE_VERTICES];
+    let mut es = [0u32; 4 * MOST_EDGES];
+    let mut vs = [0u32; 2 * MOST_VERTICES];
+    let mut heads = [0u32; 2 * MOST_VERTICES];
+    let mut nexts = [0u32; 2 * MOST_EDGES];
+    let mut nodes = [0u32; MOST_VERTICES];
+    let mut map = [0u32; MOST_VERTICES];
+    let mut tried = [0u8; MOST_VERTICES];
     large_with(
         call,
         list,
@@ -236,7 +200,6 @@ fn large(call: ReadingCall, list: &[u32], rec: &[u8], out: &mut [u8]) -> Answer
         out,
         &mut es,
         &mut vs,
-        &mut p,
         &mut heads,
         &mut nexts,
         &mut nodes,
@@ -250,27 +213,33 @@ fn small_with(
     list: &[u32],
     rec: &[u8],
     out: &mut [u8],
-    es: &mut [u32; 8 * SMALL_EDGES],
-    vs: &mut [u32; 4 * SMALL_VERTICES],
-    p: &mut [u8; 3 * SMALL_VERTICES],
-    heads: &mut [u32; 2 * SMALL_VERTICES],
-    nexts: &mut [u32; 2 * SMALL_EDGES],
-    nodes: &mut [u32; SMALL_EDGES],
-    map: &mut [u32; 2 * SMALL_VERTICES],
-    tried: &mut [u8; SMALL_VERTICES],
+    es: &mut [u32; 4 * FEW_EDGES],
+    vs: &mut [u32; 2 * FEW_VERTICES],
+    heads: &mut [u32; 2 * FEW_VERTICES],
+    nexts: &mut [u32; 2 * FEW_EDGES],
+    nodes: &mut [u32; FEW_VERTICES],
+    map: &mut [u32; FEW_VERTICES],
+    tried: &mut [u8; FEW_VERTICES],
 ) -> Answer
-    requires { ⌜ length (now rec) ≤ 1024 ⌝ }
+    requires { ⌜ FewToRead 512 512 (now rec) ⌝ }
     ensures { λ r. ⌜ Responds (readingResponse call (now (list .entry)) (now (rec .entry)) (length (now (out .entry)))) (now (out .entry)) r
         (now (out .exit)) ⌝ }
 {
-    answer_in(
+    let held = match accept::read_sequence_graph(rec, es, vs, heads, nexts, nodes, map) {
+        Read::Graph(held) => held,
+        Read::Refused(number) => return Answer {
+            number: number,
+            length: 0,
+        },
+    };
+    answer_graph(
         call,
         list,
         rec,
+        held,
         out,
         es,
         vs,
-        p,
         heads,
         nexts,
         nodes,
@@ -280,18 +249,17 @@ fn small_with(
 }
 
 fn small(call: ReadingCall, list: &[u32], rec: &[u8], out: &mut [u8]) -> Answer
-    requires { ⌜ length (now rec) ≤ 1024 ⌝ }
+    requires { ⌜ FewToRead 512 512 (now rec) ⌝ }
     ensures { λ r. ⌜ Responds (readingResponse call (now (list .entry)) (now (rec .entry)) (length (now (out .entry)))) (now (out .entry)) r
         (now (out .exit)) ⌝ }
 {
-    let mut es = [0u32; 8 * SMALL_EDGES];
-    let mut vs = [0u32; 4 * SMALL_VERTICES];
-    let mut p = [0u8; 3 * SMALL_VERTICES];
-    let mut heads = [0u32; 2 * SMALL_VERTICES];
-    let mut nexts = [0u32; 2 * SMALL_EDGES];
-    let mut nodes = [0u32; SMALL_EDGES];
-    let mut map = [0u32; 2 * SMALL_VERTICES];
-    let mut tried = [0u8; SMALL_VERTICES];
+    let mut es = [0u32; 4 * FEW_EDGES];
+    let mut vs = [0u32; 2 * FEW_VERTICES];
+    let mut heads = [0u32; 2 * FEW_VERTICES];
+    let mut nexts = [0u32; 2 * FEW_EDGES];
+    let mut nodes = [0u32; FEW_VERTICES];
+    let mut map = [0u32; FEW_VERTICES];
+    let mut tried = [0u8; FEW_VERTICES];
     small_with(
         call,
         list,
@@ -299,13 +267,30 @@ fn small(call: ReadingCall, list: &[u32], rec: &[u8], out: &mut [u8]) -> Answer
         out,
         &mut es,
         &mut vs,
-        &mut p,
         &mut heads,
         &mut nexts,
         &mut nodes,
         &mut map,
         &mut tried,
     )
+}
+
+// In the arrays of the record's class. The large ones stand behind two tests: with one call of `large` the compiler would lay its frame into this
+// one, and every record would take it.
+fn by_class(call: ReadingCall, list: &[u32], rec: &[u8], out: &mut [u8]) -> Answer
+    ensures { λ r. ⌜ Responds (readingResponse call (now (list .entry)) (now (rec .entry)) (length (now (out .entry)))) (now (out .entry)) r
+        (now (out .exit)) ⌝ }
+{
+    if rec.len() <= SMALL_RECORD {
+        return small(call, list, rec, out);
+    }
+    if FEW_VERTICES < record::vertex_count(rec) {
+        return large(call, list, rec, out);
+    }
+    if FEW_EDGES < record::edge_count(rec) {
+        return large(call, list, rec, out);
+    }
+    small(call, list, rec, out)
 }
 
 // A caller above 15 is refused before the record is looked at. Of a call without a list of edges the list is not read.
@@ -319,8 +304,5 @@ pub fn answer(call: ReadingCall, list: &[u32], rec: &[u8], out: &mut [u8], calle
             length: 0,
         };
     }
-    if rec.len() <= SMALL_RECORD {
-        return small(call, list, rec, out);
-    }
-    large(call, list, rec, out)
+    by_class(call, list, rec, out)
 }

@@ -1,28 +1,33 @@
 -- What was rewritten is sent. Assumes nothing.
-use mathlib.Core.Path.{_≡_, sym, ap, _∙_}
+use mathlib.Core.Path.{_≡_, refl, sym, ap, _∙_, subst}
 use mathlib.Core.List.{List}
 use Prim.Native.Nat.{ℕ, _≤_, _<_}
 use native.Mathlib.Omega.{arith}
 use lib.ListN.{length}
 use Rattle.defs.specs.SeqGraph.{Graph}
 use Rattle.defs.specs.Cleanup.{Status, justReference, someVariation, statusNumber, cleanupSeqGraph}
-use Rattle.defs.specs.Record.{decode}
+use Rattle.defs.specs.Record.{sequenceGraph, encode, decode}
 use Rattle.defs.specs.Refusals.{sequenceOnly, recordCauses, recordRefusal}
+use Rattle.memory.specs.Memory.{graphOf}
+use Rattle.memory.specs.declared.Held.{Held}
+use Rattle.memory.proofs.RoomLaws.{room-kept}
+use Rattle.accept.specs.declared.Read.{Read}
 use Rattle.accept.specs.declared.Read.the-variants as read
-use Rattle.accept.proofs.AcceptLaws.{byRead, number-refused}
-use Rattle.rewriting.specs.Rewriting.{Result, resultOf, RewrittenAs}
+use Rattle.accept.proofs.AcceptLaws.{number-graph, number-refused}
+use Rattle.rewriting.specs.Rewriting.{Result, resultOf, HeldAs, GraphRewritten}
 use Rattle.rewriting.specs.declared.Rewritten.{Rewritten}
 use Rattle.rewriting.specs.declared.RewritingCall.{RewritingCall}
 use Rattle.rewriting.specs.declared.RewritingCall.the-variants.{SimplifyGraph, CleanupSeqGraph}
+use Rattle.rewriting.proofs.RewritingLaws.{lent-cleanable}
 use Rattle.arrays.specs.Sized.{Lent}
-use Rattle.arrays.proofs.SizedLaws.{lent-sendable}
-use Rattle.calls.specs.Sending.{Responds, Makes, GraphSendable, SendsGraph}
+use Rattle.calls.specs.Sending.{fits, Sendable, Responds}
 use Rattle.calls.specs.declared.Answer.{Answer}
-use Rattle.calls.proofs.ResponseLaws as response
+use Rattle.calls.proofs.SendLaws.{held-sendable, responds-refused, responds-as}
+use Rattle.calls.proofs.ResponseLaws.{respond-refused, respond-fits}
 use Rattle.calls.proofs.CauseLaws.{record-numbered}
-use Rattle.calls.proofs.CallerLaws.{sends-above, sends-within}
+use Rattle.calls.proofs.CallerLaws.{respond-above, sends-within}
 use Rattle.rewriting_calls.specs.declared.RewritingAnswer.{RewritingAnswer}
-use Rattle.rewriting_calls.specs.Answered.{recordOf, rewritingResponse, CountedAs, RewritingAnswered, RewritingAnsweredTo}
+use Rattle.rewriting_calls.specs.Answered.{recordOf, HeldAnswerable, HeldAnswered, RewritingAnswered, RewritingAnsweredTo}
 
 status-small : (s : Status) → statusNumber s < 256
 unfolding statusNumber
@@ -34,55 +39,68 @@ unfolding resultOf
 result-small SimplifyGraph g = omega arith
 result-small CleanupSeqGraph g = status-small ((cleanupSeqGraph g) .status)
 
-module _ {call : RewritingCall} {bs heads nexts : List ℕ} {r : Rewritten} {es vs p : List ℕ} (A : RewrittenAs call bs heads nexts r es vs p) where
-  -- the record of what is held can be written where it fits
-  pub rewritten-sendable : {es₀ vs₀ p₀ nodes mp starts tried sig : List ℕ} → Lent bs es₀ vs₀ p₀ heads nexts nodes mp starts tried sig
-      → length es ≡ length es₀ → length vs ≡ length vs₀ → length p ≡ length p₀ → GraphSendable (r .status) (r .read) es vs p
-  rewritten-sendable Z a b c = record {
-    sendable = λ h ok.
-        lent-sendable (Z .graph) (r .status) (omega (arith, ap (λ (z : Result). z .status) (A .is h ok), result-small call (decode bs)))
-        (A .holds h ok) a b c;
-  }
+-- ---- a graph
 
-  makes : Makes (recordCauses sequenceOnly bs) (r .status) (recordOf (resultOf call (decode bs))) (r .read) es vs p
+-- what is lent is room enough to answer what is held
+pub lent-answerable : {bs es vs p heads nexts nodes mp starts tried sig : List ℕ} → Lent bs es vs p heads nexts nodes mp starts tried sig
+    → {x : Read} → HeldAs bs heads nexts x es vs p → {h : Held} → x ≡ read.Graph h → HeldAnswerable h es vs p heads nexts nodes mp starts tried sig
+lent-answerable Z A {h} ok = record {
+  cleanable = lent-cleanable Z (A .holds h ok);
+  vertices-most = Z .graph .vertices-most;
+  edges-most = Z .graph .edges-most;
+}
+
+module _ {call : RewritingCall} {h : Held} {es vs p heads nexts : List ℕ} {r : Rewritten} {es′ vs′ p′ : List ℕ}
+    (G : GraphRewritten call h es vs p heads nexts r es′ vs′ p′) where
+  -- the record of what it became can be written where it fits
+  pub rewritten-sendable : {nodes mp starts tried sig : List ℕ} → HeldAnswerable h es vs p heads nexts nodes mp starts tried sig
+      → length es′ ≡ length es → length vs′ ≡ length vs → length p′ ≡ length p → Sendable (r .status) (r .held) es′ vs′ p′
+  rewritten-sendable {nodes} {mp} Q a b c =
+      held-sendable (r .status) (omega (arith, ap (λ (z : Result). z .status) (G .is), result-small call (graphOf h es vs p)))
+      (omega (arith, Q .vertices-most)) (omega (arith, Q .edges-most))
+      (room-kept {heads′ = heads} {nexts′ = nexts} {nodes′ = nodes} {mp′ = mp} (Q .cleanable .room) a b c refl refl refl refl) (G .holds)
+
+  pub held-answered : {out out′ : List ℕ} {s : Answer} → Responds (fits (length out) (encode sequenceGraph (r .status) (graphOf (r .held) es′ vs′ p′))) out s out′
+      → HeldAnswered call h es vs p out record { sent = s; status = r .status; rewrites = r .rewrites; rounds = r .rounds; end = r .end } out′
   unfolding recordRefusal
-  makes = record {
-    numbered = record-numbered sequenceOnly bs;
-    number = A .number;
-    is = λ h ok. ap recordOf (A .is h ok);
-    refused = A .refused;
-  }
-
-  pub rewritten-answered : {out out′ : List ℕ} {s : Answer} → SendsGraph (r .status) (r .read) es vs p out s out′
-      → RewritingAnswered call bs out record { sent = s; status = r .status; rewrites = r .rewrites; rounds = r .rounds; end = r .end } out′
-  rewritten-answered {out} {out′} {s} S = record { sent = sends; counted = λ z. byRead (r .read) (λ h ok. counts (A .is h ok)) (λ n f. absurd (none z f)) }
-    where
-      sends : Responds (rewritingResponse call bs (length out)) out s out′
-      sends = S .is (recordCauses sequenceOnly bs) (recordOf (resultOf call (decode bs))) makes
-
-      counts : {z z′ : Result} → z ≡ z′ → CountedAs z′ record { sent = s; status = z .status; rewrites = z .rewrites; rounds = z .rounds; end = z .end }
-      counts q = record {
+  held-answered {out} {out′} {s} S = record {
+    is = λ bs z e. let q = G .is ∙ ap (resultOf call) e in record {
+      sent = responds-as (respond-fits (recordCauses sequenceOnly bs) (length out) (recordOf (resultOf call (decode bs))) (record-numbered sequenceOnly bs) z)
+          (subst (λ (y : Result). Responds (fits (length out) (recordOf y)) out s out′) q S);
+      counted = λ _. record {
         status = ap (λ (x : Result). x .status) q;
         rewrites = ap (λ (x : Result). x .rewrites) q;
         rounds = ap (λ (x : Result). x .rounds) q;
         end = ap (λ (x : Result). x .end) q;
+      };
+    };
+  }
+
+-- ---- a record
+
+module _ {call : RewritingCall} {bs heads nexts : List ℕ} {x : Read} {es vs p : List ℕ} (A : HeldAs bs heads nexts x es vs p) {out : List ℕ} where
+  pub record-refused : {n : ℕ} → x ≡ read.Refused n → {r : RewritingAnswer} → r .sent ≡ record { number = n; length = 0 } → RewritingAnswered call bs out r out
+  unfolding recordRefusal
+  record-refused {n} f {r} q =
+      let o = A .refused n f in
+      let e = sym (A .number) ∙ number-refused f in
+      record {
+        sent = responds-refused (respond-refused (recordCauses sequenceOnly bs) (length out) _ n e o) q refl;
+        counted = λ z. absurd (o (sym (ap (λ (y : Answer). y .number) q) ∙ z));
       }
 
-      none : s .number ≡ 0 → {n : ℕ} → r .read ≡ read.Refused n → ⊥
-      none z {n} f = A .refused n f (sym (number-refused f) ∙ makes .number
-          ∙ response.answered (recordCauses sequenceOnly bs) out (recordOf (resultOf call (decode bs))) (sym (sends .number) ∙ z) .0)
+  pub record-answered : {h : Held} → x ≡ read.Graph h → {r : RewritingAnswer} {out′ : List ℕ} → HeldAnswered call h es vs p out r out′
+      → RewritingAnswered call bs out r out′
+  record-answered {h} ok H = H .is bs (sym (A .number) ∙ number-graph ok) (A .is h ok)
 
 -- ---- a caller
 
 module _ {call : RewritingCall} {bs out : List ℕ} {caller : ℕ} where
-  pub caller-refused : {status rewrites rounds end : ℕ} → 15 < caller → RewritingAnsweredTo call bs out caller record {
-    sent = record { number = 18; length = 0 };
-    status = status;
-    rewrites = rewrites;
-    rounds = rounds;
-    end = end;
-  } out
-  caller-refused l = record { sent = sends-above _ _ l; counted = λ z. absurd (omega (arith, z)) }
+  pub caller-refused : 15 < caller → {r : RewritingAnswer} → r .sent ≡ record { number = 18; length = 0 } → RewritingAnsweredTo call bs out caller r out
+  caller-refused l q = record {
+    sent = responds-refused (respond-above caller _ _ l) q refl;
+    counted = λ z. absurd (omega (arith, sym (ap (λ (y : Answer). y .number) q) ∙ z));
+  }
 
   pub caller-answered : {r : RewritingAnswer} {out′ : List ℕ} → caller ≤ 15 → RewritingAnswered call bs out r out′ → RewritingAnsweredTo call bs out caller r out′
   caller-answered l A = record { sent = sends-within _ _ l (A .sent); counted = A .counted }

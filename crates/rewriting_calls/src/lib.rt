@@ -1,15 +1,18 @@
 // The calls that rewrite a graph, from record to record: what both do is said once, over which of them it is. First in slices, then in arrays
-// of two sizes, which a call has on its stack.
-ghost use Prim.Native.Nat.{_≤_};
-ghost use lib.ListN.{length};
-ghost use Rattle.arrays.specs.Sized.{Lent};
-ghost use Rattle.rewriting_calls.specs.Answered.{RewritingAnswered, RewritingAnsweredTo};
+// of three classes, which a call has on its stack.
+ghost use mathlib.Core.Path.{_≡_};
+ghost use Rattle.arrays.specs.Sized.{FewToRewrite};
+ghost use Rattle.rewriting_calls.specs.Answered.{HeldAnswerable, HeldAnswered, RewritingAnswered, RewritingAnsweredTo};
+use accept::Read;
 use arrays::LARGE_EDGES;
 use arrays::LARGE_VERTICES;
+use arrays::MEDIUM_EDGES;
+use arrays::MEDIUM_VERTICES;
 use arrays::SMALL_EDGES;
 use arrays::SMALL_RECORD;
 use arrays::SMALL_VERTICES;
 use calls::Answer;
+use memory::Held;
 use rewriting::RewritingCall;
 use tallies::LAST_CALLER;
 
@@ -22,9 +25,10 @@ pub struct RewritingAnswer {
     pub end: u32,
 }
 
-fn answer_in(
+// The graph that is held, rewritten, and its record sent.
+fn answer_held(
     call: RewritingCall,
-    rec: &[u8],
+    held: Held,
     out: &mut [u8],
     es: &mut [u32],
     vs: &mut [u32],
@@ -37,12 +41,12 @@ fn answer_in(
     tried: &mut [u8],
     sig: &mut [u32],
 ) -> RewritingAnswer
-    requires { ⌜ Lent (now rec) (now es) (now vs) (now p) (now heads) (now nexts) (now nodes) (now map) (now starts) (now tried) (now sig) ⌝ }
-    ensures { λ r. ⌜ RewritingAnswered call (now (rec .entry)) (now (out .entry)) r (now (out .exit)) ⌝ }
+    requires { ⌜ HeldAnswerable held (now es) (now vs) (now p) (now heads) (now nexts) (now nodes) (now map) (now starts) (now tried) (now sig) ⌝ }
+    ensures { λ r. ⌜ HeldAnswered call held (now (es .entry)) (now (vs .entry)) (now (p .entry)) (now (out .entry)) r (now (out .exit)) ⌝ }
 {
-    let r = rewriting::read_and_rewrite(
+    let made = rewriting::rewrite(
         call,
-        rec,
+        held,
         es,
         vs,
         p,
@@ -54,18 +58,35 @@ fn answer_in(
         tried,
         sig,
     );
-    let read = r.read;
-    let sent = calls::send(read, r.status, out, es, vs, p);
+    let left = made.held;
+    let sent = calls::send_record(out, made.status, left, es, vs, p);
     RewritingAnswer {
         sent: sent,
-        status: r.status,
-        rewrites: r.rewrites,
-        rounds: r.rounds,
-        end: r.end,
+        status: made.status,
+        rewrites: made.rewrites,
+        rounds: made.rounds,
+        end: made.end,
     }
 }
 
-// Whole arrays, whose lengths are known.
+fn refusal(number: u32) -> RewritingAnswer
+    ensures { λ r. ⌜ r .sent ≡ record { number = number; length = 0 } ⌝ }
+{
+    let sent = Answer {
+        number: number,
+        length: 0,
+    };
+    RewritingAnswer {
+        sent: sent,
+        status: 0,
+        rewrites: 0,
+        rounds: 0,
+        end: 0,
+    }
+}
+
+// Whole arrays, whose lengths are known. A record is read here, and not in a function that both classes call: were there only one call here, the
+// compiler would lay this function's caller, and so the frames of both classes, into one.
 fn large_with(
     call: RewritingCall,
     rec: &[u8],
@@ -83,9 +104,13 @@ fn large_with(
 ) -> RewritingAnswer
     ensures { λ r. ⌜ RewritingAnswered call (now (rec .entry)) (now (out .entry)) r (now (out .exit)) ⌝ }
 {
-    answer_in(
+    let held = match rewriting::read_and_hold(rec, es, vs, p, heads, nexts, nodes, map) {
+        Read::Graph(held) => held,
+        Read::Refused(number) => return refusal(number),
+    };
+    answer_held(
         call,
-        rec,
+        held,
         out,
         es,
         vs,
@@ -130,6 +155,76 @@ fn large(call: RewritingCall, rec: &[u8], out: &mut [u8]) -> RewritingAnswer
     )
 }
 
+fn medium_with(
+    call: RewritingCall,
+    rec: &[u8],
+    out: &mut [u8],
+    es: &mut [u32; 8 * MEDIUM_EDGES],
+    vs: &mut [u32; 4 * MEDIUM_VERTICES],
+    p: &mut [u8; 3 * MEDIUM_VERTICES],
+    heads: &mut [u32; 2 * MEDIUM_VERTICES],
+    nexts: &mut [u32; 2 * MEDIUM_EDGES],
+    nodes: &mut [u32; MEDIUM_EDGES],
+    map: &mut [u32; 2 * MEDIUM_VERTICES],
+    starts: &mut [u32; MEDIUM_VERTICES],
+    tried: &mut [u8; MEDIUM_VERTICES],
+    sig: &mut [u32; 2 + 2 * MEDIUM_VERTICES + 3 * MEDIUM_EDGES],
+) -> RewritingAnswer
+    requires { ⌜ FewToRewrite 2048 3072 (now rec) ⌝ }
+    ensures { λ r. ⌜ RewritingAnswered call (now (rec .entry)) (now (out .entry)) r (now (out .exit)) ⌝ }
+{
+    let held = match rewriting::read_and_hold(rec, es, vs, p, heads, nexts, nodes, map) {
+        Read::Graph(held) => held,
+        Read::Refused(number) => return refusal(number),
+    };
+    answer_held(
+        call,
+        held,
+        out,
+        es,
+        vs,
+        p,
+        heads,
+        nexts,
+        nodes,
+        map,
+        starts,
+        tried,
+        sig,
+    )
+}
+
+fn medium(call: RewritingCall, rec: &[u8], out: &mut [u8]) -> RewritingAnswer
+    requires { ⌜ FewToRewrite 2048 3072 (now rec) ⌝ }
+    ensures { λ r. ⌜ RewritingAnswered call (now (rec .entry)) (now (out .entry)) r (now (out .exit)) ⌝ }
+{
+    let mut es = [0u32; 8 * MEDIUM_EDGES];
+    let mut vs = [0u32; 4 * MEDIUM_VERTICES];
+    let mut p = [0u8; 3 * MEDIUM_VERTICES];
+    let mut heads = [0u32; 2 * MEDIUM_VERTICES];
+    let mut nexts = [0u32; 2 * MEDIUM_EDGES];
+    let mut nodes = [0u32; MEDIUM_EDGES];
+    let mut map = [0u32; 2 * MEDIUM_VERTICES];
+    let mut starts = [0u32; MEDIUM_VERTICES];
+    let mut tried = [0u8; MEDIUM_VERTICES];
+    let mut sig = [0u32; 2 + 2 * MEDIUM_VERTICES + 3 * MEDIUM_EDGES];
+    medium_with(
+        call,
+        rec,
+        out,
+        &mut es,
+        &mut vs,
+        &mut p,
+        &mut heads,
+        &mut nexts,
+        &mut nodes,
+        &mut map,
+        &mut starts,
+        &mut tried,
+        &mut sig,
+    )
+}
+
 fn small_with(
     call: RewritingCall,
     rec: &[u8],
@@ -145,12 +240,16 @@ fn small_with(
     tried: &mut [u8; SMALL_VERTICES],
     sig: &mut [u32; 2 + 2 * SMALL_VERTICES + 3 * SMALL_EDGES],
 ) -> RewritingAnswer
-    requires { ⌜ length (now rec) ≤ 1024 ⌝ }
+    requires { ⌜ FewToRewrite 1024 1280 (now rec) ⌝ }
     ensures { λ r. ⌜ RewritingAnswered call (now (rec .entry)) (now (out .entry)) r (now (out .exit)) ⌝ }
 {
-    answer_in(
+    let held = match rewriting::read_and_hold(rec, es, vs, p, heads, nexts, nodes, map) {
+        Read::Graph(held) => held,
+        Read::Refused(number) => return refusal(number),
+    };
+    answer_held(
         call,
-        rec,
+        held,
         out,
         es,
         vs,
@@ -166,7 +265,7 @@ fn small_with(
 }
 
 fn small(call: RewritingCall, rec: &[u8], out: &mut [u8]) -> RewritingAnswer
-    requires { ⌜ length (now rec) ≤ 1024 ⌝ }
+    requires { ⌜ FewToRewrite 1024 1280 (now rec) ⌝ }
     ensures { λ r. ⌜ RewritingAnswered call (now (rec .entry)) (now (out .entry)) r (now (out .exit)) ⌝ }
 {
     let mut es = [0u32; 8 * SMALL_EDGES];
@@ -196,25 +295,38 @@ fn small(call: RewritingCall, rec: &[u8], out: &mut [u8]) -> RewritingAnswer
     )
 }
 
+// In the arrays of the record's class. Those of each but the small one stand behind two tests: with one call of `large` or `medium` the compiler
+// would lay its frame into this one, and every record would take it.
+fn by_class(call: RewritingCall, rec: &[u8], out: &mut [u8]) -> RewritingAnswer
+    ensures { λ r. ⌜ RewritingAnswered call (now (rec .entry)) (now (out .entry)) r (now (out .exit)) ⌝ }
+{
+    if rec.len() <= SMALL_RECORD {
+        return small(call, rec, out);
+    }
+    let bytes = record::byte_count(rec);
+    let weight = record::vertex_count(rec) + bytes;
+    let surplus = record::edge_count(rec) + bytes / 4;
+    if MEDIUM_VERTICES <= weight {
+        return large(call, rec, out);
+    }
+    if MEDIUM_EDGES - MEDIUM_VERTICES < surplus {
+        return large(call, rec, out);
+    }
+    if SMALL_VERTICES <= weight {
+        return medium(call, rec, out);
+    }
+    if SMALL_EDGES - SMALL_VERTICES < surplus {
+        return medium(call, rec, out);
+    }
+    small(call, rec, out)
+}
+
 // A caller above 15 is refused before the record is looked at.
 pub fn answer(call: RewritingCall, rec: &[u8], out: &mut [u8], caller: u32) -> RewritingAnswer
     ensures { λ r. ⌜ RewritingAnsweredTo call (now (rec .entry)) (now (out .entry)) caller r (now (out .exit)) ⌝ }
 {
     if LAST_CALLER < caller {
-        let sent = Answer {
-            number: 18,
-            length: 0,
-        };
-        return RewritingAnswer {
-            sent: sent,
-            status: 0,
-            rewrites: 0,
-            rounds: 0,
-            end: 0,
-        };
+        return refusal(18);
     }
-    if rec.len() <= SMALL_RECORD {
-        return small(call, rec, out);
-    }
-    large(call, rec, out)
+    by_class(call, rec, out)
 }

@@ -2,14 +2,14 @@
 use mathlib.Core.Path.{_≡_, refl, sym, _∙_}
 use mathlib.Core.Bool.{Bool, true, false, cond, _&&_, _||_}
 use mathlib.Core.List.{List, []}
-use Prim.Native.Nat.{ℕ, zero, suc, _+_, _≤_, _<_}
+use Prim.Native.Nat.{ℕ, _+_, _*_, _≤_, _<_}
 use native.Mathlib.Omega.{arith}
 use native.Mathlib.Decide.{ℕ-discrete}
 use lib.ListN.{length, take, drop}
 use lib.Dec.{eqb}
 use borrow.Author.Tests.{eq-eqb, ne-eqb, le-leb, lt-leb}
 use Rattle.defs.specs.SeqGraph.{vertexSequence}
-use Rattle.defs.specs.Record.{kindOf, kOf, verticesOf, bytesOf, lengthAt, sequenceStart, decode}
+use Rattle.defs.specs.Record.{kindOf, kOf, verticesOf, lengthAt, sequenceStart, decode}
 use Rattle.defs.specs.Refusals.{bothKinds, refusalOf, layoutCauses, recordRefusal, doubledEdge, equalKmers, doubled, hasCycle}
 use Rattle.defs.specs.Calls.{vertexSequenceCauses, vertexSequenceNumber, vertexSequencePart}
 use Rattle.laws.proofs.Walks.{byTest}
@@ -22,18 +22,19 @@ use Rattle.record.specs.declared.Layout.{Layout}
 use Rattle.record.specs.declared.Layout.the-variants.{Formed, Refused}
 use Rattle.record.proofs.Accepted.{well-formed, formed-none, formed-size, refused-number, refused-some}
 use Rattle.record.proofs.Fields.{sequenceAt-is}
-use Rattle.record.proofs.Sequences.{vertex-is, sequence-inside, length-is}
+use Rattle.record.proofs.Sequences.{vertex-is, sequence-inside, length-is, bytes-most}
 use Rattle.store.specs.Store.{edgesIn, seqsIn}
 use Rattle.index.specs.Index.{Indexed, Indexable}
 use Rattle.cycle.specs.Peel.{HasCycle}
 use Rattle.memory.specs.declared.Held.{Held}
 use Rattle.load.specs.Loaded.{Loadable, Loaded}
+use Rattle.load.proofs.LoadLaws.{formed-laid}
 use Rattle.sound.proofs.Accepted.{refused-early, refused-6, refused-7, accepted, accepted-layout}
 use Rattle.sequence.specs.Part.{Part}
-use Rattle.read_kmers.specs.Kmers.{KmerRoom, Doubles}
-use Rattle.read_kmers.proofs.KmerLaws.{kmer-bytes-most}
+use Rattle.read_kmers.specs.Kmers.{Doubles}
+use Rattle.arrays.specs.Sized.{FewToRead, SizedToMark}
 use Rattle.calls.proofs.CauseLaws.{behind-refused, behind-present, behind-absent}
-use Rattle.vertex_sequence.specs.Checks.{RoomToReadEither, Checkable, Checks}
+use Rattle.vertex_sequence.specs.Checks.{Checkable, Checks}
 use Rattle.vertex_sequence.specs.Handed.{Handed, Placed}
 
 -- ---- the checks behind the layout
@@ -64,114 +65,77 @@ module _ (m n : ℕ) (es vs p : List ℕ) where
 
 -- ---- the record
 
--- arrays for every record whose layout is right
-pub record Lengths (es vs p heads nexts order scratch place : List ℕ) : Type 0 where
-  pub es-is : length es ≡ 16384
-  pub vs-is : length vs ≡ 4096
-  pub p-is : length p ≡ 262144
-  pub heads-is : length heads ≡ 4096
-  pub nexts-is : length nexts ≡ 8192
-  pub order-is : length order ≡ 2048
-  pub scratch-is : length scratch ≡ 2048
-  pub place-is : length place ≡ 2048
+module _ (bs : List ℕ) {r : Layout} (e : r ≡ layoutOf (refusalOf (layoutCauses (takesOf BothKinds) bs)) (kOf bs)) where
+  pub number-early : {n : ℕ} → r ≡ Refused n → n ≡ recordRefusal bothKinds bs
+  unfolding takesOf
+  number-early {n} f =
+      sym (refused-early bothKinds bs (sym (refused-number bothKinds bs e f))
+      (byOrder 1 n (λ b. b) (λ b. absurd (refused-some bothKinds bs e f (omega arith)))))
 
-module _ (bs : List ℕ) where
-  bytes-most : WellFormed bs → bytesOf bs ≤ 262144
-  bytes-most W = split (kindOf bs) (W .kind) (λ z. kmer-bytes-most bs W z) (λ o. omega (arith, W .bytes o))
-    where
-      split : {X : Type 0} (n : ℕ) → n ≤ 1 → (n ≡ 0 → X) → (n ≡ 1 → X) → X
-      split zero h f g = f refl
-      split (suc zero) h f g = g refl
-      split (suc (suc n)) h f g = absurd (omega arith)
-
-  pub roomy : {es vs p heads nexts order scratch place : List ℕ} → Lengths es vs p heads nexts order scratch place
-      → RoomToReadEither bs es vs p heads nexts order scratch place
-  roomy Z = record {
-    room = λ W. record {
-      es-room = omega (arith, Z .es-is, W .edges);
-      vs-room = omega (arith, Z .vs-is, W .vertices);
-      p-room = omega (arith, Z .p-is, bytes-most W);
-      heads-room = omega (arith, Z .heads-is, W .vertices);
-      nexts-room = omega (arith, Z .nexts-is, W .edges);
-      order-room = omega (arith, Z .order-is, W .vertices);
-      scratch-room = omega (arith, Z .scratch-is, W .vertices);
-    };
-    place-room = λ W. omega (arith, Z .place-is, W .vertices);
-  }
-
-  -- the layout that was checked
-  module _ {r : Layout} (e : r ≡ layoutOf (refusalOf (layoutCauses (takesOf BothKinds) bs)) (kOf bs)) where
-    pub number-early : {n : ℕ} → r ≡ Refused n → n ≡ recordRefusal bothKinds bs
+  module _ {k : KmerSize} (ok : r ≡ Formed k) where
+    layout-none : refusalOf (layoutCauses bothKinds bs) ≡ 0
     unfolding takesOf
-    number-early {n} f =
-        sym (refused-early bothKinds bs (sym (refused-number bothKinds bs e f))
-        (byOrder 1 n (λ b. b) (λ b. absurd (refused-some bothKinds bs e f (omega arith)))))
+    layout-none = formed-none bothKinds bs e ok
 
-    pub layout-none : {k : KmerSize} → r ≡ Formed k → refusalOf (layoutCauses bothKinds bs) ≡ 0
-    unfolding takesOf
-    layout-none f = formed-none bothKinds bs e f
-
-    pub layout-size : {k : KmerSize} → r ≡ Formed k → k .0 ≡ kOf bs
-    layout-size f = formed-size (takesOf BothKinds) bs e f
-
-  module _ (layout : refusalOf (layoutCauses bothKinds bs) ≡ 0) where
     formed : WellFormed bs
-    formed = well-formed bothKinds bs layout
+    formed = well-formed bothKinds bs layout-none
 
     pub long-enough : 32 ≤ length bs
     long-enough = omega (arith, length-is bs formed)
 
-    module _ {es vs p heads nexts order scratch place : List ℕ} (Y : RoomToReadEither bs es vs p heads nexts order scratch place) where
-      R : KmerRoom bs es vs p heads nexts order scratch
-      R = Y .room formed
+    -- in arrays for a vertices and b edges
+    module _ {a b : ℕ} (F : FewToRead a b bs) where
+      pub number-loadable : {es vs : List ℕ} → length es ≡ 4 * b → length vs ≡ 2 * a → (k .0 ≡ kOf bs) × Loadable bs es vs
+      number-loadable p q = (
+        formed-size (takesOf BothKinds) bs e ok,
+        record { laid = formed-laid formed; es-room = omega (arith, F .edges formed); vs-room = omega (arith, F .vertices formed) },
+      )
 
-      pub number-loadable : Loadable bs es vs p
-      number-loadable = record { good = formed; es-room = R .es-room; vs-room = R .vs-room; p-room = R .p-room }
-
-      module _ {h : Held} {es′ vs′ p′ : List ℕ} (L : Loaded bs h es′ vs′ p′) where
-        pub number-indexable : length es′ ≡ length es → Indexable (h .m) (h .n) es′ heads nexts
-        number-indexable l = record {
-          room = omega (arith, l, L .m, R .es-room);
-          heads-room = omega (arith, L .n, R .heads-room);
-          nexts-room = omega (arith, L .m, R .nexts-room);
+      module _ {h : Held} {es vs : List ℕ} (L : Loaded bs h es vs) {heads nexts : List ℕ} where
+        pub number-indexable : length es ≡ 4 * b → length heads ≡ 2 * a → length nexts ≡ 2 * b → Indexable (h .m) (h .n) es heads nexts
+        number-indexable p q s = record {
+          room = omega (arith, L .m, F .edges formed);
+          heads-room = omega (arith, L .n, F .vertices formed);
+          nexts-room = omega (arith, L .m, F .edges formed);
           small = omega (arith, L .m, formed .edges);
           ends = L .ends;
         }
 
-        pub number-checkable : length vs′ ≡ length vs → length p′ ≡ length p → {heads′ nexts′ : List ℕ}
-            → Indexed (h .m) (h .n) es′ heads′ nexts′ → Checkable (h .m) (h .n) es′ vs′ p′ heads′ nexts′ order scratch place
-        number-checkable a b I = record {
-          indexed = I;
-          markable = record { room = omega (arith, L .n, R .scratch-room); small = omega (arith, L .n, formed .vertices) };
-          sortable = record {
-            order-room = omega (arith, L .n, R .order-room);
-            scratch-room = omega (arith, L .n, R .scratch-room);
-            small = omega (arith, L .n, formed .vertices);
-            keys = λ v c. record { room = omega (arith, a, L .n, R .vs-room); inside = omega (arith, L .within .at v c, L .used, b, R .p-room) };
-          };
-          peelable = record {
-            degrees-room = omega (arith, L .n, R .scratch-room);
-            queue-room = omega (arith, L .n, Y .place-room formed);
-            small =
-                omega (arith, L .n, formed .vertices);
-          };
-          few = omega (arith, L .m, formed .edges);
-        }
+        pub number-checkable : {order scratch place : List ℕ} → Indexed (h .m) (h .n) es heads nexts
+            → SizedToMark a b es vs heads nexts order scratch place → Checkable (h .m) (h .n) es vs bs heads nexts order scratch place
+        number-checkable I Z =
+            let few = F .vertices formed in
+            record {
+              indexed = I;
+              markable = record { room = omega (arith, L .n, few, Z .reading .mp-is); small = omega (arith, L .n, formed .vertices) };
+              sortable = record {
+                order-room = omega (arith, L .n, few, Z .reading .nodes-is);
+                scratch-room = omega (arith, L .n, few, Z .reading .mp-is);
+                small = omega (arith, L .n, formed .vertices);
+                keys = λ v c. record { room = omega (arith, L .n, few, Z .reading .vs-is); inside = L .within .at v c };
+              };
+              peelable = record {
+                degrees-room = omega (arith, L .n, few, Z .reading .mp-is);
+                queue-room = omega (arith, L .n, few, Z .marks-is);
+                small = omega (arith, L .n, formed .vertices);
+              };
+              few = omega (arith, L .m, formed .edges);
+            }
 
-    module _ {h : Held} {es vs p : List ℕ} (L : Loaded bs h es vs p) where
-      number-is : {kmers : Bool} {r : ℕ} → kmers ≡ eqb (kindOf bs) 0 → Checks kmers (h .m) (h .n) es vs p r → r
+    module _ {h : Held} {es vs : List ℕ} (L : Loaded bs h es vs) where
+      number-is : {kmers : Bool} {n : ℕ} → kmers ≡ eqb (kindOf bs) 0 → Checks kmers (h .m) (h .n) es vs bs n → n
           ≡ cond (doubled bs) 6 (cond (hasCycle (decode bs)) 7 0)
       unfolding doubled
       number-is q C = C .is (h .k .0) ∙ (λ i. cond (doubledEdge ((L .is i) .edges) || (q i && equalKmers ((L .is i) .verts))) 6 (cond (hasCycle (L .is i)) 7 0))
 
       by-tests : cond (doubled bs) 6 (cond (hasCycle (decode bs)) 7 0) ≡ recordRefusal bothKinds bs
       by-tests = byTest (doubled bs)
-          (λ d. rw d (sym (refused-6 bothKinds bs layout d)))
+          (λ d. rw d (sym (refused-6 bothKinds bs layout-none d)))
           (λ d. byTest (hasCycle (decode bs))
-          (λ c. rw (d, c) (sym (refused-7 bothKinds bs layout d c)))
-          (λ c. rw (d, c) (sym (accepted bothKinds bs layout d c))))
+          (λ c. rw (d, c) (sym (refused-7 bothKinds bs layout-none d c)))
+          (λ c. rw (d, c) (sym (accepted bothKinds bs layout-none d c))))
 
-      pub number-late : {kmers : Bool} {r : ℕ} → kmers ≡ eqb (kindOf bs) 0 → Checks kmers (h .m) (h .n) es vs p r → r ≡ recordRefusal bothKinds bs
+      pub number-late : {kmers : Bool} {n : ℕ} → kmers ≡ eqb (kindOf bs) 0 → Checks kmers (h .m) (h .n) es vs bs n → n ≡ recordRefusal bothKinds bs
       number-late q C = number-is q C ∙ by-tests
 
 -- ---- the vertex

@@ -2,23 +2,14 @@
 use mathlib.Core.Path.{_≡_}
 use mathlib.Core.Bool.{Bool, cond, _&&_, _||_}
 use mathlib.Core.List.{List}
-use Prim.Native.Nat.{ℕ, _≤_, _<_}
-use lib.ListN.{length}
-use Rattle.defs.specs.Record.{verticesOf}
+use Prim.Native.Nat.{ℕ, _<_}
 use Rattle.defs.specs.Refusals.{doubledEdge, equalKmers, hasCycle}
-use Rattle.record.specs.Layout.{WellFormed}
 use Rattle.store.specs.Store.{edgesIn, seqsIn, graphIn}
 use Rattle.index.specs.Index.{Indexed}
 use Rattle.doubled.specs.Doubled.{Markable}
 use Rattle.cycle.specs.Peel.{Peelable}
 use Rattle.sort.specs.Sort.{Sortable}
 use Rattle.kmer_order.specs.Order.{ReadableSequence}
-use Rattle.read_kmers.specs.Kmers.{KmerRoom}
-
--- there is room for a record whose layout is right
-pub record RoomToReadEither (bs es vs p heads nexts order scratch place : List ℕ) : Type 0 where
-  pub room : WellFormed bs → KmerRoom bs es vs p heads nexts order scratch
-  pub place-room : WellFormed bs → verticesOf bs ≤ length place
 
 -- a graph in slices that can be checked
 pub record Checkable (m n : ℕ) (es vs p heads nexts order scratch place : List ℕ) : Type 0 where

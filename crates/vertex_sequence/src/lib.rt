@@ -8,11 +8,14 @@ ghost use Rattle.index.specs.Index.{Indexed};
 ghost use Rattle.doubled.specs.Doubled.{Markable};
 ghost use Rattle.sort.specs.Sort.{Sortable};
 ghost use Rattle.kmer_order.specs.Order.{ReadableSequence};
-ghost use Rattle.vertex_sequence.specs.Checks.{RoomToReadEither, Checkable, Checks};
+ghost use Rattle.arrays.specs.Sized.{FewToRead};
+ghost use Rattle.vertex_sequence.specs.Checks.{Checkable, Checks};
 ghost use Rattle.vertex_sequence.specs.Handed.{Handed, Placed};
+use arrays::FEW_EDGES;
+use arrays::FEW_VERTICES;
+use arrays::SMALL_RECORD;
 use record::Layout;
 use record::MOST_EDGES;
-use record::MOST_KMER_BYTES;
 use record::MOST_VERTICES;
 use record::Takes;
 
@@ -72,48 +75,12 @@ fn graph_number(
     0
 }
 
-// The refusal number of a record, 1 to 7, or 0.
-fn record_number(
-    rec: &[u8],
-    es: &mut [u32],
-    vs: &mut [u32],
-    p: &mut [u8],
-    heads: &mut [u32],
-    nexts: &mut [u32],
-    order: &mut [u32],
-    scratch: &mut [u32],
-    place: &mut [u32],
-) -> u32
-    requires { ⌜ RoomToReadEither (now rec) (now es) (now vs) (now p) (now heads) (now nexts) (now order) (now scratch) (now place) ⌝ }
-    ensures { λ r. ⌜ r ≡ recordRefusal bothKinds (now (rec .entry)) ⌝ }
-{
-    let k = match record::check_layout(rec, Takes::BothKinds) {
-        Layout::Formed(k) => k,
-        Layout::Refused(number) => return number,
-    };
-    let held = load::load_graph(rec, k, es, vs, p);
-    index::build_index(es, held.m, held.n, heads, nexts);
-    graph_number(
-        rec[4] == 0,
-        es,
-        held.m,
-        held.n,
-        vs,
-        p,
-        heads,
-        nexts,
-        order,
-        scratch,
-        place,
-    )
-}
-
-// Whole arrays, whose lengths are known: enough for every record of either kind.
-fn record_number_with(
+// The refusal number of a record, 1 to 7, or 0, in whole arrays, whose lengths are known. A record is read here, and not in a function that both
+// classes call: were there only one call here, the compiler would lay this function's caller, and so the frames of both classes, into one.
+fn large_with(
     rec: &[u8],
     es: &mut [u32; 4 * MOST_EDGES],
     vs: &mut [u32; 2 * MOST_VERTICES],
-    p: &mut [u8; MOST_KMER_BYTES],
     heads: &mut [u32; 2 * MOST_VERTICES],
     nexts: &mut [u32; 2 * MOST_EDGES],
     order: &mut [u32; MOST_VERTICES],
@@ -122,31 +89,121 @@ fn record_number_with(
 ) -> u32
     ensures { λ r. ⌜ r ≡ recordRefusal bothKinds (now (rec .entry)) ⌝ }
 {
-    record_number(rec, es, vs, p, heads, nexts, order, scratch, place)
+    let k = match record::check_layout(rec, Takes::BothKinds) {
+        Layout::Formed(k) => k,
+        Layout::Refused(number) => return number,
+    };
+    let held = load::load_graph(rec, k, es, vs);
+    index::build_index(es, held.m, held.n, heads, nexts);
+    graph_number(
+        rec[4] == 0,
+        es,
+        held.m,
+        held.n,
+        vs,
+        rec,
+        heads,
+        nexts,
+        order,
+        scratch,
+        place,
+    )
 }
 
-fn checked_record(rec: &[u8]) -> u32
+fn large(rec: &[u8]) -> u32
     ensures { λ r. ⌜ r ≡ recordRefusal bothKinds (now (rec .entry)) ⌝ }
 {
     let mut es = [0u32; 4 * MOST_EDGES];
     let mut vs = [0u32; 2 * MOST_VERTICES];
-    let mut p = [0u8; MOST_KMER_BYTES];
     let mut heads = [0u32; 2 * MOST_VERTICES];
     let mut nexts = [0u32; 2 * MOST_EDGES];
     let mut order = [0u32; MOST_VERTICES];
     let mut scratch = [0u32; MOST_VERTICES];
     let mut place = [0u32; MOST_VERTICES];
-    record_number_with(
+    large_with(
         rec,
         &mut es,
         &mut vs,
-        &mut p,
         &mut heads,
         &mut nexts,
         &mut order,
         &mut scratch,
         &mut place,
     )
+}
+
+fn small_with(
+    rec: &[u8],
+    es: &mut [u32; 4 * FEW_EDGES],
+    vs: &mut [u32; 2 * FEW_VERTICES],
+    heads: &mut [u32; 2 * FEW_VERTICES],
+    nexts: &mut [u32; 2 * FEW_EDGES],
+    order: &mut [u32; FEW_VERTICES],
+    scratch: &mut [u32; FEW_VERTICES],
+    place: &mut [u32; FEW_VERTICES],
+) -> u32
+    requires { ⌜ FewToRead 512 512 (now rec) ⌝ }
+    ensures { λ r. ⌜ r ≡ recordRefusal bothKinds (now (rec .entry)) ⌝ }
+{
+    let k = match record::check_layout(rec, Takes::BothKinds) {
+        Layout::Formed(k) => k,
+        Layout::Refused(number) => return number,
+    };
+    let held = load::load_graph(rec, k, es, vs);
+    index::build_index(es, held.m, held.n, heads, nexts);
+    graph_number(
+        rec[4] == 0,
+        es,
+        held.m,
+        held.n,
+        vs,
+        rec,
+        heads,
+        nexts,
+        order,
+        scratch,
+        place,
+    )
+}
+
+fn small(rec: &[u8]) -> u32
+    requires { ⌜ FewToRead 512 512 (now rec) ⌝ }
+    ensures { λ r. ⌜ r ≡ recordRefusal bothKinds (now (rec .entry)) ⌝ }
+{
+    let mut es = [0u32; 4 * FEW_EDGES];
+    let mut vs = [0u32; 2 * FEW_VERTICES];
+    let mut heads = [0u32; 2 * FEW_VERTICES];
+    let mut nexts = [0u32; 2 * FEW_EDGES];
+    let mut order = [0u32; FEW_VERTICES];
+    let mut scratch = [0u32; FEW_VERTICES];
+    let mut place = [0u32; FEW_VERTICES];
+    small_with(
+        rec,
+        &mut es,
+        &mut vs,
+        &mut heads,
+        &mut nexts,
+        &mut order,
+        &mut scratch,
+        &mut place,
+    )
+}
+
+// In the arrays of the record's class. The large ones stand behind two tests: with one call of `large` the compiler would lay its frame into this
+// one, and every record would take it.
+fn checked_record(rec: &[u8]) -> u32
+    ensures { λ r. ⌜ r ≡ recordRefusal bothKinds (now (rec .entry)) ⌝ }
+{
+    if rec.len() <= SMALL_RECORD {
+        return small(rec);
+    }
+    if FEW_VERTICES < record::vertex_count(rec) {
+        return large(rec);
+    }
+    if FEW_EDGES < record::edge_count(rec) {
+        return large(rec);
+    }
+    small(rec)
 }
 
 // The record's number, or 9 where v is no vertex, or 0.

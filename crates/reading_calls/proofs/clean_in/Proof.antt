@@ -9,8 +9,8 @@ clean-non-ref-paths-requires c κs =
     let start : tie.Start = let c : tie.After-slice-known5 = search in search in
     answerable-walkable (start .pre)
 
-send-requires : tie.Need-send-requires
-send-requires c κs =
+send-record-requires : tie.Need-send-record-requires
+send-record-requires c κs =
     let k = at-clean .clean-non-ref-paths .kept .1 in
     cleaned-sendable (start .pre) (at-clean .clean-non-ref-paths .ensures) (k .0) (k .1 .0)
   where
@@ -46,16 +46,16 @@ same-length-8 c = search needs
 
 returns : tie.Need-returns
 returns c =
-    let at-send : tie.After-send = search in
+    let at-send : tie.After-send-record = search in
     let at-clean : tie.After-clean-non-ref-paths = let c : tie.After-nexts = search in search in
-    cleaned-answered (at-clean .clean-non-ref-paths .ensures) (at-send .send .ensures)
+    cleaned-answered (at-clean .clean-non-ref-paths .ensures) (at-send .send-record .ensures)
 
 pub clean-in-spec : {M : Type 1} → statement M
 clean-in-spec =
     tie.close
     (tie.spec
     clean-non-ref-paths-requires
-    send-requires
+    send-record-requires
     same-length
     same-length-2
     same-length-3

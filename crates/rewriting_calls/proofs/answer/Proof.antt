@@ -5,21 +5,16 @@ use Rattle.rewriting_calls.proofs.answer.Statement.{statement}
 use Rattle.rewriting_calls.proofs.answer.Tie as tie
 
 returns : tie.Need-returns
-returns c = caller-refused (c .if1 .taken)
+returns c =
+    let at-refusal : tie.After-refusal = search in
+    let at-if1 : tie.Then1 = search in
+    caller-refused (at-if1 .if1 .taken) (at-refusal .refusal .ensures)
 
 returns-2 : tie.Need-returns-2
 returns-2 c =
-    let at-small : tie.After-small = search in
+    let at-class : tie.After-by-class = search in
     let at-if1 : tie.Else1 = search in
-    caller-answered (at-if1 .if1 .left) (at-small .small .ensures)
-
-returns-3 : tie.Need-returns-3
-returns-3 c =
-    let at-large : tie.After-large = search in
-    let at-if1 : tie.Else1 = search in
-    caller-answered (at-if1 .if1 .left) (at-large .large .ensures)
+    caller-answered (at-if1 .if1 .left) (at-class .by-class .ensures)
 
 pub answer-spec : {M : Type 1} → statement M
-answer-spec =
-    tie.close
-    (tie.spec returns (λ c κs. search needs) (λ c. search needs) returns-2 (λ c κs. search needs) (λ c. search needs) returns-3)
+answer-spec = tie.close (tie.spec (λ c κs. search needs) returns (λ c κs. search needs) (λ c. search needs) returns-2)

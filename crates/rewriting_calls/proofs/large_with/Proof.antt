@@ -1,11 +1,47 @@
 -- `rewriting_calls::large_with` meets its contract. Assumes nothing.
-use Rattle.arrays.proofs.SizedLaws.{large-lent}
+use Rattle.arrays.proofs.SizedLaws.{large-graph, large-lent}
+use Rattle.rewriting_calls.proofs.AnsweredLaws.{lent-answerable, record-refused, record-answered}
 use borrow.Author.Needs.{needs}
 use Rattle.rewriting_calls.proofs.large_with.Statement.{statement}
 use Rattle.rewriting_calls.proofs.large_with.Tie as tie
 
+returns : tie.Need-returns
+returns c =
+    let at-refusal : tie.After-refusal = search in
+    let at-number : tie.After-number = search in
+    let at-read : tie.After-read-and-hold = search in
+    record-refused (at-read .read-and-hold .ensures) (at-number .number .given .1) (at-refusal .refusal .ensures)
+
+answer-held-requires : tie.Need-answer-held-requires
+answer-held-requires c κs = lent-answerable (large-lent (search needs)) (at-read .read-and-hold .ensures) (at-held .held .given .1)
+  where
+    at-held : tie.After-held
+    at-held = search
+
+    at-read : tie.After-read-and-hold
+    at-read = let c = at-held in search
+
+returns-2 : tie.Need-returns-2
+returns-2 c = record-answered (at-read .read-and-hold .ensures) (at-held .held .given .1) (at-answer .answer-held .ensures)
+  where
+    at-answer : tie.After-answer-held
+    at-answer = search
+
+    at-held : tie.After-held
+    at-held = let c = at-answer in search
+
+    at-read : tie.After-read-and-hold
+    at-read = let c = at-held in search
+
 pub large-with-spec : {M : Type 1} → statement M
-large-with-spec = tie.close (tie.spec
-    (λ c κs. large-lent (search needs))
+large-with-spec =
+    tie.close
+    (tie.spec
+    (λ c κs. large-graph (search needs))
     (λ c. search needs)
-    (λ c. search needs))
+    (λ c. search needs)
+    (λ c κs. search needs)
+    returns
+    answer-held-requires
+    (λ c. search needs)
+    returns-2)

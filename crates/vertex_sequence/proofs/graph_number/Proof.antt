@@ -1,15 +1,10 @@
 -- `vertex_sequence::graph_number` meets its contract. Assumes nothing.
 use mathlib.Core.Path.{refl}
-use native.Mathlib.Omega.{arith}
 use Rattle.cycle.proofs.PeelLaws.{peelable-kept}
 use Rattle.vertex_sequence.proofs.VertexLaws.{checks-6, checks-7, checks-0}
 use borrow.Author.Needs.{needs}
 use Rattle.vertex_sequence.proofs.graph_number.Statement.{statement}
 use Rattle.vertex_sequence.proofs.graph_number.Tie as tie
-use Rattle.vertex_sequence.proofs.graph_number.Reads as reads
-use Rattle.vertex_sequence.proofs.graph_number.Lts as lts
-use Rattle.cycle.proofs.has_cycle.Reads as has-cycle-reads
-use Rattle.vertex_sequence.proofs.is_doubled.Reads as is-doubled-reads
 
 is-doubled-requires : tie.Need-is-doubled-requires
 is-doubled-requires c κs = search needs

@@ -1,13 +1,8 @@
 -- `vertex_sequence::is_doubled` meets its contract. Assumes nothing.
-use native.Mathlib.Omega.{arith}
 use Rattle.vertex_sequence.proofs.VertexLaws.{kmers-doubled, edges-doubled}
 use borrow.Author.Needs.{needs}
 use Rattle.vertex_sequence.proofs.is_doubled.Statement.{statement}
 use Rattle.vertex_sequence.proofs.is_doubled.Tie as tie
-use Rattle.vertex_sequence.proofs.is_doubled.Reads as reads
-use Rattle.vertex_sequence.proofs.is_doubled.Lts as lts
-use Rattle.doubled.proofs.doubled_edge.Reads as doubled-edge-reads
-use Rattle.read_kmers.proofs.is_doubled.Reads as is-doubled-reads
 
 is-doubled-requires : tie.Need-is-doubled-requires
 is-doubled-requires c κs = search needs

@@ -4,10 +4,6 @@ use Rattle.vertex_sequence.proofs.VertexLaws.{vertex-refused, record-ze
 use borrow.Author.Needs.{needs}
 use Rattle.vertex_sequence.proofs.vertex_number.Statement.{statement}
 use Rattle.vertex_sequence.proofs.vertex_number.Tie as tie
-use Rattle.vertex_sequence.proofs.vertex_number.Reads as reads
-use Rattle.vertex_sequence.proofs.vertex_number.Lts as lts
-use Rattle.record.proofs.vertex_count.Reads as vertex-count-reads
-use Rattle.vertex_sequence.proofs.checked_record.Reads as checked-record-reads
 
 checked-record-requires : tie.Need-checked-record-requires
 checked-record-requires c κs = search needs

@@ -1,13 +1,8 @@
 -- `vertex_sequence::vertex_sequence` meets its contract. Assumes nothing.
-use native.Mathlib.Omega.{arith}
 use Rattle.vertex_sequence.proofs.VertexLaws.{handed-none, handed-part, known}
 use borrow.Author.Needs.{needs}
 use Rattle.vertex_sequence.proofs.vertex_sequence.Statement.{statement}
 use Rattle.vertex_sequence.proofs.vertex_sequence.Tie as tie
-use Rattle.vertex_sequence.proofs.vertex_sequence.Reads as reads
-use Rattle.vertex_sequence.proofs.vertex_sequence.Lts as lts
-use Rattle.sequence.proofs.sequence_part.Reads as sequence-part-reads
-use Rattle.vertex_sequence.proofs.vertex_number.Reads as vertex-number-reads
 
 vertex-number-requires : tie.Need-vertex-number-requires
 vertex-number-requires c κs = search needs

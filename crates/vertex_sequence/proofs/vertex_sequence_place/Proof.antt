@@ -5,11 +5,6 @@ use Rattle.vertex_sequence.proofs.VertexLaws.{placed-none, placed-part,
 use borrow.Author.Needs.{needs}
 use Rattle.vertex_sequence.proofs.vertex_sequence_place.Statement.{statement}
 use Rattle.vertex_sequence.proofs.vertex_sequence_place.Tie as tie
-use Rattle.vertex_sequence.proofs.vertex_sequence_place.Reads as reads
-use Rattle.vertex_sequence.proofs.vertex_sequence_place.Lts as lts
-use Rattle.record.proofs.length_at.Reads as length-at-reads
-use Rattle.sequence.proofs.sequence_start.Reads as sequence-start-reads
-use Rattle.vertex_sequence.proofs.vertex_number.Reads as vertex-number-reads
 
 vertex-number-requires : tie.Need-vertex-number-requires
 vertex-number-requires c κs = search needs
