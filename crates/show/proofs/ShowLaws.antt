@@ -1,188 +1,250 @@
 -- What is put is the text of the input. Assumes nothing.
-use mathlib.Core.Path.{_≡_, refl, sym, ap, _∙_}
-use mathlib.Core.List.{List, _++_}
-use Prim.Native.Nat.{ℕ, _+_, _*_, _≤_, _<_}
+use mathlib.Core.Path.{_≡_, refl, sym, ap, _∙_, subst}
+use mathlib.Core.Bool.{false, _||_}
+use mathlib.Core.List.{List, [], _∷_, _++_}
+use Prim.Native.Nat.{ℕ, zero, suc, _+_, _*_, _≤_, _<_}
 use native.Mathlib.Omega.{arith}
-use lib.ListN.{length, drop, length-append}
-use lib.Seq.{sets-eq}
+use lib.ListN.{length, take, drop, length-append}
+use lib.Seq.{sets-eq, take-append-seam}
 use borrow.Author.Tests.{lt-ltb, le-ltb}
-use Rattle.defs.specs.SeqGraph as G
+use Rattle.defs.specs.SeqGraph.{Graph, nodeCount}
 use Rattle.defs.specs.Simplify as S
-use Rattle.defs.specs.Simplify.{simplifyGraphFull, minTailSuffixLen}
-use Rattle.defs.specs.Record.{sequenceGraph, encode, decode}
-use Rattle.defs.specs.Lists.{allOf}
-use Rattle.defs.specs.Refusals.{refusalOf, sequenceOnly, layoutCauses, recordCauses, recordRefusal}
-use Rattle.laws.proofs.Causes.{CausesNumbered, numbers-above}
-use Rattle.defs.specs.Calls.{Response, refused, accepted}
-use Rattle.calls.specs.Sending.{fits}
-use Rattle.store.specs.Store.{Within}
+use Rattle.defs.specs.Simplify.{sequenceBytes, simplifyGraphFull, minTailSuffixLen, endNumber}
+use Rattle.defs.specs.Record.{sequenceGraph, kOf, edgesOf, encode, decode}
+use Rattle.defs.specs.Refusals.{Cause, refusalOf, sequenceOnly, recordCauses, recordRefusal}
+use Rattle.defs.specs.Calls as D
+use Rattle.defs.specs.Calls.{Response, refused, accepted, numberOf, lengthOf, fieldOf, writtenOf, respondTo, respond}
+use Rattle.defs.specs.Calls.{callerCause, simplifyGraphCauses, simplifyGraphResponse, simplifyGraphAnswer, simplifiedRecord}
+use Rattle.laws.proofs.ListLaws.{clash}
+use Rattle.laws.proofs.Causes.{refusal-absent, refusal-front}
+use Rattle.kmer.specs.declared.KmerSize.{KmerSize}
+use Rattle.kmer.specs.Size.{kPastLimit, sizeOf}
+use Rattle.kmer.specs.declared.MadeSize.{MadeSize}
+use Rattle.kmer.specs.declared.MadeSize.the-variants.{Size, Refused}
+use Rattle.kmer.proofs.SizeLaws.{refused-past, made-is}
 use Rattle.pool.specs.Pool.{bytesIn}
-use Rattle.memory.specs.Memory.{graphOf, Holds}
 use Rattle.memory.specs.declared.Held.{Held}
-use Rattle.memory.proofs.RoomLaws.{fit-bytes, held-vertices, held-edges}
-use Rattle.merge_linear_chain.proofs.JoinLaws.{held-bytes}
-use Rattle.calls.proofs.ResponseLaws.{fits-enough, fits-short, respond-fits, respond-refused}
-use Rattle.write_record.specs.Written.{Measured}
-use Rattle.write_record.proofs.WriteLaws.{encode-length}
-use Rattle.arrays.specs.Sized.{Lent}
-use Rattle.accept.specs.declared.Read.{Read}
-use Rattle.accept.specs.declared.Read.the-variants.{Graph, Refused}
-use Rattle.accept.proofs.AcceptLaws.{number-graph, number-refused}
-use Rattle.rewriting.specs.Rewriting.{Result, resultIn, resultOf, RewrittenAs}
-use Rattle.rewriting.specs.declared.Rewritten.{Rewritten}
-use Rattle.rewriting.specs.declared.RewritingCall.the-variants.{SimplifyGraph}
+use Rattle.load.specs.Loaded.{Loadable, Loaded}
+use Rattle.load.proofs.LoadLaws.{laid-length}
+use Rattle.sound.proofs.Accepted.{order-read}
+use Rattle.write_record.proofs.WriteLaws.{bytes-are, encode-length}
+use Rattle.calls.specs.Answers.{simplifyAnswerOf}
+use Rattle.calls.specs.declared.SimplifyAnswer.{SimplifyAnswer}
+use Rattle.calls.proofs.ResponseLaws.{by-response}
+use Rattle.calls.proofs.CallerLaws.{respond-within, caller-record-none}
+use Rattle.reread.specs.Reread.{RereadAs}
+use Rattle.reread.specs.Recordable.{SequenceAnswer}
+use Rattle.reread.proofs.Read.{Bytes}
+use Rattle.reread.proofs.Graphs.{answer-laid}
+use Rattle.reread.proofs.Answers.{simplify-within, simplify-reread}
+use Rattle.simplify_graph.specs.Simplifies.{Simplifies}
 use Rattle.text.specs.Printed.{printedGraph, printedRefusal, printedAnswer, inputCauses, shown}
 use Rattle.text.specs.Put.{TextPut}
 use Rattle.text.proofs.TextLaws.{put-as, put-most}
 use Rattle.graph_text.specs.GraphText.{endWithNumber, simplifiedIn, graphMost, Printable}
 use Rattle.graph_text.proofs.GraphLaws.{end-back}
-use Rattle.show.specs.Show.{ShowBounded, readText, answerText, Printing, Shown}
+use Rattle.show.specs.Show.{Recorded, ShowRoom, RecordOf, GraphPut, Printing, answerText, AnswerPut, Shown}
 
--- ---- the number
+-- ---- a record's graph
 
-causes-long : (bs : List ℕ) → 65536 < length bs → 1 ≡ refusalOf (inputCauses bs)
-unfolding inputCauses refusalOf
-causes-long bs h = rw (lt-ltb 65536 (length bs) h, refusalOf)
+module _ {bs : List ℕ} (R : Recorded bs) where
+  -- 32 + 9 · 7,278 bytes are more than a shown record has but 2
+  edges-most : edgesOf bs ≤ 7278
+  edges-most = omega (arith, laid-length (R .laid), R .short)
 
-causes-record : (bs : List ℕ) → length bs ≤ 65536 → recordRefusal sequenceOnly bs ≡ refusalOf (inputCauses bs)
-unfolding inputCauses refusalOf recordRefusal
-causes-record bs h = rw (le-ltb 65536 (length bs) h, refusalOf)
+  -- its k is one
+  past-none : (k : ℕ) → 2 ≤ k → k ≤ 128 → kPastLimit k ≡ false
+  unfolding kPastLimit
+  past-none k a b = λ i. le-ltb k 2 a i || le-ltb 128 k b i
 
-input-numbered : (bs : List ℕ) → CausesNumbered (inputCauses bs)
-unfolding inputCauses recordCauses layoutCauses allOf
-input-numbered bs = numbers-above (inputCauses bs) refl
+  pub recorded-size : {m : MadeSize} {X : Type 0} → m ≡ sizeOf (kOf bs) → m ≡ Refused → X
+  recorded-size q f =
+      clash (refused-past (kOf bs) (sym q ∙ f)) (past-none (kOf bs) (R .k-least) (R .k-most))
 
--- ---- the answer's text
+  module _ {es vs text : List ℕ} (Y : ShowRoom es vs text) where
+    pub recorded-loadable : {m : MadeSize} {k : KmerSize} → m ≡ sizeOf (kOf bs) → m ≡ Size k → (k .0 ≡ kOf bs) × Loadable bs es vs
+    recorded-loadable q f = (
+      made-is (kOf bs) (sym q ∙ f),
+      record {
+        laid = R .laid;
+        es-room = omega (arith, edges-most, Y .es-room);
+        vs-room = omega (arith, R .vertices, Y .vs-room);
+      },
+    )
 
-refused-text : (n : ℕ) (z : S.Simplified) → printedAnswer (refused n) z ≡ printedRefusal n
-unfolding printedAnswer
-refused-text n z = refl
+    module _ {h : Held} {es′ vs′ : List ℕ} (L : Loaded bs h es′ vs′) where
+      bytes-is : bytesIn (h .n) vs′ ≡ sequenceBytes ((decode bs) .verts)
+      bytes-is = sym (bytes-are 0 (h .k .0) (h .n) (h .m) es′ vs′ bs (L .within)) ∙ ap (λ (g : Graph). sequenceBytes (g .verts)) (L .is)
 
-accepted-text : (result : List ℕ) (z : S.Simplified) → printedAnswer (accepted result) z ≡ printedGraph z
-unfolding printedAnswer
-accepted-text result z = refl
+      long-is : length bs ≡ 32 + 2 * h .n + 9 * h .m + bytesIn (h .n) vs′
+      long-is =
+          ap length (R .is) ∙ ap (λ (g : Graph). length (encode sequenceGraph 0 g)) (sym (L .is))
+          ∙ encode-length 0 (h .k .0) (h .n) (h .m) es′ vs′ bs (L .within)
 
-module _ {made : Rewritten} {es vs p text : List ℕ} (P : Printing made es vs p text) where
-  pub answer-refused : {n : ℕ} → made .read ≡ Refused n → {text′ : List ℕ} {r : ℕ} → TextPut 19 (printedRefusal n) text 0 r text′
-      → TextPut 344000 (answerText made es vs p) text 0 r text′
-  unfolding readText
-  answer-refused f W = put-as (sym (ap (λ (x : Read). readText x (made .rewrites) (made .rounds) (made .end) es vs p) f)) (put-most (omega arith) W)
+      text-fits : graphMost h vs′ ≤ 344000
+      text-fits = omega (arith, long-is, R .short, L .n, R .vertices, bytes-is, R .bytes)
 
-  module _ {h : Held} (ok : made .read ≡ Graph h) where
-    B : ShowBounded h es vs p
-    B = P .bounded h ok
+      pub recorded-printable : length es′ ≡ length es → length vs′ ≡ length vs → Printable h es′ vs′ bs text
+      recorded-printable a b = record {
+        n-fits = omega (arith, L .n, R .vertices);
+        m-fits = omega (arith, L .m, edges-most);
+        bytes-fit = omega (arith, bytes-is, R .bytes);
+        es-room = omega (arith, a, L .m, edges-most, Y .es-room);
+        vs-room = omega (arith, b, L .n, R .vertices, Y .vs-room);
+        within = L .within;
+        room = omega (arith, text-fits, Y .text-room);
+      }
 
-    long-is : length (encode sequenceGraph 0 (graphOf h es vs p)) ≡ 32 + 2 * h .n + 9 * h .m + bytesIn (h .n) vs
-    long-is = encode-length 0 (h .k .0) (h .n) (h .m) es vs p (B .within)
+      pub recorded-put : {made : SimplifyAnswer} {text′ : List ℕ} {r : ℕ}
+          → TextPut (graphMost h vs′) (printedGraph (simplifiedIn h (made .rewrites) (made .rounds) (made .end) es′ vs′ bs)) text 0 r text′
+          → GraphPut made bs text r text′
+      recorded-put {made} W = record {
+        is = λ z Z. put-as (ap printedGraph (λ i. record {
+          graph = (L .is ∙ Z .graph) i;
+          rewrites = Z .rewrites i;
+          rounds = Z .rounds i;
+          end = (ap endWithNumber (Z .end) ∙ end-back (z .end)) i;
+        })) (put-most text-fits W);
+      }
 
-    text-is : {a : Response} → fits 65536 (encode sequenceGraph 0 (graphOf h es vs p)) ≡ a → answerText made es vs p
-        ≡ printedAnswer a (simplifiedIn h (made .rewrites) (made .rounds) (made .end) es vs p)
-    unfolding readText
-    text-is e =
-        ap (λ (x : Read). readText x (made .rewrites) (made .rounds) (made .end) es vs p) ok
-        ∙ ap (λ (a : Response). printedAnswer a (simplifiedIn h (made .rewrites) (made .rounds) (made .end) es vs p)) e
+-- ---- an answer
 
-    pub answer-measured : Measured h vs
-    answer-measured = record { vs-room = B .vs-room; small = omega (arith, B .vertices, B .edges, B .bytes) }
+refused-text : (n : ℕ) (z : S.Simplified) → (n ≡ 0 → ⊥) → answerText n z ≡ printedRefusal n
+unfolding answerText
+refused-text zero z o = absurd (o refl)
+refused-text (suc n) z o = refl
 
-    module _ {len : ℕ} (q : len ≡ 32 + 2 * h .n + 9 * h .m + bytesIn (h .n) vs) where
-      pub answer-over : {text′ : List ℕ} {r : ℕ} → 65536 < len → TextPut 19 (printedRefusal 11) text 0 r text′
-          → TextPut 344000 (answerText made es vs p) text 0 r text′
-      answer-over l W = put-as (sym (text-is (fits-short 65536 _ (omega (arith, long-is, q))) ∙ refused-text 11 _)) (put-most (omega arith) W)
+module _ {made : SimplifyAnswer} {out text text′ : List ℕ} {r : ℕ} where
+  pub answer-refused : (made .number ≡ 0 → ⊥) → TextPut 19 (printedRefusal (made .number)) text 0 r text′ → AnswerPut made out text r text′
+  answer-refused o W = record { is = λ z _. put-as (sym (refused-text (made .number) z o)) (put-most (omega arith) W) }
 
-      module _ (l : len ≤ 65536) where
-        text-fits : graphMost h vs ≤ 344000
-        text-fits = omega (arith, q, B .vertices, B .edges, B .bytes)
-
-        pub answer-printable : Printable h es vs p text
-        answer-printable = record {
-          n-fits = omega (arith, B .vertices);
-          m-fits = omega (arith, B .edges);
-          bytes-fit = omega (arith, B .bytes);
-          es-room = B .es-room;
-          vs-room = B .vs-room;
-          within = B .within;
-          room = omega (arith, text-fits, P .room);
-        }
-
-        pub answer-graph : {text′ : List ℕ} {r : ℕ} → TextPut (graphMost h vs)
-            (printedGraph (simplifiedIn h (made .rewrites) (made .rounds) (made .end) es vs p)) text 0 r text′
-            → TextPut 344000 (answerText made es vs p) text 0 r text′
-        answer-graph W =
-            put-as (sym (text-is (fits-enough 65536 _ (omega (arith, long-is, q))) ∙ accepted-text _ _)) (put-most text-fits W)
+  pub answer-put : made .number ≡ 0 → GraphPut made (take (made .length) out) text r text′ → AnswerPut made out text r text′
+  unfolding answerText
+  answer-put e G = record { is = λ z Z. put-as (ap (λ (n : ℕ). answerText n z) (sym e)) (G .is z (Z e)) }
 
 -- ---- the whole
-
-module _ {bs es vs p heads nexts nodes mp starts tried sig : List ℕ} (Z : Lent bs es vs p heads nexts nodes mp starts tried sig) where
-  bounded : {h : Held} {es′ vs′ p′ : List ℕ} → Holds h es′ vs′ p′ heads nexts → length es′ ≡ length es → length vs′ ≡ length vs → length p′
-      ≡ length p → ShowBounded h es′ vs′ p′
-  bounded {h} {es′} {vs′} {p′} H a b c = record {
-    vertices = omega (arith, held-vertices H, Z .graph .vertices-most);
-    edges = omega (arith, held-edges H, Z .graph .edges-most);
-    bytes = omega (arith, fit-bytes (H .fit), held-bytes (h .n) vs′ p′ in-pool, Z .graph .vertices-most);
-    es-room = omega (arith, held-edges H, a, Z .graph .room .es-room);
-    vs-room = omega (arith, held-vertices H, b, Z .graph .room .vs-room);
-    within = in-pool;
-  }
-    where
-      in-pool : Within (length p′) (h .n) vs′
-      in-pool = record { at = λ v w. omega (arith, H .within .at v w, H .used-room, c, Z .graph .room .p-room) }
-
-  pub made-printing : {r : Rewritten} {es′ vs′ p′ text : List ℕ} → RewrittenAs SimplifyGraph bs heads nexts r es′ vs′ p′
-      → length es′ ≡ length es → length vs′ ≡ length vs → length p′ ≡ length p → 344000 ≤ length text → Printing r es′ vs′ p′ text
-  made-printing A a b c h = record { bounded = λ s e. bounded (A .holds s e) a b c; room = h }
-
--- the simplification that is held is the definition's
-simplified-is : (h : Held) (r : Rewritten) (es vs p : List ℕ) (g : G.Graph) → resultIn h r es vs p ≡ resultOf SimplifyGraph g
-    → simplifiedIn h (r .rewrites) (r .rounds) (r .end) es vs p ≡ simplifyGraphFull minTailSuffixLen g
-unfolding resultOf
-simplified-is h r es vs p g q = λ i. record {
-  graph = q i .graph;
-  rewrites = q i .rewrites;
-  rounds = q i .rounds;
-  end = (ap (λ (z : Result). endWithNumber (z .end)) q ∙ end-back ((simplifyGraphFull minTailSuffixLen g) .end)) i;
-}
-
-abbrev answerFor : List ℕ → S.Simplified
-answerFor bs = simplifyGraphFull minTailSuffixLen (decode bs)
 
 put-front : {s text text′ : List ℕ} {r : ℕ} → 344000 ≤ length text → TextPut 344000 s text 0 r text′ → text′ ≡ s ++ drop r text
 put-front {s} {text} {text′} {r} h P =
     let e : 0 + length s ≡ r = omega (arith, P .end) in
     P .is ∙ sets-eq s text 0 (omega (arith, P .size)) ∙ ap (λ (x : ℕ). s ++ drop x text) e
 
--- what is shown, by the number of the refusal
-shown-refused : (bs : List ℕ) {n : ℕ} → refusalOf (inputCauses bs) ≡ n → (n ≡ 0 → ⊥) → printedRefusal n ≡ shown bs
-unfolding shown printedAnswer
-shown-refused bs {n} q o =
-    sym (ap (λ (a : Response). printedAnswer a (answerFor bs))
-    (respond-refused (inputCauses bs) 65536 (encode sequenceGraph 0 (answerFor bs .graph)) n q o))
-
-shown-fitting : (bs : List ℕ) → refusalOf (inputCauses bs) ≡ 0
-    → printedAnswer (fits 65536 (encode sequenceGraph 0 (answerFor bs .graph))) (answerFor bs) ≡ shown bs
-unfolding shown
-shown-fitting bs q =
-    sym (ap (λ (a : Response). printedAnswer a (answerFor bs))
-    (respond-fits (inputCauses bs) 65536 (encode sequenceGraph 0 (answerFor bs .graph)) (input-numbered bs) q))
-
 put-shown : {bs text text′ : List ℕ} {r m : ℕ} {s : List ℕ} → s ≡ shown bs → m ≤ 344000 → 344000 ≤ length text → TextPut m s text 0 r text′
     → Shown bs text r text′
 put-shown e l h P = let Q = put-as e (put-most l P) in record { long = omega (arith, Q .end); is = put-front h Q }
 
+-- input that is too long
+long-text : (bs : List ℕ) → 65536 < length bs → printedRefusal 1 ≡ shown bs
+unfolding shown inputCauses respond respondTo printedAnswer refusalOf
+long-text bs l = rw (lt-ltb 65536 (length bs) l, refusalOf) refl
+
 pub long-shown : (bs : List ℕ) {text text′ : List ℕ} {r : ℕ} → 65536 < length bs → 344000 ≤ length text → TextPut 19 (printedRefusal 1) text 0 r text′
     → Shown bs text r text′
-long-shown bs l h P = put-shown (shown-refused bs (sym (causes-long bs l)) (λ z. omega arith)) (omega arith) h P
+long-shown bs l h P = put-shown (long-text bs l) (omega arith) h P
 
-module _ {bs heads nexts : List ℕ} {made : Rewritten} {es vs p : List ℕ} (A : RewrittenAs SimplifyGraph bs heads nexts made es vs p) (short : length bs ≤ 65536) where
-  made-is : (x : Read) → made .read ≡ x → readText x (made .rewrites) (made .rounds) (made .end) es vs p ≡ shown bs
-  unfolding readText
-  made-is (Graph h) f =
-      (let e = simplified-is h made es vs p (decode bs) (A .is h f) in λ i. printedAnswer (fits 65536 (encode sequenceGraph 0 (e i .graph))) (e i))
-      ∙ shown-fitting bs (sym (causes-record bs short) ∙ sym (A .number) ∙ number-graph f)
-  made-is (Refused n) f = shown-refused bs (sym (causes-record bs short) ∙ sym (A .number) ∙ number-refused f) (A .refused n f)
+module _ (bs : List ℕ) where
+  abbrev z : S.Simplified
+  z = simplifyGraphFull minTailSuffixLen (decode bs)
 
-  pub made-shown : {text text′ : List ℕ} {r : ℕ} → 344000 ≤ length text → TextPut 344000 (answerText made es vs p) text 0 r text′ → Shown bs text r text′
-  made-shown h P = put-shown (made-is (made .read) refl) (omega arith) h P
+  abbrev causes : List Cause
+  causes = callerCause 0 ∷ recordCauses sequenceOnly bs
+
+  abbrev response : Response
+  response = simplifyGraphResponse bs 65536 0
+
+  -- what is shown is the text of what the call answers
+  shown-is : length bs ≤ 65536 → printedAnswer response z ≡ shown bs
+  unfolding shown simplifyGraphResponse simplifyGraphCauses inputCauses respond
+  shown-is l = ap (λ (x : Response). printedAnswer x z)
+      (respond-within 0 _ (simplifiedRecord bs) (omega arith)
+      ∙ ap (λ (n : ℕ). respondTo n (simplifiedRecord bs)) (sym (refusal-absent _ _ (le-ltb 65536 (length bs) l))))
+
+  text-is : answerText (numberOf response) z ≡ printedAnswer response z
+  unfolding simplifyGraphResponse answerText printedAnswer numberOf
+  text-is = by-response (simplifyGraphCauses bs 65536 0) (simplifiedRecord bs)
+      (λ n e o. ap (λ (x : Response). answerText (numberOf x) z) e ∙ refused-text n z o ∙ sym (ap (λ (x : Response). printedAnswer x z) e))
+      (λ q e. ap (λ (x : Response). answerText (numberOf x) z) e ∙ sym (ap (λ (x : Response). printedAnswer x z) e))
+
+-- from the call's promise
+module _ {bs out : List ℕ} (small : Bytes bs) (room : length out ≡ 65536) {made : SimplifyAnswer} {out′ : List ℕ} (P : Simplifies bs out 0 made out′) where
+  answer-is : simplifyAnswerOf made ≡ simplifyGraphAnswer bs 65536 0
+  answer-is = P .answer ∙ ap (λ (i : ℕ). simplifyGraphAnswer bs i 0) room
+
+  number-is : made .number ≡ numberOf (response bs)
+  unfolding simplifyGraphAnswer
+  number-is = ap (λ (x : D.SimplifyAnswer). x .number) answer-is
+
+  length-is : made .length ≡ lengthOf (response bs)
+  unfolding simplifyGraphAnswer
+  length-is = ap (λ (x : D.SimplifyAnswer). x .length) answer-is
+
+  written-is : out′ ≡ writtenOf (response bs) out
+  written-is = P .written ∙ ap (λ (i : ℕ). writtenOf (simplifyGraphResponse bs i 0) out) room
+
+  -- an answer's record, where there is one
+  by-number : {X : Type 0} → ((made .number ≡ 0 → ⊥) → made .length ≡ 0 → X)
+      → (recordRefusal sequenceOnly bs ≡ 0 → response bs ≡ accepted (simplifiedRecord bs) → take (made .length) out′ ≡ simplifiedRecord bs → X) → X
+  unfolding simplifyGraphResponse simplifyGraphCauses numberOf lengthOf writtenOf
+  by-number f g = by-response (simplifyGraphCauses bs 65536 0) (simplifiedRecord bs)
+      (λ n e o. f (λ z. o (sym (number-is ∙ ap numberOf e) ∙ z)) (length-is ∙ ap lengthOf e))
+      (λ q e. g (caller-record-none 0 sequenceOnly bs (refusal-front (causes bs) (D.outputCause 65536 (simplifiedRecord bs) ∷ []) q)) e
+      ((λ i. take ((length-is ∙ ap lengthOf e) i) ((written-is ∙ ap (λ (x : Response). writtenOf x out) e) i))
+      ∙ take-append-seam (simplifiedRecord bs) (drop (length (simplifiedRecord bs)) out)))
+
+  front-inside : response bs ≡ accepted (simplifiedRecord bs) → length (simplifiedRecord bs) ≤ length out′
+  unfolding writtenOf
+  front-inside e = let w = simplifiedRecord bs in
+      omega (arith, ap length (written-is ∙ ap (λ (x : Response). writtenOf x out) e), length-append w (drop (length w) out))
+
+  length-answered : response bs ≡ accepted (simplifiedRecord bs) → made .length ≡ length (simplifiedRecord bs)
+  unfolding lengthOf
+  length-answered e = length-is ∙ ap lengthOf e
+
+  -- the record of the simplified graph
+  module _ (ok : recordRefusal sequenceOnly bs ≡ 0) where
+    again : RereadAs (z bs .graph) (simplifiedRecord bs)
+    again = simplify-reread bs small ok
+
+    within : SequenceAnswer (z bs .graph)
+    within = simplify-within bs small ok
+
+    size-is : kOf (simplifiedRecord bs) ≡ z bs .graph .k
+    unfolding decode
+    size-is = ap (λ (g : Graph). g .k) (again .graph)
+
+    record-recorded : length (simplifiedRecord bs) ≤ 65536 → Recorded (simplifiedRecord bs)
+    record-recorded l = record {
+      laid = answer-laid (z bs .graph) within 0 (omega arith);
+      is = ap (encode sequenceGraph 0) (sym (again .graph));
+      k-least = omega (arith, size-is, within .k-least);
+      k-most = omega (arith, size-is, within .k-most);
+      vertices = omega (arith, sym (order-read (simplifiedRecord bs)) ∙ ap nodeCount (again .graph), within .vertices);
+      bytes = omega (arith, ap (λ (g : Graph). sequenceBytes (g .verts)) (again .graph), within .bytes);
+      short = l;
+    }
+
+  module _ (kept : length out′ ≡ length out) where
+    pub call-printing : Printing made out′
+    call-printing = record {
+      inside = by-number (λ o e. omega (arith, e)) (λ ok e t. omega (arith, length-answered e, front-inside e));
+      recorded = λ n. by-number (λ o e. absurd (o n)) (λ ok e t.
+          subst Recorded (sym t) (record-recorded ok (omega (arith, front-inside e, kept, room))));
+    }
+
+    record-of : made .number ≡ 0 → RecordOf (z bs) made (take (made .length) out′)
+    unfolding simplifyGraphAnswer fieldOf
+    record-of n = by-number (λ o e. absurd (o n)) (λ ok e t.
+        let field : (x : ℕ) → fieldOf (response bs) x ≡ x = λ x. ap (λ (y : Response). fieldOf y x) e in
+        record {
+          graph = ap decode t ∙ again ok .graph;
+          rewrites = ap (λ (x : D.SimplifyAnswer). x .rewrites) answer-is ∙ field (z bs .rewrites);
+          rounds = ap (λ (x : D.SimplifyAnswer). x .rounds) answer-is ∙ field (z bs .rounds);
+          end = ap (λ (x : D.SimplifyAnswer). x .end) answer-is ∙ field (endNumber (z bs .end));
+        })
+
+    pub call-shown : length bs ≤ 65536 → {text text′ : List ℕ} {r : ℕ} → 344000 ≤ length text → AnswerPut made out′ text r text′ → Shown bs text r text′
+    call-shown short h A =
+        put-shown (ap (λ (n : ℕ). answerText n (z bs)) number-is ∙ text-is bs ∙ shown-is bs short) (omega arith) h (A .is (z bs) record-of)
 
 -- the text ends within the slice
 pub shown-fits : {bs text text′ : List ℕ} {r : ℕ} → Shown bs text r text′ → r ≤ length text′

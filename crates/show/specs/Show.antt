@@ -1,42 +1,54 @@
 -- A record's text. Assumes nothing.
 use mathlib.Core.Path.{_≡_}
 use mathlib.Core.List.{List, _++_}
-use Prim.Native.Nat.{ℕ, _*_, _≤_}
-use lib.ListN.{length, drop}
-use Rattle.defs.specs.Record.{sequenceGraph, encode}
-use Rattle.store.specs.Store.{Within}
-use Rattle.pool.specs.Pool.{bytesIn}
-use Rattle.memory.specs.Memory.{graphOf}
-use Rattle.memory.specs.declared.Held.{Held}
-use Rattle.accept.specs.declared.Read.{Read}
-use Rattle.accept.specs.declared.Read.the-variants.{Graph, Refused}
-use Rattle.calls.specs.Sending.{fits}
-use Rattle.rewriting.specs.declared.Rewritten.{Rewritten}
-use Rattle.text.specs.Printed.{printedRefusal, printedAnswer, shown}
-use Rattle.graph_text.specs.GraphText.{simplifiedIn}
+use Prim.Native.Nat.{ℕ, zero, suc, _≤_}
+use lib.ListN.{length, take, drop}
+use Rattle.defs.specs.Simplify.{Simplified, sequenceBytes, endNumber}
+use Rattle.defs.specs.Record.{sequenceGraph, kOf, verticesOf, encode, decode}
+use Rattle.load.specs.Loaded.{Laid}
+use Rattle.calls.specs.declared.SimplifyAnswer.{SimplifyAnswer}
+use Rattle.text.specs.Printed.{printedGraph, printedRefusal, shown}
+use Rattle.text.specs.Put.{TextPut}
 
--- a held graph of at most 10,240 vertices, 16,384 edges and 10,240 bytes
-pub record ShowBounded (h : Held) (es vs p : List ℕ) : Type 0 where
-  pub vertices : h .n ≤ 10240
-  pub edges : h .m ≤ 16384
-  pub bytes : bytesIn (h .n) vs ≤ 10240
-  pub es-room : 4 * h .m ≤ length es
-  pub vs-room : 2 * h .n ≤ length vs
-  pub within : Within (length p) (h .n) vs
+-- the record of an answer, of at most 65,536 bytes; its counts may be past the limits of input
+pub record Recorded (bs : List ℕ) : Type 0 where
+  pub laid : Laid bs
+  pub is : bs ≡ encode sequenceGraph 0 (decode bs)
+  pub k-least : 2 ≤ kOf bs
+  pub k-most : kOf bs ≤ 128
+  pub vertices : verticesOf bs ≤ 10240
+  pub bytes : sequenceBytes ((decode bs) .verts) ≤ 8192
+  pub short : length bs ≤ 65536
 
--- the text of a simplified graph, with what was counted, or of a refusal; an answer record over 65,536 bytes counts as 11
-unfoldable pub readText : Read → ℕ → ℕ → ℕ → List ℕ → List ℕ → List ℕ → List ℕ
-readText (Graph h) rewrites rounds end es vs p =
-    printedAnswer (fits 65536 (encode sequenceGraph 0 (graphOf h es vs p))) (simplifiedIn h rewrites rounds end es vs p)
-readText (Refused n) rewrites rounds end es vs p = printedRefusal n
+-- room for the graph of such a record, and for every text
+pub record ShowRoom (es vs text : List ℕ) : Type 0 where
+  pub es-room : 29112 ≤ length es
+  pub vs-room : 20480 ≤ length vs
+  pub text-room : 344000 ≤ length text
 
-abbrev pub answerText : Rewritten → List ℕ → List ℕ → List ℕ → List ℕ
-answerText made es vs p = readText (made .read) (made .rewrites) (made .rounds) (made .end) es vs p
+-- the record is that of the simplification z, and the answer counted what z did
+pub record RecordOf (z : Simplified) (made : SimplifyAnswer) (bs : List ℕ) : Type 0 where
+  pub graph : decode bs ≡ z .graph
+  pub rewrites : made .rewrites ≡ z .rewrites
+  pub rounds : made .rounds ≡ z .rounds
+  pub end : made .end ≡ endNumber (z .end)
 
--- room for every text
-pub record Printing (made : Rewritten) (es vs p text : List ℕ) : Type 0 where
-  pub bounded : (h : Held) → made .read ≡ Graph h → ShowBounded h es vs p
-  pub room : 344000 ≤ length text
+-- the text of the simplification that the record is of
+pub record GraphPut (made : SimplifyAnswer) (bs text : List ℕ) (r : ℕ) (text′ : List ℕ) : Type 0 where
+  pub is : (z : Simplified) → RecordOf z made bs → TextPut 344000 (printedGraph z) text 0 r text′
+
+-- where an answer was given its record stands at the front
+pub record Printing (made : SimplifyAnswer) (out : List ℕ) : Type 0 where
+  pub inside : made .length ≤ length out
+  pub recorded : made .number ≡ 0 → Recorded (take (made .length) out)
+
+-- the text of a simplified graph, or of the refusal with this number
+unfoldable pub answerText : ℕ → Simplified → List ℕ
+answerText zero z = printedGraph z
+answerText (suc n) z = printedRefusal (suc n)
+
+pub record AnswerPut (made : SimplifyAnswer) (out text : List ℕ) (r : ℕ) (text′ : List ℕ) : Type 0 where
+  pub is : (z : Simplified) → (made .number ≡ 0 → RecordOf z made (take (made .length) out)) → TextPut 344000 (answerText (made .number) z) text 0 r text′
 
 -- the text stands at the front, r bytes long; the rest is as it was
 pub record Shown (bs text : List ℕ) (r : ℕ) (text′ : List ℕ) : Type 0 where

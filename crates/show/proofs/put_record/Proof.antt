@@ -1,0 +1,63 @@
+-- `show::put_record` meets its contract. Assumes nothing.
+use native.Mathlib.Omega.{arith}
+use Rattle.load.proofs.LoadLaws.{laid-length}
+use Rattle.show.proofs.ShowLaws.{recorded-size, recorded-loadable, recorded-printable, recorded-put}
+use borrow.Author.Needs.{needs}
+use Rattle.show.proofs.put_record.Statement.{statement}
+use Rattle.show.proofs.put_record.Tie as tie
+
+load-graph-requires : tie.Need-load-graph-requires
+load-graph-requires c κs =
+    let at-k : tie.After-k = search in
+    let at-kmer-size-of : tie.After-kmer-size-of = search in
+    let start : tie.Start = search in
+    recorded-loadable (start .pre .0) (start .pre .1) (at-kmer-size-of .kmer-size-of .ensures) (at-k .k .given .1)
+
+put-graph-requires : tie.Need-put-graph-requires
+put-graph-requires c κs =
+    recorded-printable
+    (start .pre .0)
+    (start .pre .1)
+    (at-load-graph .load-graph .ensures)
+    (at-load-graph .load-graph .kept .1 .1 .0)
+    (at-load-graph .load-graph .kept .1 .1 .1 .0)
+  where
+    at-load-graph : tie.After-load-graph
+    at-load-graph = search
+
+    start : tie.Start
+    start = let c = at-load-graph in search
+
+returns-2 : tie.Need-returns-2
+returns-2 c =
+    recorded-put (start .pre .0) (start .pre .1) (at-load-graph .load-graph .ensures) (at-put-graph .put-graph .ensures)
+  where
+    at-put-graph : tie.After-put-graph
+    at-put-graph = search
+
+    at-load-graph : tie.After-load-graph
+    at-load-graph = let c = at-put-graph in search
+
+    start : tie.Start
+    start = let c = at-load-graph in search
+
+returns : tie.Need-returns
+returns c =
+    let at-kmer-size-of : tie.After-kmer-size-of = search in
+    let start : tie.Start = search in
+    recorded-size (start .pre .0) (at-kmer-size-of .kmer-size-of .ensures) (c .enum-told .given .1)
+
+pub put-record-spec : {M : Type 1} → statement M
+put-record-spec =
+    tie.close
+    (tie.spec
+    (λ c κs. let start : tie.Start = search in omega (arith, laid-length (start .pre .0 .laid)))
+    (λ c. search needs)
+    (λ c. search needs)
+    returns
+    load-graph-requires
+    put-graph-requires
+    (λ c. search needs)
+    (λ c. search needs)
+    (λ c. search needs)
+    returns-2)
