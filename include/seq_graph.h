@@ -20,8 +20,25 @@
  *
  * No pointer may be null, also where its length is 0, and what is lent to be written, output and table, may overlap neither what is
  * read nor each other. A call keeps nothing, and two may run at once on different memory. During a call nothing else may read or
- * write its table: callers on several threads need a table each, or a lock around every call on a table that they share. A thread of
- * 2 MiB of stack is enough for each call.
+ * write its table: callers on several threads need a table each, or a lock around every call on a table that they share.
+ *
+ * No call allocates. Each has its arrays on the stack, small ones for a small record: of at most 1,024 bytes, or of small counts; the
+ * first two below have medium ones as well. The README has the exact rule ("Link the library"); it holds of bytes that are no record too,
+ * and a call refused with 18 counts as one on a small record. Tested: a call takes at most so many bytes of stack:
+ *
+ *                                                                   small      medium     any other
+ *    sg_simplify_graph, sg_cleanup_seq_graph                      131,072     294,912     1,572,864
+ *    sg_from_assembly_graph                                        49,152                   262,144
+ *    sg_clean_non_ref_paths, sg_reference_path_bytes,
+ *    sg_path_bases_bytes, sg_vertex_sequence                       32,768                   196,608
+ *
+ * A thread needs some more for itself; the test gives it 16,384 bytes. So a thread of 256 KiB is enough for each call on a small record,
+ * and one of 2 MiB for each call.
+ *
+ * Below the stack there must be a guard page, one that faults when it is touched. Threads have one unless it was turned off
+ * (pthread_attr_setguardsize); a stack of one's own (pthread_attr_setstack) has none unless one is made (mprotect). With it, a call on too
+ * small a stack ends the program at that page: before anything is written, if the arrays do not fit; if only the last few KB below them are
+ * missing, the output may have been begun. Without it, the call overwrites what lies below the stack, answers, and nothing tells.
  *
  * `number` is 0, or why the call was refused; all other fields of the answer are 0 then:
  *

@@ -1,5 +1,5 @@
 #!/usr/bin/env bash
-# Tests libsg.a from outside: from C, on a thread of 2 MiB of stack, and from Rust through wrapper/.
+# Tests libsg.a from outside: from C, from C on threads whose stacks have exact sizes, and from Rust through wrapper/.
 # What is not present (gcc, cargo) is told and left out.
 set -eu
 cd "$(dirname "$0")/.."

@@ -3,6 +3,10 @@
 //! A call that makes a record or a string writes it to the start of `out` and tells its length. A refused call
 //! leaves `out` as it was. Every call but `vertex_sequence` has a caller, 0 to 15, and is counted in that caller's
 //! tally in the table lent to it; the other fifteen tallies stay as they were.
+//!
+//! No call allocates: each has its arrays on the stack. A thread of `std::thread` is enough for each of them, with its
+//! 2 MiB and the guard page below; 256 KiB are, where every record is small: of at most 1,024 bytes, or of small
+//! counts. include/seq_graph.h has the sizes, and README.md which counts are small.
 mod ffi;
 mod refusal;
 mod tallies;
