@@ -2,8 +2,8 @@
 """Writes the benchmark's records to standard output, for oracle's program `bench`. The same on every run.
 
 Each is a frame (four bytes of length, then that many bytes, little-endian): the call in four bytes (1 conversion,
-2 simplification, 3 cleanup), 1 in four bytes where the Rust takes minutes, else 0, the length of the name in four bytes, the
-name, and the record.
+2 simplification, 3 cleanup), a mark in four bytes (1 where the Rust takes minutes, 2 for a region of the row that grows, else
+0), the length of the name in four bytes, the name, and the record.
 """
 import os
 import random
@@ -21,32 +21,45 @@ import sgr1  # noqa: E402
 from model import outcome_of  # noqa: E402
 
 CONVERT, SIMPLIFY, CLEAN_UP = sgr1.FROM_ASSEMBLY_GRAPH, sgr1.SIMPLIFY_GRAPH, sgr1.CLEANUP_SEQ_GRAPH
-SLOW = 1
+SLOW, GROWING = 1, 2
 
 
 def sequence_record(graph, k=10):
     return sgr1.encode(sgr1.SEQUENCE, 0, k, *graph)
 
 
-def accepted_kmers(k, length, count, most):
-    """The k-mers of a reference and its relatives: the first seed whose graph has no cycle and fits."""
+def accepted_kmers(k, length, count, least, most):
+    """The k-mers of a reference and its relatives: the first seed whose graph has no cycle and so many vertices."""
     for seed in range(1000):
         rng = random.Random("benchmark %d %d %d" % (k, length, seed))
         graph = graphs.kmer_graph(rng, k, length, count)
+        if not least <= len(graph[0]) <= most:
+            continue
         record = graphs.kmer_record(k, graph)
         outcome = outcome_of(CONVERT, record, 0, ())
-        if len(graph[0]) <= most and not isinstance(outcome, int):
+        if not isinstance(outcome, int):
             return len(graph[0]), record, outcome[0]
     raise SystemExit("no k-mer graph without a cycle was found")
 
 
+def region(mark, name, k, length, count, least, most):
+    """A region converted, and what was made of it simplified and cleaned up."""
+    vertices, kmers, converted = accepted_kmers(k, length, count, least, most)
+    name = "%s, k %d, %d k-mers" % (name, k, vertices)
+    yield CONVERT, mark, name, kmers
+    yield SIMPLIFY, mark, name, converted
+    yield CLEAN_UP, mark, name, converted
+
+
 def kmer_records():
     for k, length, count in ((10, 300, 8), (10, 1400, 12), (25, 300, 8), (25, 1300, 10)):
-        vertices, kmers, converted = accepted_kmers(k, length, count, sgr1.MAX_VERTICES)
-        name = "haplotypes, k %d, %d k-mers" % (k, vertices)
-        yield CONVERT, 0, name, kmers
-        yield SIMPLIFY, 0, name, converted
-        yield CLEAN_UP, 0, name, converted
+        yield from region(0, "haplotypes", k, length, count, 0, sgr1.MAX_VERTICES)
+    # About as large as a region can be. A change in a relative adds up to k k-mers, so with a large k there are fewer relatives.
+    for k, length, count in ((10, 1750, 16), (25, 1400, 16), (60, 1300, 8)):
+        yield from region(0, "haplotypes", k, length, count, 2000, sgr1.MAX_VERTICES)
+    # Length and relatives double with the vertices: changes lie as close in a large region as in a small one.
+    for vertices, length, count in ((500, 350, 4), (1000, 700, 8), (2000, 1400, 16)):
+        yield from region(GROWING, "growing", 25, length, count, vertices - vertices // 50, vertices + vertices // 50)
 
 
 def dense(vertices, edges, letters, longest):
@@ -76,6 +89,25 @@ def star(sources):
     """One bottom of so many sources that share their last byte."""
     sequences = [b"G"] + [bytes([s % 251, s // 251, 65]) for s in range(sources)]
     return sequences, [(1 + s, 0, 1, int(s == 0)) for s in range(sources)]
+
+
+def forks(count):
+    """One bottom of twice so many predecessors, each two of them below a top of their own.
+
+    No two of them are all of the bottom's predecessors, so there is no diamond; but at each top that is asked.
+    """
+    sequences, edges = [b"G"], []
+    for _ in range(count):
+        v = len(sequences)
+        sequences += [b"T", b"CA", b"CT"]
+        edges += [(v, v + 1, 1, 0), (v, v + 2, 1, 0), (v + 1, 0, 1, 0), (v + 2, 0, 1, 0)]
+    return sequences, edges
+
+
+def forks_and_bubbles(count, bubbles):
+    """Forks, and behind them in number bubbles in a row: after each rewrite of a bubble the forks are tried again."""
+    (above, into), (row, between) = forks(count), limits.many_bubbles(bubbles)
+    return above + row, into + [(len(above) + a, len(above) + b, s, r) for a, b, s, r in between]
 
 
 def nest(depth):
@@ -118,6 +150,8 @@ def sequence_records():
     yield SIMPLIFY, 0, "64 sources with a suffix of 120", sequence_record(deep_suffixes(64, 120))
     yield SIMPLIFY, 0, "640 tails of 12", sequence_record(limits.many_tails(640))
     yield SIMPLIFY, 0, "star of 2,047 sources", sequence_record(star(2047))
+    yield SIMPLIFY, 0, "682 forks into one vertex", sequence_record(forks(682))
+    yield SIMPLIFY, 0, "400 forks into one, then 200 bubbles", sequence_record(forks_and_bubbles(400, 200))
     yield SIMPLIFY, 0, "nest of 680 diamonds", sequence_record(nest(680))
     yield SIMPLIFY, 0, "ladder of 102 rungs", sequence_record(ladder(102))
     yield SIMPLIFY, 0, "ladder of 98 rungs, shuffled", sequence_record(shuffled_ladder(98))
@@ -127,9 +161,9 @@ def sequence_records():
 
 def main():
     for records in (kmer_records(), sequence_records()):
-        for call, slow, name, record in records:
+        for call, mark, name, record in records:
             name = name.encode()
-            body = struct.pack("<3I", call, slow, len(name)) + name + record
+            body = struct.pack("<3I", call, mark, len(name)) + name + record
             sys.stdout.buffer.write(struct.pack("<I", len(body)) + body)
 
 

@@ -7,6 +7,8 @@
 //!
 //! The argument `quick` leaves the Rust out where it takes minutes. With `whole` the Rust's time is also from record
 //! to record: its graph is built from the record, by its own functions, and written.
+//!
+//! Of the regions that grow, a second table has the time for each vertex.
 use oracle::case::{read_frame, words, Answer, Case, Tally};
 use oracle::oracle::{CLEANUP_SEQ_GRAPH, FROM_ASSEMBLY_GRAPH, SIMPLIFY_GRAPH};
 use oracle::ours::{self, Tables};
@@ -18,6 +20,11 @@ use std::io::{self, BufReader};
 use std::time::{Duration, Instant};
 
 const WORDS: usize = 3;
+/// The marks of a record.
+const SLOW: u32 = 1;
+const GROWING: u32 = 2;
+/// Where a record has the count of its vertices.
+const VERTICES_AT: usize = 8;
 const ROOM: usize = 1 << 18;
 /// Runs go on until this time has passed, but for at least so many and at most so many; a long one is not repeated.
 const ENOUGH: Duration = Duration::from_millis(1500);
@@ -27,9 +34,23 @@ const LONG: Duration = Duration::from_secs(5);
 
 struct Record {
     call: u32,
-    slow: bool,
+    mark: u32,
     name: String,
     bytes: Vec<u8>,
+}
+
+impl Record {
+    fn vertices(&self) -> u32 {
+        u16::from_le_bytes([self.bytes[VERTICES_AT], self.bytes[VERTICES_AT + 1]]).into()
+    }
+
+    fn what(&self) -> &'static str {
+        match self.call {
+            FROM_ASSEMBLY_GRAPH => "convert ",
+            CLEANUP_SEQ_GRAPH => "clean up",
+            _ => "simplify",
+        }
+    }
 }
 
 fn parse(frame: &[u8]) -> Record {
@@ -37,7 +58,7 @@ fn parse(frame: &[u8]) -> Record {
     let name_end = 4 * WORDS + head[2] as usize;
     Record {
         call: head[0],
-        slow: head[1] != 0,
+        mark: head[1],
         name: String::from_utf8_lossy(&frame[4 * WORDS..name_end]).into_owned(),
         bytes: frame[name_end..].to_vec(),
     }
@@ -147,28 +168,60 @@ fn print_head(whole: bool) {
     println!("{:<46} {ours:>9} runs {rust:>11} runs   ratio rewrites rounds", "record");
 }
 
+/// A region of the row that grows, with the seconds that both took.
+struct Grown {
+    record: Record,
+    ours: f64,
+    rust: f64,
+}
+
+/// The time for each vertex. `growth` is ours against that of the smallest region, in the same call: 1 if the time grows as
+/// the vertices do, 2 from 500 to 1,000 and 4 to 2,000 if it grows as their square.
+fn print_grown(rows: &[Grown]) {
+    let per_vertex = |time: f64, row: &Grown| 1e9 * time / f64::from(row.record.vertices());
+    println!("\ntime for each vertex of a region that grows, in ns\n");
+    println!("{:<46} {:>9} {:>11} {:>7} {:>7}", "record", "ours", "Rust", "ratio", "growth");
+    for row in rows {
+        let first = rows.iter().find(|r| r.record.call == row.record.call).expect("the row itself");
+        let (ours, rust) = (per_vertex(row.ours, row), per_vertex(row.rust, row));
+        let (ratio, growth) = (row.rust / row.ours, ours / per_vertex(first.ours, first));
+        let name = format!("{} {}", row.record.what(), row.record.name);
+        println!("{name:<46} {ours:>9.1} {rust:>11.1} {ratio:>7.1} {growth:>7.2}");
+    }
+}
+
+/// Times both on a record, and prints its line; the seconds of both, the Rust's only if it was run.
+fn print_line(record: &Record, quick: bool, whole: bool) -> (f64, Option<f64>) {
+    let (mine, answer, bytes) = time_ours(record);
+    let theirs = (!quick || record.mark != SLOW).then(|| {
+        let (time, made) = time_rust(record, whole);
+        assert!(made == bytes, "{}: the answers differ", record.name);
+        time
+    });
+    let (rust, ratio) = match theirs {
+        Some((time, runs)) => {
+            (format!("{:>11.3} {runs:>4}", 1000.0 * time), format!("{:>7.1}", time / mine.0))
+        }
+        None => (format!("{:>11} {:>4}", "-", "-"), format!("{:>7}", "-")),
+    };
+    let rounds = if record.call == SIMPLIFY_GRAPH { answer.fields[1].to_string() } else { "-".to_string() };
+    let (what, ms, runs, rewrites) = (record.what(), 1000.0 * mine.0, mine.1, answer.tally.rewrites);
+    println!("{what} {:<37} {ms:>9.3} {runs:>4} {rust} {ratio} {rewrites:>8} {rounds:>6}", record.name);
+    (mine.0, theirs.map(|t| t.0))
+}
+
 fn main() -> io::Result<()> {
     let option = |name: &str| args().any(|a| a == name);
     let (quick, whole) = (option("quick"), option("whole"));
-    let mut input = BufReader::new(io::stdin().lock());
+    let (mut input, mut grown) = (BufReader::new(io::stdin().lock()), vec![]);
     print_head(whole);
     while let Some(frame) = read_frame(&mut input)? {
         let record = parse(&frame);
-        let (mine, answer, bytes) = time_ours(&record);
-        let (theirs, ratio) = if quick && record.slow {
-            (format!("{:>11} {:>4}", "-", "-"), format!("{:>7}", "-"))
-        } else {
-            let (time, made) = time_rust(&record, whole);
-            assert!(made == bytes, "{}: the answers differ", record.name);
-            (format!("{:>11.3} {:>4}", 1000.0 * time.0, time.1), format!("{:>7.1}", time.0 / mine.0))
-        };
-        let (what, rounds) = match record.call {
-            FROM_ASSEMBLY_GRAPH => ("convert ", "-".to_string()),
-            CLEANUP_SEQ_GRAPH => ("clean up", "-".to_string()),
-            _ => ("simplify", answer.fields[1].to_string()),
-        };
-        let (ms, runs, rewrites) = (1000.0 * mine.0, mine.1, answer.tally.rewrites);
-        println!("{what} {:<37} {ms:>9.3} {runs:>4} {theirs} {ratio} {rewrites:>8} {rounds:>6}", record.name);
+        let times = print_line(&record, quick, whole);
+        if let (GROWING, (ours, Some(rust))) = (record.mark, times) {
+            grown.push(Grown { record, ours, rust });
+        }
     }
+    print_grown(&grown);
     Ok(())
 }
