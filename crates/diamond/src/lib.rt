@@ -73,7 +73,7 @@ pub fn is_middle(
     requires { ⌜ (v < n) × Indexed m n (now es) (now heads) (now nexts) ⌝ }
     ensures { λ r. ⌜ r ≡ isMiddle m (now (es .entry)) b v ⌝ }
 {
-    if !degree_is(es, m, n, heads, nexts, 1, v, 1) {
+    if !index::has_one(es, m, n, heads, nexts, 1, v) {
         return false;
     }
     if degree_is(es, m, n, heads, nexts, 0, v, 0) {
@@ -137,7 +137,7 @@ pub fn is_tail(es: &[u32], m: usize, n: usize, heads: &[u32], nexts: &[u32], v: 
     if !degree_is(es, m, n, heads, nexts, 0, v, 0) {
         return false;
     }
-    degree_is(es, m, n, heads, nexts, 1, v, 1)
+    index::has_one(es, m, n, heads, nexts, 1, v)
 }
 
 // Whether all of the first c of `nodes` are tails.

@@ -9,29 +9,29 @@ use Rattle.diamond.proofs.is_middle.Tie as tie
 
 returns : tie.Need-returns
 returns c =
-    let at-degree-is : tie.After-degree-is = search in
-    and-else _ (sym (at-degree-is .degree-is .ensures) ∙ not-true _ (c .if1 .taken))
+    let at-has-one : tie.After-has-one = search in
+    and-else _ (sym (at-has-one .has-one .ensures) ∙ not-true _ (c .if1 .taken))
 
 returns-2 : tie.Need-returns-2
 returns-2 c =
-    let at-degree-is2 : tie.After-degree-is2 = search in
-    let at-if1 : tie.Else1 = search in
     let at-degree-is : tie.After-degree-is = search in
+    let at-if1 : tie.Else1 = search in
+    let at-has-one : tie.After-has-one = search in
     let start : tie.Start = search in
     mid-out (start .args .m) (start .args .es .now) (start .args .v) (start .args .b)
-    (sym (at-degree-is .degree-is .ensures) ∙ not-false _ (at-if1 .if1 .left))
-    (sym (at-degree-is2 .degree-is2 .ensures) ∙ c .if2 .taken)
+    (sym (at-has-one .has-one .ensures) ∙ not-false _ (at-if1 .if1 .left))
+    (sym (at-degree-is .degree-is .ensures) ∙ c .if2 .taken)
 
 returns-3 : tie.Need-returns-3
 returns-3 c =
     let at-if2 : tie.Else2 = search in
-    let at-degree-is2 : tie.After-degree-is2 = search in
-    let at-if1 : tie.Else1 = search in
     let at-degree-is : tie.After-degree-is = search in
+    let at-if1 : tie.Else1 = search in
+    let at-has-one : tie.After-has-one = search in
     let start : tie.Start = search in
     mid-all (start .args .m) (start .args .es .now) (start .args .v) (start .args .b)
-    (sym (at-degree-is .degree-is .ensures) ∙ not-false _ (at-if1 .if1 .left))
-    (sym (at-degree-is2 .degree-is2 .ensures) ∙ at-if2 .if2 .left)
+    (sym (at-has-one .has-one .ensures) ∙ not-false _ (at-if1 .if1 .left))
+    (sym (at-degree-is .degree-is .ensures) ∙ at-if2 .if2 .left)
     (c .all-enter .ensures)
 
 pub is-middle-spec : {M : Type 1} → statement M

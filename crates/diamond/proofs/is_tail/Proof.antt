@@ -15,7 +15,7 @@ returns-2 : tie.Need-returns-2
 returns-2 c =
     let at-if1 : tie.Else1 = search in
     let at-degree-is : tie.After-degree-is = search in
-    c .degree-is2 .ensures ∙ and-then _ (sym (at-degree-is .degree-is .ensures) ∙ not-false _ (at-if1 .if1 .left))
+    c .has-one .ensures ∙ and-then _ (sym (at-degree-is .degree-is .ensures) ∙ not-false _ (at-if1 .if1 .left))
 
 pub is-tail-spec : {M : Type 1} → statement M
 is-tail-spec =
