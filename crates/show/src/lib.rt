@@ -27,6 +27,7 @@ fn put_record(
     requires { ⌜ Recorded (now rec) × ShowRoom (now es) (now vs) (now text) ⌝ }
     ensures { λ r. ⌜ GraphPut made (now (rec .entry)) (now (text .entry)) r (now (text .exit)) ⌝ }
 {
+    // The record that a call wrote has a k of 2 to 128, so the other arm is never taken.
     let MadeSize::Size(k) = record::kmer_size_of(rec) else {
         return 0;
     };
