@@ -29,7 +29,8 @@ start-same a a′ b b′ c c′ p q r = byTest (eqb b′ 1)
     (λ u. λ i. eqb (p i) 1 && (not (eqb (q i) 1) || ltb 1 (r (eqb-true _ _ u) i)))
     (λ u. rw (p, q, u))
 
-goes-same : (a a′ b b′ : Bool) (c c′ : Bool) → a ≡ a′ → (a′ ≡ true → b ≡ b′) → (a′ ≡ true → b′ ≡ true → c ≡ c′) → (a && (b && c)) ≡ (a′ && (b′ && c′))
+goes-same : (a a′ b b′ : Bool) (c c′ : Bool) → a ≡ a′ → (a′ ≡ true → b ≡ b′) → (a′ ≡ true → b′ ≡ true → c ≡ c′)
+    → (a && (b && c)) ≡ (a′ && (b′ && c′))
 goes-same a a′ b b′ c c′ p q r = byTest a′
     (λ u. byTest b′
     (λ v. rw (p, u, q u, v) (r u v))

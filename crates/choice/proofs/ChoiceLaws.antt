@@ -30,10 +30,6 @@ use Rattle.choice.proofs.LeanLaws.{lean-fit, lean-tame, lean-as, lean-k
 pub lean-holds : {h : Held} {es vs p heads nexts : List ℕ} → HoldsLean h es vs p heads nexts → Holds h es vs p heads nexts
 lean-holds H = record { fit = lean-fit (H .lean); within = H .within; used-room = H .used-room }
 
-pub holds-lean : {h : Held} {es vs p heads nexts : List ℕ} → Holds h es vs p heads nexts → Lean (graphOf h es vs p) heads nexts
-    → HoldsLean h es vs p heads nexts
-holds-lean H L = record { lean = L; within = H .within; used-room = H .used-room }
-
 pub holds-lean-kept : {h : Held} {es vs p heads nexts heads′ nexts′ : List ℕ} → HoldsLean h es vs p heads nexts → length heads′
     ≡ length heads → length nexts′ ≡ length nexts → HoldsLean h es vs p heads′ nexts′
 holds-lean-kept H d e = record { lean = lean-kept (H .lean) d e; within = H .within; used-room = rw d (H .used-room) }

@@ -92,7 +92,8 @@ module _ {e b n : ℕ} where
   between-narrow h s t k = narrow-restrict _ h k
 
 -- the empty second vertex
-two-fit : {n e : ℕ} → 2 ≤ n → 1 ≤ e → (k : ℕ) (v : List ℕ) → Fits n e record { k = k; verts = v ∷ [] ∷ []; edges = record { from = 0; to = 1; support = 0; isRef = true; capped = false } ∷ [] }
+two-fit : {n e : ℕ} → 2 ≤ n → 1 ≤ e → (k : ℕ) (v : List ℕ)
+    → Fits n e record { k = k; verts = v ∷ [] ∷ []; edges = record { from = 0; to = 1; support = 0; isRef = true; capped = false } ∷ [] }
 unfolding nodeCount
 two-fit two one k v = record {
   vertices = omega arith;

@@ -11,26 +11,13 @@ use Rattle.defs.specs.Strings.{spelled}
 use Rattle.defs.specs.Paths.{edgeEnds, isPathOf, pathBasesBytes}
 use Rattle.laws.proofs.ListLaws.{given-yes, given-no}
 use Rattle.compact.proofs.CompactLaws.{order-in}
-use Rattle.memory.specs.Memory.{graphOf, Room, Holds}
-use Rattle.memory.proofs.RoomLaws.{held-vertices, fit-bytes}
+use Rattle.memory.specs.Memory.{graphOf}
 use Rattle.memory.specs.declared.Held.{Held}
 use Rattle.spell.specs.Spell.{spelledIn, Answered, Told}
 use Rattle.spell.specs.declared.OptionBytes.the-variants.{Some, None}
 use Rattle.spell.proofs.SpellLaws.{told-none, told-some, answered-as}
 use Rattle.paths.specs.Paths.{EdgePath, PathNodes, Spellable}
 use Rattle.paths.proofs.RouteLaws.{Route, path-of, path-short, route-spelled}
-
--- a held graph is spellable
-pub held-spellable : {h : Held} {es vs p heads nexts nodes mp : List ℕ} → Room es vs p heads nexts nodes mp → Holds h es vs p heads nexts
-    → Spellable h es vs p nodes
-held-spellable R H = record {
-  sound = H .fit .good .0;
-  within = record { at = λ v b. omega (arith, H .within .at v b, H .used-room, R .p-room) };
-  vs-room = omega (arith, held-vertices H, R .vs-room);
-  nodes-room = omega (arith, held-vertices H, R .vertices-edges, R .nodes-room);
-  small = omega (arith, held-vertices H, R .vertices-edges, R .small);
-  bytes = omega (arith, fit-bytes (H .fit), R .p-room);
-}
 
 module _ {h : Held} {es vs p nodes : List ℕ} (S : Spellable h es vs p nodes) {start : ℕ} {list : List ℕ} {r : Bool} (E :
     EdgePath (h .m) (h .n) es start list r) where

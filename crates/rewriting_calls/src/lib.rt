@@ -85,8 +85,8 @@ fn refusal(number: u32) -> RewritingAnswer
     }
 }
 
-// Whole arrays, whose lengths are known. A record is read here, and not in a function that both classes call: were there only one call here, the
-// compiler would lay this function's caller, and so the frames of both classes, into one.
+// Whole arrays, whose lengths are known. A record is read here, and not in a function that all classes call: were there only one call here, the
+// compiler would lay this function's caller, and so the frames of all classes, into one.
 fn large_with(
     call: RewritingCall,
     rec: &[u8],
