@@ -7,12 +7,14 @@ use native.Mathlib.Omega.{arith}
 use lib.ListN.{length}
 use lib.Dec.{eqb}
 use borrow.Author.Tests.{ne-eqb}
+use Rattle.defs.specs.Forms.{formOf}
 use Rattle.defs.specs.Record.{kindOf, kOf, decode}
 use Rattle.defs.specs.Refusals.{sequenceOnly, refusalOf, layoutCauses, recordRefusal, doubledEdge, equalKmers, doubled, hasCycle}
 use Rattle.laws.proofs.ListLaws.{byOrder}
 use Rattle.store.specs.Store.{edgesIn}
 use Rattle.index.specs.Index.{Indexable}
 use Rattle.memory.specs.declared.Held.{Held}
+use Rattle.form.proofs.FormLaws.{limits-small}
 use Rattle.record.specs.Kinds.{takesOf}
 use Rattle.record.specs.declared.Takes.the-variants.{SequenceOnly}
 use Rattle.kmer.specs.declared.KmerSize.{KmerSize}
@@ -90,11 +92,11 @@ module _ (bs : List ℕ) where
     read-loadable = record { laid = formed-laid formed; es-room = R .es-room; vs-room = R .vs-room }
 
     module _ {h : Held} {es′ vs′ : List ℕ} (L : Loaded bs h es′ vs′) where
-      n-small : h .n ≤ 2048
-      n-small = omega (arith, L .n, formed .vertices)
+      n-small : h .n ≤ 32768
+      n-small = omega (arith, L .n, formed .vertices, limits-small (formOf bs) .vertices)
 
-      m-small : h .m ≤ 4096
-      m-small = omega (arith, L .m, formed .edges)
+      m-small : h .m ≤ 65536
+      m-small = omega (arith, L .m, formed .edges, limits-small (formOf bs) .edges)
 
       pub read-indexable : length es′ ≡ length es → Indexable (h .m) (h .n) es′ heads nexts
       read-indexable l = record {

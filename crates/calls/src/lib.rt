@@ -2,10 +2,12 @@
 // fits.
 ghost use lib.ListN.{length};
 ghost use Rattle.defs.specs.Record.{sequenceGraph, encode};
+ghost use Rattle.form.specs.Coded.{formIs};
 ghost use Rattle.memory.specs.Memory.{graphOf};
 ghost use Rattle.calls.specs.Answers.{AnswersSimplify, AnswersCleanup};
 ghost use Rattle.calls.specs.Sending.{fits, Sendable, Responds, GraphSendable, SendsGraph};
 use accept::Read;
+use form::Form;
 use memory::Held;
 
 // What a call sends: 0 and the length of what it wrote, or the number of the refusal and 0. Of calls without more fields it is the answer.
@@ -86,27 +88,28 @@ pub fn cleanup_answer(sent: Answer, status: u32, made: u32) -> CountedCleanup
     }
 }
 
-// The record of a held graph, where it fits.
+// The record of a held graph, in this form, where it fits.
 pub fn send_record(
     out: &mut [u8],
+    form: Form,
     status: u32,
     held: Held,
     es: &[u32],
     vs: &[u32],
     p: &[u8],
 ) -> Answer
-    requires { ⌜ Sendable status held (now es) (now vs) (now p) ⌝ }
+    requires { ⌜ Sendable (formIs form) status held (now es) (now vs) (now p) ⌝ }
     ensures { λ r. ⌜ Responds (fits (length (now (out .entry)))
-        (encode sequenceGraph status (graphOf held (now (es .entry)) (now (vs .entry)) (now (p .entry))))) (now (out .entry)) r (now (out .exit)) ⌝ }
+        (encode (formIs form) sequenceGraph status (graphOf held (now (es .entry)) (now (vs .entry)) (now (p .entry))))) (now (out .entry)) r (now (out .exit)) ⌝ }
 {
-    let length = write_record::record_length(held, vs);
+    let length = write_record::record_length(form, held, vs);
     if out.len() < length {
         return Answer {
             number: 11,
             length: 0,
         };
     }
-    let written = write_record::write_record(out, status, held, es, vs, p);
+    let written = write_record::write_record(out, form, status, held, es, vs, p);
     Answer {
         number: 0,
         length: written as u32,
@@ -114,9 +117,17 @@ pub fn send_record(
 }
 
 // What was made of a record: the number of its refusal, or its graph, which the slices hold.
-pub fn send(read: Read, status: u32, out: &mut [u8], es: &[u32], vs: &[u32], p: &[u8]) -> Answer
-    requires { ⌜ GraphSendable status read (now es) (now vs) (now p) ⌝ }
-    ensures { λ r. ⌜ SendsGraph status read (now (es .entry)) (now (vs .entry)) (now (p .entry)) (now (out .entry)) r (now (out .exit)) ⌝ }
+pub fn send(
+    read: Read,
+    form: Form,
+    status: u32,
+    out: &mut [u8],
+    es: &[u32],
+    vs: &[u32],
+    p: &[u8],
+) -> Answer
+    requires { ⌜ GraphSendable (formIs form) status read (now es) (now vs) (now p) ⌝ }
+    ensures { λ r. ⌜ SendsGraph (formIs form) status read (now (es .entry)) (now (vs .entry)) (now (p .entry)) (now (out .entry)) r (now (out .exit)) ⌝ }
 {
     let held = match read {
         Read::Graph(held) => held,
@@ -125,5 +136,5 @@ pub fn send(read: Read, status: u32, out: &mut [u8], es: &[u32], vs: &[u32], p: 
             length: 0,
         },
     };
-    send_record(out, status, held, es, vs, p)
+    send_record(out, form, status, held, es, vs, p)
 }

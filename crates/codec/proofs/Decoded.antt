@@ -6,17 +6,20 @@ use mathlib.Core.List.{List, [], _∷_, _++_, map}
 use native.Mathlib.Nat.{add-zero, add-assoc}
 use native.Mathlib.Omega.{arith}
 use lib.ListN.{length, getD, take, drop, length-drop, take-append-drop}
-use lib.Seq.{getD-drop, getD-take, take-add, take-all}
+use lib.Seq.{getD-drop, take-add, take-all}
 use Rattle.defs.specs.Lists.{concat, tabFrom, tab, sum}
+use Rattle.defs.specs.Forms.{Form, sgr1, sgr2, formOf, wordSize, places, lengthsAt, edgeSize}
 use Rattle.defs.specs.Simplify.{sequenceBytes}
-use Rattle.defs.specs.Record.{mark, kindOf, statusOf, le16, le32, u16At, u32At, kOf, verticesOf, edgesOf, bytesOf, bytesAt, wholeLength}
+use Rattle.defs.specs.Record.{kindOf, statusOf, le16, le32, u32At, wordBytes, wordAt, kOf, verticesOf, edgesOf, bytesOf}
+use Rattle.defs.specs.Record.{lengthsOffsetOf, edgesOffsetOf, bytesOffsetOf, wholeOf, edgesAt, bytesAt, wholeLength}
 use Rattle.defs.specs.Record.{flagOf, encodeEdge, encodeHeader, lengthAt, sequenceAt, edgeStart, flagAt, edgeAt}
 use Rattle.laws.proofs.Flags.{flag-back}
 use Rattle.tabs.proofs.Tabs.{tab-ext, take-tab}
 use Rattle.tabs.proofs.SumTabs.{map-tab, bytes-sum}
 use Rattle.le.proofs.LeLaws.{le16-u16At, le32-u32At}
+use Rattle.form.proofs.FormLaws.{between, length-place, edge-place, word-written}
 use Rattle.record.specs.Layout.{WellFormed}
-use Rattle.record.proofs.Fields.{lengthAt-is, edgeStart-is, flagAt-is, sequenceStart-is, sequenceAt-is, bytesAt-is, wholeLength-is}
+use Rattle.record.proofs.Fields.{lengthAt-is, edgeStart-is, flagAt-is, sequenceStart-is, sequenceAt-is}
 use Rattle.record.proofs.Sequences.{length-sequence}
 use Rattle.codec.proofs.Concat.{concat-parts, concat-widths}
 
@@ -27,95 +30,91 @@ window bs o n h =
     ∙ tab-ext n _ _ (λ j _. getD-drop o bs j 0)
 
 module _ (bs : List ℕ) (small : (i : ℕ) → getD bs i 0 < 256) where
-  two-bytes : (o : ℕ) → o + 2 ≤ length bs → le16 (u16At bs o) ≡ take 2 (drop o bs)
-  unfolding tabFrom
-  two-bytes o h =
-      le16-u16At bs small o
-      ∙ ap (λ (n : ℕ). getD bs n 0 ∷ getD bs (o + 1) 0 ∷ []) (sym (add-zero o))
-      ∙ sym (window bs o 2 h)
+  word-bytes : (f : Form) (o : ℕ) → o + wordSize f ≤ length bs → wordBytes f (wordAt f bs o) ≡ take (wordSize f) (drop o bs)
+  word-bytes f o h = word-written bs small o f ∙ sym (window bs o (wordSize f) h)
 
-  nine-bytes : (o : ℕ) → o + 9 ≤ length bs
-      → le16 (u16At bs o) ++ le16 (u16At bs (o + 2)) ++ le32 (u32At bs (o + 4)) ++ (getD bs (o + 8) 0 ∷ []) ≡ take 9 (drop o bs)
-  unfolding tabFrom
-  nine-bytes o h = simp (le16-u16At bs small, le32-u32At bs small, window bs o 9 h, add-assoc, add-zero)
+  -- an edge's bytes, and the header's, by the form
+  edge-bytes : (f : Form) (o : ℕ) → o + edgeSize f ≤ length bs
+      → wordBytes f (wordAt f bs o) ++ wordBytes f (wordAt f bs (o + wordSize f)) ++ le32 (u32At bs (o + 2 * wordSize f))
+      ++ (getD bs (o + 2 * wordSize f + 4) 0 ∷ [])
+      ≡ take (edgeSize f) (drop o bs)
+  unfolding wordBytes wordAt wordSize edgeSize tabFrom
+  edge-bytes sgr1 o h = simp (le16-u16At bs small, le32-u32At bs small, window bs o 9 h, add-assoc, add-zero)
+  edge-bytes sgr2 o h = simp (le32-u32At bs small, window bs o 13 h, add-assoc, add-zero)
 
+  header-bytes : (f : Form) → lengthsAt f ≤ length bs
+      → take 4 bs ++ (kindOf bs ∷ statusOf bs ∷ []) ++ le16 (kOf bs)
+      ++ wordBytes f (wordAt f bs (places f .vertices)) ++ wordBytes f (wordAt f bs (places f .edges)) ++ le32 (u32At bs (places f .bytes))
+      ++ le32 (u32At bs (places f .lengthsOffset)) ++ le32 (u32At bs (places f .edgesOffset)) ++ le32 (u32At bs (places f .bytesOffset))
+      ++ le32 (u32At bs (places f .whole))
+      ≡ take (lengthsAt f) bs
+  unfolding places lengthsAt wordBytes wordAt tabFrom
+  header-bytes sgr1 long = simp (le16-u16At bs small, le32-u32At bs small, take-tab bs 0 4 (omega arith), take-tab bs 0 32 long)
+  header-bytes sgr2 long = simp (le16-u16At bs small, le32-u32At bs small, take-tab bs 0 4 (omega arith), take-tab bs 0 36 long)
+
+  -- of a well formed record, whose form is f
   module _ (ok : WellFormed bs) where
-    edge-back : (i : ℕ) → i < edgesOf bs → encodeEdge (edgeAt bs i) ≡ take 9 (drop (32 + 2 * verticesOf bs + 9 * i) bs)
-    unfolding encodeEdge edgeAt flagOf
+    abbrev f : Form
+    f = formOf bs
+
+    abbrev v : ℕ
+    v = verticesOf bs
+
+    abbrev e : ℕ
+    e = edgesOf bs
+
+    -- its parts end before it does
+    edges-inside : bytesAt f v e ≤ length bs
+    edges-inside = omega (arith, ok .whole, between f v e (bytesOf bs) .whole-is)
+
+    lengths-inside : edgesAt f v ≤ length bs
+    lengths-inside = omega (arith, edges-inside, between f v e (bytesOf bs) .bytes-least)
+
+    edge-back : (i : ℕ) → i < edgesOf bs → encodeEdge f (edgeAt bs i) ≡ take (edgeSize f) (drop (edgesAt f v + edgeSize f * i) bs)
+    unfolding encodeEdge edgeAt flagOf bytesAt
     edge-back i below =
         let o : ℕ = edgeStart bs i in
-        let start : edgeStart bs i ≡ 32 + 2 * verticesOf bs + 9 * i = edgeStart-is bs i in
-        let inside : edgeStart bs i + 9 ≤ length bs = omega (
-          arith,
-          ok .whole,
-          wholeLength-is (verticesOf bs) (edgesOf bs) (bytesOf bs),
-          bytesAt-is (verticesOf bs) (edgesOf bs),
-        ) in
-        ap (λ (n : ℕ). le16 (u16At bs o) ++ le16 (u16At bs (o + 2)) ++ le32 (u32At bs (o + 4)) ++ (n ∷ []))
+        let start : edgeStart bs i ≡ bytesAt f v i = edgeStart-is bs i in
+        ap (λ (n : ℕ). wordBytes f (wordAt f bs o) ++ wordBytes f (wordAt f bs (o + wordSize f)) ++ le32 (u32At bs (o + 2 * wordSize f)) ++ (n ∷ []))
         (flag-back (flagAt bs i) (ok .good i below .flag) ∙ flagAt-is bs i)
-        ∙ nine-bytes o inside
-        ∙ ap (λ (n : ℕ). take 9 (drop n bs)) start
+        ∙ edge-bytes f o (omega (arith, start, edge-place v e i f below, edges-inside))
+        ∙ ap (λ (n : ℕ). take (edgeSize f) (drop n bs)) start
 
-    letter : (j : ℕ) → j < 4 → getD bs j 0 ≡ getD mark j 0
-    letter j h = sym (getD-take 4 bs j 0 h) ∙ ap (λ (l : List ℕ). getD l j 0) (ok .marked)
-
-    pub header-back : encodeHeader (kindOf bs) (statusOf bs) (kOf bs) (verticesOf bs) (edgesOf bs) (bytesOf bs) ≡ take 32 bs
-    unfolding encodeHeader tabFrom
+    pub header-back : encodeHeader f (kindOf bs) (statusOf bs) (kOf bs) v e (bytesOf bs) ≡ take (lengthsAt f) bs
+    unfolding encodeHeader verticesOf edgesOf bytesOf lengthsOffsetOf edgesOffsetOf bytesOffsetOf wholeOf
     header-back =
-        let long : 32 ≤ length bs = omega (
-          arith,
-          ok .whole,
-          wholeLength-is (verticesOf bs) (edgesOf bs) (bytesOf bs),
-          bytesAt-is (verticesOf bs) (edgesOf bs),
-        ) in
-        let whole : wholeLength (verticesOf bs) (edgesOf bs) (bytesOf bs) ≡ u32At bs 28 = sym (ok .whole) ∙ sym (ok .stated) in
-        simp (
-          ap le32 (sym (ok .lengths-at)),
-          ap le32 (sym (ok .edges-at)),
-          ap le32 (sym (ok .bytes-at)),
-          ap le32 whole,
-          le16-u16At bs small,
-          le32-u32At bs small,
-          take-tab bs 0 32 long,
-          letter 0 (omega arith),
-          letter 1 (omega arith),
-          letter 2 (omega arith),
-          letter 3 (omega arith),
-        )
+        let whole : wholeLength f v e (bytesOf bs) ≡ wholeOf bs = sym (ok .whole) ∙ sym (ok .stated) in
+        (λ j. sym (ok .marked) j ++ (kindOf bs ∷ statusOf bs ∷ []) ++ le16 (kOf bs) ++ wordBytes f v ++ wordBytes f e ++ le32 (bytesOf bs)
+        ++ le32 (sym (ok .lengths-at) j) ++ le32 (sym (ok .edges-at) j) ++ le32 (sym (ok .bytes-at) j) ++ le32 (whole j))
+        ∙ header-bytes f (omega (arith, lengths-inside, between f v e 0 .header-before))
 
-    pub lengths-back : concat (map (λ v. le16 (length v)) (tab (verticesOf bs) (sequenceAt bs))) ≡ take (2 * verticesOf bs) (drop 32 bs)
+    pub lengths-back : concat (map (λ s. wordBytes f (length s)) (tab v (sequenceAt bs))) ≡ take (wordSize f * v) (drop (lengthsAt f) bs)
     lengths-back =
-        ap concat (map-tab (λ v. le16 (length v)) (verticesOf bs) (sequenceAt bs) ∙ tab-ext (verticesOf bs) _ _ length-back)
-        ∙ concat-widths bs 32 2 (verticesOf bs)
+        ap concat (map-tab (λ s. wordBytes f (length s)) v (sequenceAt bs) ∙ tab-ext v _ _ length-back)
+        ∙ concat-widths bs (lengthsAt f) (wordSize f) v
       where
-        length-back : (i : ℕ) → i < verticesOf bs → le16 (length (sequenceAt bs i)) ≡ take 2 (drop (32 + 2 * i) bs)
+        length-back : (i : ℕ) → i < verticesOf bs → wordBytes f (length (sequenceAt bs i)) ≡ take (wordSize f) (drop (lengthsAt f + wordSize f * i) bs)
         length-back i below =
-            ap le16 (length-sequence bs i below ok ∙ lengthAt-is bs i)
-            ∙ two-bytes (32 + 2 * i) (omega (
-              arith,
-              ok .whole,
-              wholeLength-is (verticesOf bs) (edgesOf bs) (bytesOf bs),
-              bytesAt-is (verticesOf bs) (edgesOf bs),
-            ))
+            ap (wordBytes f) (length-sequence bs i below ok ∙ lengthAt-is bs i)
+            ∙ unfold edgesAt in (word-bytes f (edgesAt f i) (omega (arith, length-place v e i f below, lengths-inside)))
 
-    pub edges-back : concat (map encodeEdge (tab (edgesOf bs) (edgeAt bs))) ≡ take (9 * edgesOf bs) (drop (32 + 2 * verticesOf bs) bs)
+    pub edges-back : concat (map (encodeEdge f) (tab e (edgeAt bs))) ≡ take (edgeSize f * e) (drop (edgesAt f v) bs)
     edges-back =
-        ap concat (map-tab encodeEdge (edgesOf bs) (edgeAt bs) ∙ tab-ext (edgesOf bs) _ _ edge-back)
-        ∙ concat-widths bs (32 + 2 * verticesOf bs) 9 (edgesOf bs)
+        ap concat (map-tab (encodeEdge f) e (edgeAt bs) ∙ tab-ext e _ _ edge-back)
+        ∙ concat-widths bs (edgesAt f v) (edgeSize f) e
 
-    pub bytes-back : concat (tab (verticesOf bs) (sequenceAt bs)) ≡ drop (32 + 2 * verticesOf bs + 9 * edgesOf bs) bs
+    pub bytes-back : concat (tab v (sequenceAt bs)) ≡ drop (bytesAt f v e) bs
     bytes-back =
-        let s : ℕ = bytesAt (verticesOf bs) (edgesOf bs) in
-        ap concat (tab-ext (verticesOf bs) _ _ (λ i _. sequenceAt-is bs i ∙ ap (λ (n : ℕ). take (lengthAt bs i) (drop n bs)) (sequenceStart-is bs i)))
-        ∙ concat-parts bs s (lengthAt bs) (verticesOf bs)
-        ∙ take-all (sum (tab (verticesOf bs) (lengthAt bs))) (drop s bs)
-        (omega (arith, length-drop s bs, ok .lengths, ok .whole, wholeLength-is (verticesOf bs) (edgesOf bs) (bytesOf bs)))
-        ∙ ap (λ (n : ℕ). drop n bs) (bytesAt-is (verticesOf bs) (edgesOf bs))
+        let s : ℕ = bytesAt f v e in
+        ap concat (tab-ext v _ _ (λ i _. sequenceAt-is bs i ∙ ap (λ (n : ℕ). take (lengthAt bs i) (drop n bs)) (sequenceStart-is bs i)))
+        ∙ concat-parts bs s (lengthAt bs) v
+        ∙ take-all (sum (tab v (lengthAt bs))) (drop s bs)
+        (omega (arith, length-drop s bs, ok .lengths, ok .whole, between f v e (bytesOf bs) .whole-is))
 
-    pub bytes-count : sequenceBytes (tab (verticesOf bs) (sequenceAt bs)) ≡ bytesOf bs
+    pub bytes-count : sequenceBytes (tab v (sequenceAt bs)) ≡ bytesOf bs
     bytes-count =
-        bytes-sum (tab (verticesOf bs) (sequenceAt bs))
-        ∙ ap sum (map-tab length (verticesOf bs) (sequenceAt bs) ∙ tab-ext (verticesOf bs) _ _ (λ i below. length-sequence bs i below ok))
+        bytes-sum (tab v (sequenceAt bs))
+        ∙ ap sum (map-tab length v (sequenceAt bs) ∙ tab-ext v _ _ (λ i below. length-sequence bs i below ok))
         ∙ ok .lengths
 
 -- four parts that follow each other are the whole

@@ -10,6 +10,7 @@ use lib.ListN.{length, drop}
 use Rattle.defs.specs.SeqGraph.{vertexSequence}
 use Rattle.defs.specs.Simplify.{Simplified, sequenceBytes, simplifyGraphFull, minTailSuffixLen, endNumber}
 use Rattle.defs.specs.Cleanup.{Cleaned, statusNumber, cleanupSeqGraph, cleanNonRefPaths}
+use Rattle.defs.specs.Forms.{formOf, limits}
 use Rattle.defs.specs.Record.{sequenceGraph, verticesOf, encode, decode}
 use Rattle.defs.specs.Refusals.{Cause, refusalOf, kmerOnly, sequenceOnly, bothKinds}
 use Rattle.defs.specs.Refusals.{layoutCauses, doubledCause, overlapCause, cycleCause, recordCauses}
@@ -82,15 +83,15 @@ vertexSequenceNumber bs v = refusalOf (vertexSequenceCauses bs v)
 unfoldable pub vertexSequencePart : List ℕ → ℕ → List ℕ
 vertexSequencePart bs v = cond (eqb (vertexSequenceNumber bs v) 0) (vertexSequence (decode bs) v) []
 
--- from_assembly_graph: 18, 1 to 6, 15, 7, 8, 11; 8 where the converted graph has over 8,192 bytes
+-- from_assembly_graph: 18, 1 to 6, 15, 7, 8, 11; 8 where the converted graph has more bytes than a record of this form may
 abbrev pub bytesCause : List ℕ → Cause
-bytesCause bs = record { number = 8; present = ltb 8192 (sequenceBytes ((fromAssemblyGraph (decode bs)) .verts)) }
+bytesCause bs = record { number = 8; present = ltb (limits (formOf bs) .bytes) (sequenceBytes ((fromAssemblyGraph (decode bs)) .verts)) }
 
 unfoldable pub conversionCauses : List ℕ → List Cause
 conversionCauses bs = layoutCauses kmerOnly bs ++ (doubledCause bs ∷ overlapCause bs ∷ cycleCause bs ∷ bytesCause bs ∷ [])
 
 abbrev pub convertedRecord : List ℕ → List ℕ
-convertedRecord bs = encode sequenceGraph 0 (fromAssemblyGraph (decode bs))
+convertedRecord bs = encode (formOf bs) sequenceGraph 0 (fromAssemblyGraph (decode bs))
 
 unfoldable pub fromAssemblyGraphCauses : List ℕ → ℕ → ℕ → List Cause
 fromAssemblyGraphCauses bs room caller = callerCause caller ∷ (conversionCauses bs ++ (outputCause room (convertedRecord bs) ∷ []))
@@ -106,7 +107,7 @@ fromAssemblyGraphCounted bs room caller = countedOf caller (fromAssemblyGraphRes
 
 -- simplify_graph: 18, 1 to 7, 11
 abbrev pub simplifiedRecord : List ℕ → List ℕ
-simplifiedRecord bs = encode sequenceGraph 0 ((simplifyGraphFull minTailSuffixLen (decode bs)) .graph)
+simplifiedRecord bs = encode (formOf bs) sequenceGraph 0 ((simplifyGraphFull minTailSuffixLen (decode bs)) .graph)
 
 unfoldable pub simplifyGraphCauses : List ℕ → ℕ → ℕ → List Cause
 simplifyGraphCauses bs room caller = callerCause caller ∷ (recordCauses sequenceOnly bs ++ (outputCause room (simplifiedRecord bs) ∷ []))
@@ -138,7 +139,7 @@ simplifyGraphCounted bs room caller = countedOf caller (simplifyGraphResponse bs
 
 -- cleanup_seq_graph: 18, 1 to 7, 11; its rewrites are counted and not answered
 abbrev pub cleanedRecord : List ℕ → List ℕ
-cleanedRecord bs = let c = cleanupSeqGraph (decode bs) in encode sequenceGraph (statusNumber (c .status)) (c .graph)
+cleanedRecord bs = let c = cleanupSeqGraph (decode bs) in encode (formOf bs) sequenceGraph (statusNumber (c .status)) (c .graph)
 
 unfoldable pub cleanupSeqGraphCauses : List ℕ → ℕ → ℕ → List Cause
 cleanupSeqGraphCauses bs room caller = callerCause caller ∷ (recordCauses sequenceOnly bs ++ (outputCause room (cleanedRecord bs) ∷ []))
@@ -162,7 +163,7 @@ cleanupSeqGraphCounted bs room caller = countedOf caller (cleanupSeqGraphRespons
 
 -- clean_non_ref_paths: 18, 1 to 7, 11
 abbrev pub reducedRecord : List ℕ → List ℕ
-reducedRecord bs = encode sequenceGraph 0 (cleanNonRefPaths (decode bs))
+reducedRecord bs = encode (formOf bs) sequenceGraph 0 (cleanNonRefPaths (decode bs))
 
 unfoldable pub cleanNonRefPathsCauses : List ℕ → ℕ → ℕ → List Cause
 cleanNonRefPathsCauses bs room caller = callerCause caller ∷ (recordCauses sequenceOnly bs ++ (outputCause room (reducedRecord bs) ∷ []))

@@ -11,8 +11,9 @@ use Rattle.defs.specs.Lists.{anyOf, elemOf, sameList, upFrom, tab, sum}
 use Rattle.defs.specs.SeqGraph.{Edge, Graph, nodeCount, outgoingNodes, hasEnds}
 use Rattle.defs.specs.Assembly.{overlaps}
 use Rattle.defs.specs.Cleanup.{forward, reached}
-use Rattle.defs.specs.Record.{mark, kindOf, statusOf, kOf, verticesOf, edgesOf, bytesOf, u32At, lengthsAt, edgesAt, bytesAt}
-use Rattle.defs.specs.Record.{wholeLength, lengthAt, edgeAt, flagAt, decode}
+use Rattle.defs.specs.Forms.{mark, formOf, lengthsAt, limits}
+use Rattle.defs.specs.Record.{kindOf, statusOf, kOf, verticesOf, edgesOf, bytesOf, lengthsOffsetOf, edgesOffsetOf, bytesOffsetOf, wholeOf}
+use Rattle.defs.specs.Record.{edgesAt, bytesAt, wholeLength, lengthAt, edgeAt, flagAt, decode}
 
 pub record Cause : Type 0 where
   pub number : ℕ
@@ -44,9 +45,9 @@ pub record IsNumberOf (cs : List Cause) (n : ℕ) : Type 0 where
   pub first : (n ≡ 0 → ⊥) → FirstPresent cs n
   pub of-first : (m : ℕ) → FirstPresent cs m → n ≡ m
 
--- 1: under 32 bytes, or not the length it states
+-- 1: shorter than its header, which has 32 bytes, of a record that begins SGR2 36; or not the length it states
 unfoldable pub otherLength : List ℕ → Bool
-otherLength bs = ltb (length bs) 32 || not (eqb (u32At bs 28) (length bs))
+otherLength bs = ltb (length bs) (lengthsAt (formOf bs)) || not (eqb (wholeOf bs) (length bs))
 
 -- which kinds a call takes
 pub data Takes : Type 0 where
@@ -60,22 +61,24 @@ takesKind bothKinds n = leb n 1
 -- 2: mark, kind for this call, or status (0 not cleaned, 1 just reference, 2 some variation; always 0 in kind 0)
 unfoldable pub wrongMark : Takes → List ℕ → Bool
 wrongMark t bs =
-    not (sameList (take 4 bs) mark) || (not (takesKind t (kindOf bs))
+    not (sameList (take 4 bs) (mark (formOf bs))) || (not (takesKind t (kindOf bs))
     || (ltb 2 (statusOf bs) || (eqb (kindOf bs) 0 && not (eqb (statusOf bs) 0))))
 
--- 3: a count or k past a limit
+-- 3: a count or k past a limit of the record's form
 unfoldable pub pastLimit : List ℕ → Bool
 pastLimit bs =
-    ltb (kOf bs) 2 || (ltb 128 (kOf bs) || (ltb 2048 (verticesOf bs) || (ltb 4096 (edgesOf bs)
-    || (eqb (kindOf bs) 1 && ltb 8192 (bytesOf bs)))))
+    let most = limits (formOf bs) in
+    ltb (kOf bs) 2 || (ltb 128 (kOf bs) || (ltb (most .vertices) (verticesOf bs) || (ltb (most .edges) (edgesOf bs)
+    || (eqb (kindOf bs) 1 && ltb (most .bytes) (bytesOf bs)))))
 
 -- 4: offsets, whole length, lengths or byte count disagree
 unfoldable pub layoutDisagrees : List ℕ → Bool
 layoutDisagrees bs =
+    let f = formOf bs in
     let v = verticesOf bs in
     let e = edgesOf bs in
-    not (eqb (u32At bs 16) lengthsAt) || (not (eqb (u32At bs 20) (edgesAt v)) || (not (eqb (u32At bs 24) (bytesAt v e))
-    || (not (eqb (length bs) (wholeLength v e (bytesOf bs))) || (not (eqb (sum (tab v (lengthAt bs))) (bytesOf bs))
+    not (eqb (lengthsOffsetOf bs) (lengthsAt f)) || (not (eqb (edgesOffsetOf bs) (edgesAt f v)) || (not (eqb (bytesOffsetOf bs) (bytesAt f v e))
+    || (not (eqb (length bs) (wholeLength f v e (bytesOf bs))) || (not (eqb (sum (tab v (lengthAt bs))) (bytesOf bs))
     || (eqb (kindOf bs) 0 && anyOf (λ i. not (eqb (lengthAt bs i) (kOf bs))) (upFrom 0 v))))))
 
 -- 5: an edge end not below V, or a flag above 3

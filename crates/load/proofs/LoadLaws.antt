@@ -8,12 +8,17 @@ use lib.ListN.{length, getD, set, length-set}
 use lib.Seq.{getD-set-same, getD-set-other}
 use Rattle.defs.specs.Lists.{tab, sum}
 use Rattle.defs.specs.SeqGraph.{Edge, Graph}
-use Rattle.defs.specs.Record.{flagIsRef, flagIsCapped, kOf, verticesOf, edgesOf, bytesOf, bytesAt, lengthAt, edgeStart, edgeAt, flagAt, sequenceStart, sequenceAt, decode}
+use Rattle.defs.specs.Forms.{formOf}
+use Rattle.defs.specs.Record.{flagIsRef, flagIsCapped, kOf, verticesOf, edgesOf, bytesOf, bytesAt, lengthAt, edgeAt, flagAt, sequenceStart, sequenceAt, decode}
 use Rattle.tabs.proofs.Tabs.{tab-ext, set-more}
 use Rattle.tabs.proofs.SumTabs.{sum-none, sum-more, sum-below}
+use Rattle.form.specs.declared.Form.{Form}
+use Rattle.form.specs.Coded.{formIs}
+use Rattle.record.specs.Headed.{Headed, LengthInside, EdgeInside}
 use Rattle.record.specs.Layout.{WellFormed}
-use Rattle.record.proofs.Fields.{edgeStart-is, isRef-is, capped-is, sequenceStart-is, sequenceAt-is, bytesAt-is, wholeLength-is}
-use Rattle.record.proofs.Sequences.{length-is, bytes-most}
+use Rattle.record.proofs.Inside.{whole-parts, whole-least, whole-headed, whole-edge, whole-length}
+use Rattle.record.proofs.Fields.{isRef-is, capped-is, sequenceStart-is, sequenceAt-is}
+use Rattle.record.proofs.Sequences.{length-most}
 use Rattle.store.specs.Store.{edgeIn, edgesIn, putEdge, putVertex, seqIn, seqsIn, EndsBelow, Within}
 use Rattle.store.proofs.EdgeLaws.{length-put, put-same, put-other}
 use Rattle.pool.proofs.PoolLaws.{part-same}
@@ -26,21 +31,28 @@ use Rattle.load.specs.Loaded.{Laid, EdgesRead, VerticesRead, BytesRead, 
 pub formed-laid : {bs : List ℕ} → WellFormed bs → Laid bs
 formed-laid {bs} W = record {
   whole = W .whole;
-  small = omega (arith, length-is bs W, W .vertices, W .edges, bytes-most bs W);
+  small = omega (arith, length-most bs W);
   lengths = W .lengths;
   ends = λ i h. (W .good i h .from, W .good i h .to);
 }
 
 -- how long it is; its edges and lengths can be read
 module _ {bs : List ℕ} (L : Laid bs) where
-  pub laid-length : length bs ≡ 32 + 2 * verticesOf bs + 9 * edgesOf bs + bytesOf bs
-  laid-length = omega (arith, L .whole, wholeLength-is (verticesOf bs) (edgesOf bs) (bytesOf bs), bytesAt-is (verticesOf bs) (edgesOf bs))
+  pub laid-length : length bs ≡ bytesAt (formOf bs) (verticesOf bs) (edgesOf bs) + bytesOf bs
+  laid-length = whole-parts bs (L .whole)
 
-  pub record-edge-inside : (i : ℕ) → i < edgesOf bs → edgeStart bs i + 9 ≤ length bs
-  record-edge-inside i h = omega (arith, laid-length, edgeStart-is bs i)
+  pub laid-least : 32 + 2 * verticesOf bs + 9 * edgesOf bs + bytesOf bs ≤ length bs
+  laid-least = whole-least bs (L .whole)
 
-  pub length-inside : (i : ℕ) → i < verticesOf bs → 34 + 2 * i ≤ length bs
-  length-inside i h = omega (arith, laid-length)
+  module _ {form : Form} (is : formIs form ≡ formOf bs) where
+    pub laid-headed : Headed form bs
+    laid-headed = whole-headed bs (L .whole) is
+
+    pub record-edge-inside : (i : ℕ) → i < edgesOf bs → EdgeInside form bs i
+    record-edge-inside = whole-edge bs (L .whole) is (L .small)
+
+    pub length-inside : (i : ℕ) → i < verticesOf bs → LengthInside form bs i
+    length-inside = whole-length bs (L .whole) is (L .small)
 
   -- the sequences before a vertex's end
   pub vertex-inside : (v : ℕ) → v < verticesOf bs → sum (tab v (lengthAt bs)) + lengthAt bs v ≤ bytesOf bs
@@ -102,7 +114,7 @@ vertices-start {bs} = record {
 
 module _ {bs : List ℕ} {at : ℕ} {vs₀ vs : List ℕ} {i start : ℕ} (R : ReadingVertices bs at vs₀ vs i start) (h : i < verticesOf bs) where
   -- a start is a place in the record, and so fits 32 bits
-  pub start-small : Laid bs → at ≤ 32 + 2 * verticesOf bs + 9 * edgesOf bs → {len : ℕ} → len ≡ lengthAt bs i → start + len < 4294967296
+  pub start-small : Laid bs → at ≤ bytesAt (formOf bs) (verticesOf bs) (edgesOf bs) → {len : ℕ} → len ≡ lengthAt bs i → start + len < 4294967296
   start-small L a q = omega (arith, R .start-is, q, a, vertex-inside L i h, laid-length L, L .small)
 
   module _ (room : 2 * verticesOf bs ≤ length vs₀) where
@@ -155,8 +167,8 @@ bytes-end R h = record { is = λ k c. R .done .is k (omega arith) }
 -- ---- the graph
 
 module _ {bs : List ℕ} (L : Laid bs) where
-  bytes-inside : bytesAt (verticesOf bs) (edgesOf bs) + bytesOf bs ≤ length bs
-  bytes-inside = omega (arith, L .whole, wholeLength-is (verticesOf bs) (edgesOf bs) (bytesOf bs))
+  bytes-inside : bytesAt (formOf bs) (verticesOf bs) (edgesOf bs) + bytesOf bs ≤ length bs
+  bytes-inside = omega (arith, laid-length L)
 
   read-edges : {m : ℕ} {es : List ℕ} → m ≡ edgesOf bs → EdgesRead bs m es → edgesIn m es ≡ tab (edgesOf bs) (edgeAt bs)
   read-edges {m} {es} q R = tab-ext m (edgeIn es) (edgeAt bs) (R .at) ∙ ap (λ (x : ℕ). tab x (edgeAt bs)) q
@@ -175,7 +187,7 @@ module _ {bs : List ℕ} (L : Laid bs) where
 
     -- the pool's bytes from `at` on are the sequences
     module _ (p : List ℕ) (room : at + bytesOf bs ≤ length p) (B : (i : ℕ) → i < bytesOf bs
-        → getD p (at + i) 0 ≡ getD bs (bytesAt (verticesOf bs) (edgesOf bs) + i) 0) where
+        → getD p (at + i) 0 ≡ getD bs (bytesAt (formOf bs) (verticesOf bs) (edgesOf bs) + i) 0) where
       read-seq : (v : ℕ) → v < n → seqIn vs p v ≡ sequenceAt bs v
       read-seq v h =
           let i = vertex-inside L v (omega arith) in
@@ -196,9 +208,10 @@ module _ {bs : List ℕ} (L : Laid bs) where
 
   -- the header's numbers, the edges and the vertices
   pub loaded : {r : Held} {es vs : List ℕ} → r .k .0 ≡ kOf bs → r .n ≡ verticesOf bs → r .m ≡ edgesOf bs
-      → EdgesRead bs (r .m) es → VerticesRead bs (32 + 2 * r .n + 9 * r .m) (r .n) vs → Loaded bs r es vs
+      → EdgesRead bs (r .m) es → {at : ℕ} → at ≡ bytesAt (formOf bs) (verticesOf bs) (edgesOf bs)
+      → VerticesRead bs at (r .n) vs → Loaded bs r es vs
   unfolding decode
-  loaded {r} {es} {vs} qk qn qm E Q = record {
+  loaded {r} {es} {vs} qk qn qm E {at} at-is Q = record {
     is = λ j. record { k = qk j; verts = read-seqs qn Q bs room (λ i h. ap (λ (x : ℕ). getD bs x 0) (omega (arith, at-is))) j; edges = read-edges qm E j };
     k = qk;
     n = qn;
@@ -207,17 +220,15 @@ module _ {bs : List ℕ} (L : Laid bs) where
     ends = read-ends qm qn E;
   }
     where
-      at-is : 32 + 2 * r .n + 9 * r .m ≡ bytesAt (verticesOf bs) (edgesOf bs)
-      at-is = omega (arith, qn, qm, bytesAt-is (verticesOf bs) (edgesOf bs))
-
-      room : 32 + 2 * r .n + 9 * r .m + bytesOf bs ≤ length bs
+      room : at + bytesOf bs ≤ length bs
       room = omega (arith, at-is, bytes-inside)
 
 -- the sequences in a pool
 pub pooled : {bs : List ℕ} {h r : Held} {vs₀ p₀ vs p : List ℕ} → Poolable bs h vs₀ p₀ → length p ≡ length p₀
     → r .k ≡ h .k → r .n ≡ h .n → r .m ≡ h .m → r .used ≡ bytesOf bs
-    → VerticesRead bs 0 (h .n) vs → BytesRead bs (32 + 2 * h .n + 9 * h .m) (r .used) p → SequencesPooled bs h r vs p
-pooled {bs} {h} {r} {vs = vs} {p} Y l qk qn qm qu Q B = record {
+    → VerticesRead bs 0 (h .n) vs → {at : ℕ} → at ≡ bytesAt (formOf bs) (verticesOf bs) (edgesOf bs) → BytesRead bs at (r .used) p
+    → SequencesPooled bs h r vs p
+pooled {bs} {h} {r} {vs = vs} {p} Y l qk qn qm qu Q {at} at-is B = record {
   is = ap (λ (x : ℕ). seqsIn x vs p) qn ∙ read-seqs (Y .laid) (Y .n) Q p (omega (arith, l, Y .p-room)) byte;
   k = qk;
   n = qn;
@@ -226,10 +237,10 @@ pooled {bs} {h} {r} {vs = vs} {p} Y l qk qn qm qu Q B = record {
   within = rw (qn, qu) (read-within (Y .laid) (Y .n) Q (omega arith));
 }
   where
-    byte : (i : ℕ) → i < bytesOf bs → getD p (0 + i) 0 ≡ getD bs (bytesAt (verticesOf bs) (edgesOf bs) + i) 0
+    byte : (i : ℕ) → i < bytesOf bs → getD p (0 + i) 0 ≡ getD bs (bytesAt (formOf bs) (verticesOf bs) (edgesOf bs) + i) 0
     byte i c =
         ap (λ (x : ℕ). getD p x 0) (omega arith) ∙ B .is i (omega (arith, qu))
-        ∙ ap (λ (x : ℕ). getD bs x 0) (omega (arith, Y .n, Y .m, bytesAt-is (verticesOf bs) (edgesOf bs)))
+        ∙ ap (λ (x : ℕ). getD bs x 0) (omega (arith, at-is))
 
 -- the graph with its sequences there is the record's
 pub pooled-graph : {bs : List ℕ} {h r : Held} {es vs vs′ p′ : List ℕ} → Loaded bs h es vs → SequencesPooled bs h r vs′ p′ → graphOf r es vs′ p′ ≡ decode bs

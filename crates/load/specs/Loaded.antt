@@ -4,6 +4,7 @@ use mathlib.Core.List.{List}
 use Prim.Native.Nat.{ℕ, _+_, _*_, _≤_, _<_}
 use lib.ListN.{length, getD}
 use Rattle.defs.specs.Lists.{tab, sum}
+use Rattle.defs.specs.Forms.{formOf}
 use Rattle.defs.specs.Record.{verticesOf, edgesOf, bytesOf, kOf, wholeLength, lengthAt, edgeAt, decode}
 use Rattle.store.specs.Store.{edgeIn, seqsIn, EndsBelow, Within}
 use Rattle.memory.specs.Memory.{graphOf}
@@ -11,7 +12,7 @@ use Rattle.memory.specs.declared.Held.{Held}
 
 -- a record whose parts lie where its counts say and whose edges end at its vertices, whatever the limits
 pub record Laid (bs : List ℕ) : Type 0 where
-  pub whole : length bs ≡ wholeLength (verticesOf bs) (edgesOf bs) (bytesOf bs)
+  pub whole : length bs ≡ wholeLength (formOf bs) (verticesOf bs) (edgesOf bs) (bytesOf bs)
   pub small : length bs < 4294967296
   pub lengths : sum (tab (verticesOf bs) (lengthAt bs)) ≡ bytesOf bs
   pub ends : (i : ℕ) → i < edgesOf bs → ((edgeAt bs i) .from < verticesOf bs) × ((edgeAt bs i) .to < verticesOf bs)

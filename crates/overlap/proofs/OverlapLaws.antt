@@ -8,7 +8,8 @@ use lib.ListN.{length, take, drop}
 use lib.Seq.{take-take}
 use Rattle.defs.specs.Lists.{anyOf, upFrom, sameList}
 use Rattle.defs.specs.SeqGraph.{Edge, vertexSequence}
-use Rattle.defs.specs.Record.{kOf, verticesOf, edgesOf, bytesAt, lengthAt, sequenceStart, edgeStart, edgeAt, decode}
+use Rattle.defs.specs.Forms.{formOf}
+use Rattle.defs.specs.Record.{kOf, verticesOf, edgesOf, bytesAt, lengthAt, sequenceStart, edgeAt, decode}
 use Rattle.defs.specs.Assembly.{firstBytes, lastBytes, overlaps}
 use Rattle.defs.specs.Refusals.{edgeWithoutOverlap}
 use Rattle.tabs.proofs.ListTabs.{any-tab}
@@ -16,17 +17,13 @@ use Rattle.tabs.proofs.SumTabs.{sum-equal}
 use Rattle.store.specs.Store.{part}
 use Rattle.store.proofs.VertexLaws.{last-part}
 use Rattle.kmer.specs.declared.KmerSize.{KmerSize}
-use Rattle.record.proofs.Fields.{bytesAt-is, edgeStart-is, sequenceStart-is, sequenceAt-is}
-use Rattle.record.proofs.Sequences.{vertex-is, sequence-inside, length-is}
+use Rattle.record.proofs.Fields.{sequenceStart-is, sequenceAt-is}
+use Rattle.record.proofs.Sequences.{vertex-is, sequence-inside}
 use Rattle.overlap.specs.Overlap.{KmerRecord}
-
--- where the k-mers begin, by the counts as they are read
-pub kmers-start : (bs : List ℕ) {v e : ℕ} → v ≡ verticesOf bs → e ≡ edgesOf bs → 32 + 2 * v + 9 * e ≡ bytesAt (verticesOf bs) (edgesOf bs)
-kmers-start bs qv qe = (λ j. 32 + 2 * qv j + 9 * qe j) ∙ sym (bytesAt-is (verticesOf bs) (edgesOf bs))
 
 module _ {bs : List ℕ} {k : KmerSize} (R : KmerRecord bs k) where
   abbrev at : ℕ
-  at = bytesAt (verticesOf bs) (edgesOf bs)
+  at = bytesAt (formOf bs) (verticesOf bs) (edgesOf bs)
 
   module _ (v : ℕ) (below : v < verticesOf bs) where
     size-is : lengthAt bs v ≡ kOf bs
@@ -52,12 +49,6 @@ module _ {bs : List ℕ} {k : KmerSize} (R : KmerRecord bs k) where
 
     first-is : firstBytes (kOf bs - 1) (vertexSequence (decode bs) v) ≡ part bs (at + kOf bs * v) (kOf bs - 1)
     first-is = ap (firstBytes (kOf bs - 1)) kmer-is ∙ take-take (kOf bs - 1) (kOf bs) (drop (at + kOf bs * v) bs) (omega arith)
-
-  pub head-in-record : 32 ≤ length bs
-  head-in-record = omega (arith, length-is bs (R .formed))
-
-  pub edge-in-record : (i : ℕ) → i < edgesOf bs → edgeStart bs i + 9 ≤ length bs
-  edge-in-record i b = omega (arith, edgeStart-is bs i, length-is bs (R .formed))
 
   -- the k-mer of a vertex lies in the record, by the numbers as the code has them
   pub kmer-in-record : {v s a u : ℕ} → v < verticesOf bs → s ≡ k .0 → a ≡ at → u ≡ v → a + s * u + s ≤ length bs

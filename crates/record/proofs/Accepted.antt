@@ -9,7 +9,8 @@ use lib.Dec.{eqb, ltb, leb}
 use lib.ListN.{length, take}
 use borrow.Author.Tests.{ltb-false, leb-true, leb-false, eqb-true, eq-eqb, not-false}
 use Rattle.defs.specs.Lists.{sameList}
-use Rattle.defs.specs.Record.{mark, kindOf, statusOf, kOf, verticesOf, edgesOf, bytesOf, u32At, edgeAt, flagAt}
+use Rattle.defs.specs.Forms.{mark, formOf, lengthsAt, limits}
+use Rattle.defs.specs.Record.{kindOf, statusOf, kOf, verticesOf, edgesOf, bytesOf, wholeOf, edgeAt, flagAt}
 use Rattle.defs.specs.Refusals.{Takes, kmerOnly, sequenceOnly, bothKinds, refusalOf, layoutCauses, takesKind, otherLength, wrongMark, pastLimit, badEdge}
 use Rattle.laws.proofs.ListLaws.{or-false, sameList-eq}
 use Rattle.kmer.specs.declared.KmerSize.{KmerSize}
@@ -27,17 +28,17 @@ kind-most sequenceOnly n h = omega (arith, eqb-true n 1 h)
 kind-most bothKinds n h = leb-true n 1 h
 
 module _ (t : Takes) (bs : List ℕ) (h : wrongMark t bs ≡ false) where
-  mark-parts : (not (sameList (take 4 bs) mark) ≡ false) × (not (takesKind t (kindOf bs)) ≡ false) × (ltb 2 (statusOf bs) ≡ false)
+  mark-parts : (not (sameList (take 4 bs) (mark (formOf bs))) ≡ false) × (not (takesKind t (kindOf bs)) ≡ false) × (ltb 2 (statusOf bs) ≡ false)
       × ((eqb (kindOf bs) 0 && not (eqb (statusOf bs) 0)) ≡ false)
   unfolding wrongMark
   mark-parts =
-      let a = or-false (not (sameList (take 4 bs) mark)) _ h in
+      let a = or-false (not (sameList (take 4 bs) (mark (formOf bs)))) _ h in
       let b = or-false (not (takesKind t (kindOf bs))) _ (a .1) in
       let c = or-false (ltb 2 (statusOf bs)) _ (b .1) in
       (a .0, b .0, c .0, c .1)
 
-  is-marked : take 4 bs ≡ mark
-  is-marked = sameList-eq (take 4 bs) mark (not-false _ (mark-parts .0))
+  is-marked : take 4 bs ≡ mark (formOf bs)
+  is-marked = sameList-eq (take 4 bs) (mark (formOf bs)) (not-false _ (mark-parts .0))
 
   kind-low : kindOf bs ≤ 1
   kind-low = kind-most t (kindOf bs) (not-false _ (mark-parts .1))
@@ -49,18 +50,18 @@ module _ (t : Takes) (bs : List ℕ) (h : wrongMark t bs ≡ false) where
   status-none z = eqb-true _ _ (not-false _ (rw (eq-eqb (kindOf bs) 0 z) at (mark-parts .3)))
 
 module _ (bs : List ℕ) (h : pastLimit bs ≡ false) where
-  limit-parts : (ltb (kOf bs) 2 ≡ false) × (ltb 128 (kOf bs) ≡ false) × (ltb 2048 (verticesOf bs) ≡ false) × (ltb 4096 (edgesOf bs) ≡ false)
-      × ((eqb (kindOf bs) 1 && ltb 8192 (bytesOf bs)) ≡ false)
+  limit-parts : (ltb (kOf bs) 2 ≡ false) × (ltb 128 (kOf bs) ≡ false) × (ltb (limits (formOf bs) .vertices) (verticesOf bs) ≡ false) × (ltb (limits (formOf bs) .edges) (edgesOf bs) ≡ false)
+      × ((eqb (kindOf bs) 1 && ltb (limits (formOf bs) .bytes) (bytesOf bs)) ≡ false)
   unfolding pastLimit
   limit-parts =
       let a = or-false (ltb (kOf bs) 2) _ h in
       let b = or-false (ltb 128 (kOf bs)) _ (a .1) in
-      let c = or-false (ltb 2048 (verticesOf bs)) _ (b .1) in
-      let d = or-false (ltb 4096 (edgesOf bs)) _ (c .1) in
+      let c = or-false (ltb (limits (formOf bs) .vertices) (verticesOf bs)) _ (b .1) in
+      let d = or-false (ltb (limits (formOf bs) .edges) (edgesOf bs)) _ (c .1) in
       (a .0, b .0, c .0, d .0, d .1)
 
-  bytes-most : kindOf bs ≡ 1 → bytesOf bs ≤ 8192
-  bytes-most o = ltb-false 8192 (bytesOf bs) (rw (eq-eqb (kindOf bs) 1 o) at (limit-parts .4))
+  bytes-most : kindOf bs ≡ 1 → bytesOf bs ≤ limits (formOf bs) .bytes
+  bytes-most o = ltb-false (limits (formOf bs) .bytes) (bytesOf bs) (rw (eq-eqb (kindOf bs) 1 o) at (limit-parts .4))
 
 good-edge : (bs : List ℕ) (i : ℕ) → badEdge bs i ≡ false → GoodEdge bs i
 unfolding badEdge
@@ -69,9 +70,9 @@ good-edge bs i h =
     let b = or-false (leb (verticesOf bs) ((edgeAt bs i) .to)) _ (a .1) in
     record { from = leb-false _ _ (a .0); to = leb-false _ _ (b .0); flag = ltb-false 3 (flagAt bs i) (b .1) }
 
-stated-is : (bs : List ℕ) → otherLength bs ≡ false → u32At bs 28 ≡ length bs
+stated-whole : (bs : List ℕ) → otherLength bs ≡ false → wholeOf bs ≡ length bs
 unfolding otherLength
-stated-is bs h = eqb-true _ _ (not-false _ (or-false (ltb (length bs) 32) _ h .1))
+stated-whole bs h = eqb-true _ _ (not-false _ (or-false (ltb (length bs) (lengthsAt (formOf bs))) _ h .1))
 
 -- the kind is one that the call takes
 kind-taken : (t : Takes) (bs : List ℕ) → refusalOf (layoutCauses t bs) ≡ 0 → takesKind t (kindOf bs) ≡ true
@@ -93,13 +94,13 @@ well-formed t bs h =
       kmer-status = status-none t bs (n .1);
       k-least = ltb-false (kOf bs) 2 (limit-parts bs (n .2) .0);
       k-most = ltb-false 128 (kOf bs) (limit-parts bs (n .2) .1);
-      vertices = ltb-false 2048 (verticesOf bs) (limit-parts bs (n .2) .2);
-      edges = ltb-false 4096 (edgesOf bs) (limit-parts bs (n .2) .3);
+      vertices = ltb-false (limits (formOf bs) .vertices) (verticesOf bs) (limit-parts bs (n .2) .2);
+      edges = ltb-false (limits (formOf bs) .edges) (edgesOf bs) (limit-parts bs (n .2) .3);
       bytes = bytes-most bs (n .2);
       lengths-at = lengths-offset bs (offsets-agree bs (n .3));
       edges-at = edges-offset bs (offsets-agree bs (n .3));
       bytes-at = bytes-offset bs (offsets-agree bs (n .3));
-      stated = stated-is bs (n .0);
+      stated = stated-whole bs (n .0);
       whole = whole-is bs (offsets-agree bs (n .3));
       lengths = sum-is bs (n .3);
       kmers = λ z i below. eqb-true _ _ (not-false _ (any-false (otherKmerLength bs) (verticesOf bs) (kmers-are bs (n .3) z) i below));

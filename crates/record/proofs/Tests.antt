@@ -9,77 +9,66 @@ use lib.Dec.{eqb, ltb, leb}
 use lib.ListN.{length, getD, take}
 use borrow.Author.Tests.{lt-ltb, le-ltb, le-leb, lt-leb, eq-eqb, ne-eqb, ltb-false, eqb-true, not-false}
 use Rattle.defs.specs.Lists.{tabFrom, tab, sum, sameList, anyOf, upFrom}
-use Rattle.defs.specs.Record.{mark, kindOf, statusOf, kOf, verticesOf, edgesOf, bytesOf, u32At, lengthsAt, edgesAt, bytesAt, wholeLength}
-use Rattle.defs.specs.Record.{lengthAt, edgeAt, flagAt}
+use Rattle.defs.specs.Forms.{sgr1, sgr2, mark, formOf, lengthsAt, limits}
+use Rattle.defs.specs.Record.{kindOf, statusOf, kOf, verticesOf, edgesOf, bytesOf, lengthsOffsetOf, edgesOffsetOf, bytesOffsetOf, wholeOf}
+use Rattle.defs.specs.Record.{edgesAt, bytesAt, wholeLength, lengthAt, edgeAt, flagAt}
 use Rattle.defs.specs.Refusals.{Cause, Takes, refusalOf, layoutCauses, takesKind, otherLength, wrongMark, pastLimit, layoutDisagrees, badEdge, anyBadEdge}
 use Rattle.laws.proofs.ListLaws.{clash, or-false}
 use Rattle.tabs.proofs.Tabs.{take-tab}
+use Rattle.form.specs.declared.Form.{Form}
+use Rattle.form.specs.declared.Form.the-variants.{Sgr1, Sgr2}
+use Rattle.form.specs.Coded.{formIs}
+use Rattle.form.proofs.FormLaws.{between, sizes, is-1, is-2}
 use Rattle.kmer.specs.Size.{kPastLimit}
 use Rattle.kmer.specs.declared.KmerSize.{KmerSize}
 use Rattle.record.specs.declared.Takes as declared
 use Rattle.record.specs.declared.Takes.the-variants.{KmerOnly, SequenceOnly, BothKinds}
+use Rattle.record.specs.Headed.{Headed}
 use Rattle.record.specs.Kinds.{takesOf}
 use Rattle.record.specs.Layout.{countPastLimit, otherKmerLength, offsetsDisagree, layoutOf}
 use Rattle.record.specs.declared.Layout.the-variants.{Formed, Refused}
-use Rattle.record.proofs.Fields.{edgesAt-is, bytesAt-is, wholeLength-is}
-
-both : (t a : Bool) → elim t [ true ↦ a | false ↦ false ] ≡ (t && a)
-both true a = refl
-both false a = refl
-
-and-yes : (t : Bool) → (t && true) ≡ t
-and-yes true = refl
-and-yes false = refl
 
 or-assoc : (a b c : Bool) → (a || (b || c)) ≡ ((a || b) || c)
 or-assoc true b c = refl
 or-assoc false b c = refl
 
--- 1
-module _ (bs : List ℕ) where
-  pub short : length bs < 32 → true ≡ otherLength bs
+-- 1, of a record whose header has h bytes
+module _ (bs : List ℕ) {h : ℕ} (header : h ≡ lengthsAt (formOf bs)) where
+  pub short : length bs < h → true ≡ otherLength bs
   unfolding otherLength
-  short h = simp (lt-ltb (length bs) 32 h)
+  short l = simp (lt-ltb (length bs) (lengthsAt (formOf bs)) (omega arith))
 
-  pub stated : (x : ℕ) → 32 ≤ length bs → x ≡ u32At bs 28 → not (eqb x (length bs)) ≡ otherLength bs
+  pub stated : (x : ℕ) → h ≤ length bs → x ≡ wholeOf bs → not (eqb x (length bs)) ≡ otherLength bs
   unfolding otherLength
-  stated x h e = simp (le-ltb (length bs) 32 h, e)
+  stated x l e = simp (le-ltb (length bs) (lengthsAt (formOf bs)) (omega arith), e)
 
 -- 2
-pub same-cons : (x y : ℕ) (xs ys : List ℕ) → sameList (x ∷ xs) (y ∷ ys) ≡ (eqb x y && sameList xs ys)
-unfolding sameList
-same-cons x y xs ys = both (eqb x y) (sameList xs ys)
+-- a record is of the form SGR2 only if it begins so
+by-mark : (t : Bool) → elim t [ true ↦ sgr2 | false ↦ sgr1 ] ≡ sgr2 → t ≡ true
+by-mark true e = refl
+by-mark false e = let z : _≡_ {A = ℕ} 0 1 = cc in absurd (omega arith)
 
-same-nil : sameList [] [] ≡ true
-unfolding sameList
-same-nil = refl
+pub begins-sgr2 : (bs : List ℕ) → formOf bs ≡ sgr2 → sameList (take 4 bs) (mark sgr2) ≡ true
+unfolding formOf
+begins-sgr2 bs e = by-mark (sameList (take 4 bs) (mark sgr2)) e
 
--- the mark, letter by letter
-module _ (bs : List ℕ) (long : 32 ≤ length bs) where
-  mark-is : sameList (take 4 bs) mark ≡ (eqb (getD bs 0 0) 83 && (eqb (getD bs 1 0) 71 && (eqb (getD bs 2 0) 82 && eqb (getD bs 3 0) 49)))
-  unfolding tabFrom
-  mark-is =
-      let e : take 4 bs ≡ getD bs 0 0 ∷ getD bs 1 0 ∷ getD bs 2 0 ∷ getD bs 3 0 ∷ [] = take-tab bs 0 4 (omega arith) in
-      rw e (simp (same-cons, same-nil, and-yes))
+module _ (form : Form) (bs : List ℕ) (is : formIs form ≡ formOf bs) where
+  -- the mark as it is compared: letter by letter, or known from the form
+  pub mark-1 : {r : Bool} → form ≡ Sgr1 → r ≡ sameList (take 4 bs) (83 ∷ 71 ∷ 82 ∷ 49 ∷ []) → r ≡ sameList (take 4 bs) (mark (formOf bs))
+  unfolding mark
+  mark-1 f e = e ∙ ap (λ x. sameList (take 4 bs) (mark x)) (sym (is-1 form f) ∙ is)
 
-  pub letter-0 : (getD bs 0 0 ≡ 83 → ⊥) → false ≡ sameList (take 4 bs) mark
-  letter-0 a = simp (mark-is, ne-eqb (getD bs 0 0) 83 a)
-
-  pub letter-1 : getD bs 0 0 ≡ 83 → (getD bs 1 0 ≡ 71 → ⊥) → false ≡ sameList (take 4 bs) mark
-  letter-1 a b = simp (mark-is, eq-eqb (getD bs 0 0) 83 a, ne-eqb (getD bs 1 0) 71 b)
-
-  pub letter-2 : getD bs 0 0 ≡ 83 → getD bs 1 0 ≡ 71 → (getD bs 2 0 ≡ 82 → ⊥) → false ≡ sameList (take 4 bs) mark
-  letter-2 a b c = simp (mark-is, eq-eqb (getD bs 0 0) 83 a, eq-eqb (getD bs 1 0) 71 b, ne-eqb (getD bs 2 0) 82 c)
-
-  pub letter-3 : getD bs 0 0 ≡ 83 → getD bs 1 0 ≡ 71 → getD bs 2 0 ≡ 82 → eqb (getD bs 3 0) 49 ≡ sameList (take 4 bs) mark
-  letter-3 a b c = simp (mark-is, eq-eqb (getD bs 0 0) 83 a, eq-eqb (getD bs 1 0) 71 b, eq-eqb (getD bs 2 0) 82 c)
+  pub mark-2 : form ≡ Sgr2 → true ≡ sameList (take 4 bs) (mark (formOf bs))
+  mark-2 f =
+      let g : formOf bs ≡ sgr2 = sym is ∙ is-2 form f in
+      sym (begins-sgr2 bs g) ∙ ap (λ x. sameList (take 4 bs) (mark x)) (sym g)
 
 module _ (t : Takes) (bs : List ℕ) where
-  pub other-mark : sameList (take 4 bs) mark ≡ false → true ≡ wrongMark t bs
+  pub other-mark : sameList (take 4 bs) (mark (formOf bs)) ≡ false → true ≡ wrongMark t bs
   unfolding wrongMark
   other-mark m = simp m
 
-  module _ (m : sameList (take 4 bs) mark ≡ true) where
+  module _ (m : sameList (take 4 bs) (mark (formOf bs)) ≡ true) where
     pub other-kind : takesKind t (kindOf bs) ≡ false → true ≡ wrongMark t bs
     unfolding wrongMark
     other-kind k = simp (m, k)
@@ -109,22 +98,22 @@ module _ (bs : List ℕ) where
   pub count-past : {c : Bool} → kPastLimit (kOf bs) ≡ false → countPastLimit bs ≡ c → pastLimit bs ≡ c
   count-past k e = simp (limit-is, k, e)
 
-  pub vertices-past : 2048 < verticesOf bs → true ≡ countPastLimit bs
+  pub vertices-past : limits (formOf bs) .vertices < verticesOf bs → true ≡ countPastLimit bs
   unfolding countPastLimit
-  vertices-past v = simp (lt-ltb 2048 (verticesOf bs) v)
+  vertices-past v = simp (lt-ltb (limits (formOf bs) .vertices) (verticesOf bs) v)
 
-  module _ (v : verticesOf bs ≤ 2048) where
-    pub edges-past : 4096 < edgesOf bs → true ≡ countPastLimit bs
+  module _ (v : verticesOf bs ≤ limits (formOf bs) .vertices) where
+    pub edges-past : limits (formOf bs) .edges < edgesOf bs → true ≡ countPastLimit bs
     unfolding countPastLimit
-    edges-past e = simp (le-ltb 2048 (verticesOf bs) v, lt-ltb 4096 (edgesOf bs) e)
+    edges-past e = simp (le-ltb (limits (formOf bs) .vertices) (verticesOf bs) v, lt-ltb (limits (formOf bs) .edges) (edgesOf bs) e)
 
-    pub bytes-past : edgesOf bs ≤ 4096 → kindOf bs ≡ 1 → ltb 8192 (bytesOf bs) ≡ countPastLimit bs
+    pub bytes-past : edgesOf bs ≤ limits (formOf bs) .edges → kindOf bs ≡ 1 → ltb (limits (formOf bs) .bytes) (bytesOf bs) ≡ countPastLimit bs
     unfolding countPastLimit
-    bytes-past e o = simp (le-ltb 2048 (verticesOf bs) v, le-ltb 4096 (edgesOf bs) e, eq-eqb (kindOf bs) 1 o)
+    bytes-past e o = simp (le-ltb (limits (formOf bs) .vertices) (verticesOf bs) v, le-ltb (limits (formOf bs) .edges) (edgesOf bs) e, eq-eqb (kindOf bs) 1 o)
 
-    pub kmers-within : edgesOf bs ≤ 4096 → (kindOf bs ≡ 1 → ⊥) → false ≡ countPastLimit bs
+    pub kmers-within : edgesOf bs ≤ limits (formOf bs) .edges → (kindOf bs ≡ 1 → ⊥) → false ≡ countPastLimit bs
     unfolding countPastLimit
-    kmers-within e o = simp (le-ltb 2048 (verticesOf bs) v, le-ltb 4096 (edgesOf bs) e, ne-eqb (kindOf bs) 1 o)
+    kmers-within e o = simp (le-ltb (limits (formOf bs) .vertices) (verticesOf bs) v, le-ltb (limits (formOf bs) .edges) (edgesOf bs) e, ne-eqb (kindOf bs) 1 o)
 
 -- 4
 or-four : (a b c d e : Bool) → (a || (b || (c || (d || e)))) ≡ ((a || (b || (c || d))) || e)
@@ -133,44 +122,41 @@ or-four false true c d e = refl
 or-four false false true d e = refl
 or-four false false false d e = refl
 
--- the offsets x, y and z as read, with v vertices, e edges and b bytes
-module _ (bs : List ℕ) {x : ℕ} (x-is : x ≡ u32At bs 16) where
-  pub lengths-elsewhere : (x ≡ 32 → ⊥) → true ≡ offsetsDisagree bs
+-- the offsets x, y and z as read, of a header of h bytes, edges at o and bytes at p
+module _ (bs : List ℕ) {x h : ℕ} (x-is : x ≡ lengthsOffsetOf bs) (h-is : h ≡ lengthsAt (formOf bs)) where
+  pub lengths-elsewhere : (x ≡ h → ⊥) → true ≡ offsetsDisagree bs
   unfolding offsetsDisagree
-  lengths-elsewhere h = simp (ne-eqb (u32At bs 16) lengthsAt (λ q. h (x-is ∙ q)))
+  lengths-elsewhere n = simp (ne-eqb (lengthsOffsetOf bs) (lengthsAt (formOf bs)) (λ q. n (x-is ∙ q ∙ sym h-is)))
 
-  module _ (x-good : x ≡ 32) {y v : ℕ} (y-is : y ≡ u32At bs 20) (v-is : v ≡ verticesOf bs) where
-    lengths-good : eqb (u32At bs 16) lengthsAt ≡ true
-    lengths-good = eq-eqb (u32At bs 16) lengthsAt (sym x-is ∙ x-good)
+  module _ (x-good : x ≡ h) {y o : ℕ} (y-is : y ≡ edgesOffsetOf bs) (o-is : o ≡ edgesAt (formOf bs) (verticesOf bs)) where
+    lengths-good : eqb (lengthsOffsetOf bs) (lengthsAt (formOf bs)) ≡ true
+    lengths-good = eq-eqb (lengthsOffsetOf bs) (lengthsAt (formOf bs)) (sym x-is ∙ x-good ∙ h-is)
 
-    edges-offset-is : 32 + 2 * v ≡ edgesAt (verticesOf bs)
-    edges-offset-is = omega (arith, edgesAt-is (verticesOf bs) 0)
-
-    pub edges-elsewhere : (y ≡ 32 + 2 * v → ⊥) → true ≡ offsetsDisagree bs
+    pub edges-elsewhere : (y ≡ o → ⊥) → true ≡ offsetsDisagree bs
     unfolding offsetsDisagree
-    edges-elsewhere h =
-        simp (lengths-good, ne-eqb (u32At bs 20) (edgesAt (verticesOf bs)) (λ q. h (y-is ∙ q ∙ sym edges-offset-is)))
+    edges-elsewhere n =
+        simp (lengths-good, ne-eqb (edgesOffsetOf bs) (edgesAt (formOf bs) (verticesOf bs)) (λ q. n (y-is ∙ q ∙ sym o-is)))
 
-    module _ (y-good : y ≡ 32 + 2 * v) {z e : ℕ} (z-is : z ≡ u32At bs 24) (e-is : e ≡ edgesOf bs) where
-      edges-good : eqb (u32At bs 20) (edgesAt (verticesOf bs)) ≡ true
-      edges-good = eq-eqb (u32At bs 20) (edgesAt (verticesOf bs)) (sym y-is ∙ y-good ∙ edges-offset-is)
+    module _ (y-good : y ≡ o) {z p : ℕ} (z-is : z ≡ bytesOffsetOf bs) (p-is : p ≡ bytesAt (formOf bs) (verticesOf bs) (edgesOf bs)) where
+      edges-good : eqb (edgesOffsetOf bs) (edgesAt (formOf bs) (verticesOf bs)) ≡ true
+      edges-good = eq-eqb (edgesOffsetOf bs) (edgesAt (formOf bs) (verticesOf bs)) (sym y-is ∙ y-good ∙ o-is)
 
-      bytes-offset-is : 32 + 2 * v + 9 * e ≡ bytesAt (verticesOf bs) (edgesOf bs)
-      bytes-offset-is = omega (arith, bytesAt-is (verticesOf bs) (edgesOf bs))
-
-      pub bytes-elsewhere : (z ≡ 32 + 2 * v + 9 * e → ⊥) → true ≡ offsetsDisagree bs
+      pub bytes-elsewhere : (z ≡ p → ⊥) → true ≡ offsetsDisagree bs
       unfolding offsetsDisagree
-      bytes-elsewhere h =
-          simp
-          (lengths-good, edges-good, ne-eqb (u32At bs 24) (bytesAt (verticesOf bs) (edgesOf bs)) (λ q. h (z-is ∙ q ∙ sym bytes-offset-is)))
+      bytes-elsewhere n =
+          simp (
+            lengths-good,
+            edges-good,
+            ne-eqb (bytesOffsetOf bs) (bytesAt (formOf bs) (verticesOf bs) (edgesOf bs)) (λ q. n (z-is ∙ q ∙ sym p-is)),
+          )
 
-      pub offsets-right : z ≡ 32 + 2 * v + 9 * e → {b : ℕ} → b ≡ bytesOf bs → not (eqb (length bs) (32 + 2 * v + 9 * e + b)) ≡ offsetsDisagree bs
+      pub offsets-right : z ≡ p → {b : ℕ} → b ≡ bytesOf bs → not (eqb (length bs) (p + b)) ≡ offsetsDisagree bs
       unfolding offsetsDisagree
       offsets-right z-good {b} b-is =
-          let whole : 32 + 2 * v + 9 * e + b ≡ wholeLength (verticesOf bs) (edgesOf bs) (bytesOf bs) =
-          omega (arith, bytes-offset-is, wholeLength-is (verticesOf bs) (edgesOf bs) (bytesOf bs)) in
-          simp
-          (lengths-good, edges-good, eq-eqb (u32At bs 24) (bytesAt (verticesOf bs) (edgesOf bs)) (sym z-is ∙ z-good ∙ bytes-offset-is), whole)
+          let bytes-good = eq-eqb (bytesOffsetOf bs) (bytesAt (formOf bs) (verticesOf bs) (edgesOf bs)) (sym z-is ∙ z-good ∙ p-is) in
+          let whole : p + b ≡ wholeLength (formOf bs) (verticesOf bs) (edgesOf bs) (bytesOf bs) =
+          omega (arith, p-is, b-is, between (formOf bs) (verticesOf bs) (edgesOf bs) (bytesOf bs) .whole-is) in
+          simp (lengths-good, edges-good, bytes-good, whole)
 
 module _ (bs : List ℕ) where
   layout-is : layoutDisagrees bs
@@ -179,10 +165,10 @@ module _ (bs : List ℕ) where
   unfolding layoutDisagrees offsetsDisagree
   layout-is =
       or-four
-      (not (eqb (u32At bs 16) lengthsAt))
-      (not (eqb (u32At bs 20) (edgesAt (verticesOf bs))))
-      (not (eqb (u32At bs 24) (bytesAt (verticesOf bs) (edgesOf bs))))
-      (not (eqb (length bs) (wholeLength (verticesOf bs) (edgesOf bs) (bytesOf bs))))
+      (not (eqb (lengthsOffsetOf bs) (lengthsAt (formOf bs))))
+      (not (eqb (edgesOffsetOf bs) (edgesAt (formOf bs) (verticesOf bs))))
+      (not (eqb (bytesOffsetOf bs) (bytesAt (formOf bs) (verticesOf bs) (edgesOf bs))))
+      (not (eqb (length bs) (wholeLength (formOf bs) (verticesOf bs) (edgesOf bs) (bytesOf bs))))
       (not (eqb (sum (tab (verticesOf bs) (lengthAt bs))) (bytesOf bs)) || (eqb (kindOf bs) 0 && anyOf (otherKmerLength bs) (upFrom 0 (verticesOf bs))))
 
   pub offsets-wrong : offsetsDisagree bs ≡ true → true ≡ layoutDisagrees bs
@@ -218,31 +204,32 @@ agreed true false c d g = clash refl g
 agreed false b c d g = clash refl g
 
 module _ (bs : List ℕ) (h : offsetsDisagree bs ≡ false) where
-  offset-parts : (eqb (u32At bs 16) lengthsAt ≡ true) × (eqb (u32At bs 20) (edgesAt (verticesOf bs)) ≡ true)
-      × (eqb (u32At bs 24) (bytesAt (verticesOf bs) (edgesOf bs)) ≡ true)
-      × (eqb (length bs) (wholeLength (verticesOf bs) (edgesOf bs) (bytesOf bs)) ≡ true)
+  offset-parts : (eqb (lengthsOffsetOf bs) (lengthsAt (formOf bs)) ≡ true) × (eqb (edgesOffsetOf bs) (edgesAt (formOf bs) (verticesOf bs)) ≡ true)
+      × (eqb (bytesOffsetOf bs) (bytesAt (formOf bs) (verticesOf bs) (edgesOf bs)) ≡ true)
+      × (eqb (length bs) (wholeLength (formOf bs) (verticesOf bs) (edgesOf bs) (bytesOf bs)) ≡ true)
   unfolding offsetsDisagree
   offset-parts = agreed _ _ _ _ h
 
-  pub lengths-offset : u32At bs 16 ≡ lengthsAt
+  pub lengths-offset : lengthsOffsetOf bs ≡ lengthsAt (formOf bs)
   lengths-offset = eqb-true _ _ (offset-parts .0)
 
-  pub edges-offset : u32At bs 20 ≡ edgesAt (verticesOf bs)
+  pub edges-offset : edgesOffsetOf bs ≡ edgesAt (formOf bs) (verticesOf bs)
   edges-offset = eqb-true _ _ (offset-parts .1)
 
-  pub bytes-offset : u32At bs 24 ≡ bytesAt (verticesOf bs) (edgesOf bs)
+  pub bytes-offset : bytesOffsetOf bs ≡ bytesAt (formOf bs) (verticesOf bs) (edgesOf bs)
   bytes-offset = eqb-true _ _ (offset-parts .2)
 
-  pub whole-is : length bs ≡ wholeLength (verticesOf bs) (edgesOf bs) (bytesOf bs)
+  pub whole-is : length bs ≡ wholeLength (formOf bs) (verticesOf bs) (edgesOf bs) (bytesOf bs)
   whole-is = eqb-true _ _ (offset-parts .3)
 
   -- where the lengths and the edges end, so that they can be read
-  pub lengths-inside : {v : ℕ} → v ≡ verticesOf bs → 32 + 2 * v ≤ length bs
-  lengths-inside v-is =
-      omega (arith, whole-is, wholeLength-is (verticesOf bs) (edgesOf bs) (bytesOf bs), bytesAt-is (verticesOf bs) (edgesOf bs))
+  pub lengths-inside : {v : ℕ} → v ≡ verticesOf bs → edgesAt (formOf bs) v ≤ length bs
+  lengths-inside {v} v-is =
+      let B = between (formOf bs) (verticesOf bs) (edgesOf bs) (bytesOf bs) in
+      omega (arith, whole-is, B .whole-is, B .bytes-least, ap (edgesAt (formOf bs)) v-is)
 
-  pub edges-inside : bytesAt (verticesOf bs) (edgesOf bs) ≤ length bs
-  edges-inside = omega (arith, whole-is, wholeLength-is (verticesOf bs) (edgesOf bs) (bytesOf bs))
+  pub edges-inside : bytesAt (formOf bs) (verticesOf bs) (edgesOf bs) ≤ length bs
+  edges-inside = omega (arith, whole-is, between (formOf bs) (verticesOf bs) (edgesOf bs) (bytesOf bs) .whole-is)
 
 module _ (bs : List ℕ) (h : layoutDisagrees bs ≡ false) where
   pub offsets-agree : offsetsDisagree bs ≡ false
@@ -365,6 +352,13 @@ module _ (bs : List ℕ) (i x k : ℕ) (length-is : x ≡ lengthAt bs i) (k-is :
   pub length-k : x ≡ k → otherKmerLength bs i ≡ false
   length-k h = simp (eq-eqb (lengthAt bs i) (kOf bs) (sym length-is ∙ h ∙ k-is))
 
-pub long-enough : (bs : List ℕ) → otherLength bs ≡ false → 32 ≤ length bs
+-- what is not refused with 1 has a header
+header-whole : (bs : List ℕ) → otherLength bs ≡ false → lengthsAt (formOf bs) ≤ length bs
 unfolding otherLength
-long-enough bs h = ltb-false (length bs) 32 (or-false (ltb (length bs) 32) _ h .0)
+header-whole bs h = ltb-false (length bs) (lengthsAt (formOf bs)) (or-false (ltb (length bs) (lengthsAt (formOf bs))) _ h .0)
+
+pub headed : {form : Form} (bs : List ℕ) → formIs form ≡ formOf bs → otherLength bs ≡ false → Headed form bs
+headed bs is h = record { is = is; long = header-whole bs h }
+
+pub long-enough : (bs : List ℕ) → otherLength bs ≡ false → 32 ≤ length bs
+long-enough bs h = omega (arith, header-whole bs h, sizes (formOf bs) .header-least)

@@ -7,8 +7,9 @@ use mathlib.Core.List.{List}
 use lib.Dec.{eqb, ltb}
 use lib.ListN.{length, take}
 use Rattle.defs.specs.Lists.{tab, sum}
-use Rattle.defs.specs.Record.{mark, kindOf, statusOf, kOf, verticesOf, edgesOf, bytesOf, u32At, lengthsAt, edgesAt, bytesAt, wholeLength}
-use Rattle.defs.specs.Record.{lengthAt, edgeAt, flagAt}
+use Rattle.defs.specs.Forms.{mark, formOf, lengthsAt, limits}
+use Rattle.defs.specs.Record.{kindOf, statusOf, kOf, verticesOf, edgesOf, bytesOf, lengthsOffsetOf, edgesOffsetOf, bytesOffsetOf, wholeOf}
+use Rattle.defs.specs.Record.{edgesAt, bytesAt, wholeLength, lengthAt, edgeAt, flagAt}
 use Rattle.record.specs.declared.Layout.{Layout}
 use Rattle.record.specs.declared.Layout.the-variants.{Formed, Refused}
 
@@ -19,7 +20,9 @@ layoutOf (suc n) k = Refused (suc n)
 
 -- the tests of cause 3 that k does not enter
 unfoldable pub countPastLimit : List ℕ → Bool
-countPastLimit bs = ltb 2048 (verticesOf bs) || (ltb 4096 (edgesOf bs) || (eqb (kindOf bs) 1 && ltb 8192 (bytesOf bs)))
+countPastLimit bs =
+    let most = limits (formOf bs) in
+    ltb (most .vertices) (verticesOf bs) || (ltb (most .edges) (edgesOf bs) || (eqb (kindOf bs) 1 && ltb (most .bytes) (bytesOf bs)))
 
 -- the test of cause 4 that each vertex of a k-mer graph has k bytes, at one vertex
 abbrev pub otherKmerLength : List ℕ → ℕ → Bool
@@ -28,9 +31,9 @@ otherKmerLength bs i = not (eqb (lengthAt bs i) (kOf bs))
 -- the first four tests of cause 4, which no length enters
 unfoldable pub offsetsDisagree : List ℕ → Bool
 offsetsDisagree bs =
-    not (eqb (u32At bs 16) lengthsAt) || (not (eqb (u32At bs 20) (edgesAt (verticesOf bs)))
-    || (not (eqb (u32At bs 24) (bytesAt (verticesOf bs) (edgesOf bs)))
-    || not (eqb (length bs) (wholeLength (verticesOf bs) (edgesOf bs) (bytesOf bs)))))
+    not (eqb (lengthsOffsetOf bs) (lengthsAt (formOf bs))) || (not (eqb (edgesOffsetOf bs) (edgesAt (formOf bs) (verticesOf bs)))
+    || (not (eqb (bytesOffsetOf bs) (bytesAt (formOf bs) (verticesOf bs) (edgesOf bs)))
+    || not (eqb (length bs) (wholeLength (formOf bs) (verticesOf bs) (edgesOf bs) (bytesOf bs)))))
 
 -- an edge of the record: its ends below V, its flag at most 3
 pub record GoodEdge (bs : List ℕ) (i : ℕ) : Type 0 where
@@ -40,20 +43,20 @@ pub record GoodEdge (bs : List ℕ) (i : ℕ) : Type 0 where
 
 -- none of the causes 1 to 5 is there
 pub record WellFormed (bs : List ℕ) : Type 0 where
-  pub marked : take 4 bs ≡ mark
+  pub marked : take 4 bs ≡ mark (formOf bs)
   pub kind : kindOf bs ≤ 1
   pub status : statusOf bs ≤ 2
   pub kmer-status : kindOf bs ≡ 0 → statusOf bs ≡ 0
   pub k-least : 2 ≤ kOf bs
   pub k-most : kOf bs ≤ 128
-  pub vertices : verticesOf bs ≤ 2048
-  pub edges : edgesOf bs ≤ 4096
-  pub bytes : kindOf bs ≡ 1 → bytesOf bs ≤ 8192
-  pub lengths-at : u32At bs 16 ≡ lengthsAt
-  pub edges-at : u32At bs 20 ≡ edgesAt (verticesOf bs)
-  pub bytes-at : u32At bs 24 ≡ bytesAt (verticesOf bs) (edgesOf bs)
-  pub stated : u32At bs 28 ≡ length bs
-  pub whole : length bs ≡ wholeLength (verticesOf bs) (edgesOf bs) (bytesOf bs)
+  pub vertices : verticesOf bs ≤ limits (formOf bs) .vertices
+  pub edges : edgesOf bs ≤ limits (formOf bs) .edges
+  pub bytes : kindOf bs ≡ 1 → bytesOf bs ≤ limits (formOf bs) .bytes
+  pub lengths-at : lengthsOffsetOf bs ≡ lengthsAt (formOf bs)
+  pub edges-at : edgesOffsetOf bs ≡ edgesAt (formOf bs) (verticesOf bs)
+  pub bytes-at : bytesOffsetOf bs ≡ bytesAt (formOf bs) (verticesOf bs) (edgesOf bs)
+  pub stated : wholeOf bs ≡ length bs
+  pub whole : length bs ≡ wholeLength (formOf bs) (verticesOf bs) (edgesOf bs) (bytesOf bs)
   pub lengths : sum (tab (verticesOf bs) (lengthAt bs)) ≡ bytesOf bs
   pub kmers : kindOf bs ≡ 0 → (i : ℕ) → i < verticesOf bs → lengthAt bs i ≡ kOf bs
   pub good : (i : ℕ) → i < edgesOf bs → GoodEdge bs i

@@ -1,2 +1,3 @@
+pub mod Headed
 pub mod Kinds
 pub mod Layout

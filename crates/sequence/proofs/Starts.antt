@@ -1,13 +1,14 @@
 -- The loop that adds up the lengths before a vertex.
 -- Assumes nothing.
-use Prim.Native.Nat.{ℕ, _+_, _*_, _-_, _≤_, _<_}
+use Prim.Native.Nat.{ℕ, _+_, _-_, _≤_, _<_}
 use mathlib.Core.Path.{_≡_, ap, sym, _∙_}
 use mathlib.Core.List.{List}
 use native.Mathlib.Omega.{arith}
 use lib.ListN.{take, drop}
 use Rattle.defs.specs.Lists.{tabFrom, sum}
-use Rattle.defs.specs.Record.{verticesOf, edgesOf, lengthAt, sequenceStart, sequenceAt}
-use Rattle.record.proofs.Fields.{bytesAt-is, sequenceStart-is, sequenceAt-is}
+use Rattle.defs.specs.Forms.{formOf}
+use Rattle.defs.specs.Record.{verticesOf, edgesOf, bytesAt, lengthAt, sequenceStart, sequenceAt}
+use Rattle.record.proofs.Fields.{sequenceStart-is, sequenceAt-is}
 use Rattle.record.proofs.Sequences.{vertex-is}
 use Rattle.record.proofs.TurnLaws.{sum-start, sum-turn, sum-spent}
 use Rattle.sequence.specs.Part.{Part}
@@ -18,11 +19,8 @@ pub record AddingLengths (bs : List ℕ) (v i at : ℕ) : Type 0 where
   pub adds : at + sum (tabFrom i (v - i) (lengthAt bs)) ≡ sequenceStart bs v
 
 module _ (bs : List ℕ) (v : ℕ) where
-  pub adding-start : (a b : ℕ) → a ≡ verticesOf bs → b ≡ edgesOf bs → AddingLengths bs v 0 (32 + 2 * a + 9 * b)
-  adding-start a b ha hb = record {
-    most = omega arith;
-    adds = omega (arith, sum-start (lengthAt bs) v, sequenceStart-is bs v, bytesAt-is (verticesOf bs) (edgesOf bs));
-  }
+  pub adding-start : {at : ℕ} → at ≡ bytesAt (formOf bs) (verticesOf bs) (edgesOf bs) → AddingLengths bs v 0 at
+  adding-start e = record { most = omega arith; adds = omega (arith, e, sum-start (lengthAt bs) v, sequenceStart-is bs v) }
 
   pub adding-more : (i at l : ℕ) → i < v → l ≡ lengthAt bs i → AddingLengths bs v i at → AddingLengths bs v (i + 1) (at + l)
   adding-more i at l h e k = record { most = omega arith; adds = omega (arith, sum-turn (lengthAt bs) i v h, k .adds) }

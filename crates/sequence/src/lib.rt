@@ -10,10 +10,11 @@ pub fn sequence_start(rec: &[u8], v: usize) -> usize
     requires { ⌜ WellFormed (now rec) × (v < verticesOf (now rec)) ⌝ }
     ensures { λ r. ⌜ r ≡ sequenceStart (now (rec .entry)) v ⌝ }
 {
-    let mut at = 32 + 2 * record::vertex_count(rec) + 9 * record::edge_count(rec);
+    let form = form::form_of(rec);
+    let mut at = form::bytes_at(form, record::vertex_count(rec, form), record::edge_count(rec, form));
     let mut i = 0;
     while i < v {
-        at = at + record::length_at(rec, i);
+        at = at + record::length_at(rec, form, i);
         i += 1;
     }
     at
@@ -24,6 +25,6 @@ pub fn sequence_part<'a>(rec: &'a [u8], v: usize) -> &'a [u8]
     ensures { λ r. ⌜ Part (now (rec .entry)) v (now r) ⌝ }
 {
     let start = sequence_start(rec, v);
-    let end = start + record::length_at(rec, v);
+    let end = start + record::length_at(rec, form::form_of(rec), v);
     &rec[start..end]
 }

@@ -13,6 +13,7 @@ use borrow.Author.Tests.{eqb-true, eq-eqb}
 use Rattle.defs.specs.Lists.{anyOf, allOf, sameList, tab, sum}
 use Rattle.defs.specs.SeqGraph.{Edge, Graph, nodeCount, vertexSequence, hasEnds}
 use Rattle.defs.specs.Simplify.{sequenceBytes}
+use Rattle.defs.specs.Forms.{formOf, limits}
 use Rattle.defs.specs.Record.{kindOf, verticesOf, edgesOf, bytesOf, lengthAt, sequenceAt, edgeAt, decode}
 use Rattle.defs.specs.Refusals.{Cause, refusalOf, Takes, doubledEdge, equalKmers, doubled, hasCycle}
 use Rattle.defs.specs.Refusals.{layoutCauses, doubledCause, cycleCause, recordCauses, recordRefusal}
@@ -184,7 +185,7 @@ module _ (bs : List ℕ) where
         ∙ tab-ext (verticesOf bs) (λ (i : ℕ). length (sequenceAt bs i)) (lengthAt bs) (λ i b. length-sequence bs i b ok))
         ∙ ok .lengths
 
-    pub read-limits : kindOf bs ≡ 1 → Limits 2048 4096 8192 (decode bs)
+    pub read-limits : kindOf bs ≡ 1 → Limits (limits (formOf bs) .vertices) (limits (formOf bs) .edges) (limits (formOf bs) .bytes) (decode bs)
     read-limits o = record {
       vertices = omega (arith, order-read, ok .vertices);
       edges = omega (arith, edges-read, ok .edges);
@@ -218,7 +219,7 @@ module _ (t : Takes) (bs : List ℕ) where
       (λ a d c r. number-clash z r (λ q. omega arith))
       (λ a d c r. read-good bs (accepted-layout z) d c)
 
-  pub accepted-limits : recordRefusal t bs ≡ 0 → kindOf bs ≡ 1 → Limits 2048 4096 8192 (decode bs)
+  pub accepted-limits : recordRefusal t bs ≡ 0 → kindOf bs ≡ 1 → Limits (limits (formOf bs) .vertices) (limits (formOf bs) .edges) (limits (formOf bs) .bytes) (decode bs)
   accepted-limits z o = read-limits bs (accepted-layout z) o
 
   -- 6 and 7 mean what they say

@@ -6,10 +6,10 @@ use Rattle.load.proofs.load_edges.Statement.{statement}
 use Rattle.load.proofs.load_edges.Tie as tie
 
 abbrev Inv-loop : tie.InvT-loop
-Inv-loop rec es₀ m i₀ es i = ReadingEdges rec es₀ es i
+Inv-loop rec form es₀ m i₀ es i = ReadingEdges rec es₀ es i
 
 abbrev μ-loop : tie.MeasureT-loop
-μ-loop rec es₀ m i₀ es i = m - i
+μ-loop rec form es₀ m i₀ es i = m - i
 
 loop-again : tie.Need-loop-again Inv-loop μ-loop
 loop-again c =
@@ -45,7 +45,7 @@ returns : tie.Need-returns Inv-loop μ-loop
 returns c =
     let at-loop : tie.At-loop Inv-loop μ-loop = search in
     let start : tie.Start Inv-loop μ-loop = search in
-    edges-end (at-loop .loop .inv) (start .pre .1 .0) (c .loop-test .left)
+    edges-end (at-loop .loop .inv) (start .pre .1 .1 .0) (c .loop-test .left)
 
 pub load-edges-spec : {M : Type 1} → statement M
 load-edges-spec =
@@ -54,10 +54,10 @@ load-edges-spec =
     Inv-loop
     μ-loop
     (λ c. edges-start)
-    (λ c κs. let start : tie.Start Inv-loop μ-loop = search in record-edge-inside (start .pre .0) _ (omega arith))
-    (λ c κs. let start : tie.Start Inv-loop μ-loop = search in record-edge-inside (start .pre .0) _ (omega arith))
-    (λ c κs. let start : tie.Start Inv-loop μ-loop = search in record-edge-inside (start .pre .0) _ (omega arith))
-    (λ c κs. let start : tie.Start Inv-loop μ-loop = search in record-edge-inside (start .pre .0) _ (omega arith))
+    (λ c κs. let start : tie.Start Inv-loop μ-loop = search in record-edge-inside (start .pre .0) (start .pre .1 .0) _ (omega arith))
+    (λ c κs. let start : tie.Start Inv-loop μ-loop = search in record-edge-inside (start .pre .0) (start .pre .1 .0) _ (omega arith))
+    (λ c κs. let start : tie.Start Inv-loop μ-loop = search in record-edge-inside (start .pre .0) (start .pre .1 .0) _ (omega arith))
+    (λ c κs. let start : tie.Start Inv-loop μ-loop = search in record-edge-inside (start .pre .0) (start .pre .1 .0) _ (omega arith))
     (λ c κs. let at-loop : tie.At-loop Inv-loop μ-loop = search in omega (arith, at-loop .loop .inv .len))
     (λ c. omega arith)
     (λ c. omega arith)

@@ -6,10 +6,10 @@ use Rattle.load.proofs.load_vertices.Statement.{statement}
 use Rattle.load.proofs.load_vertices.Tie as tie
 
 abbrev Inv-loop : tie.InvT-loop
-Inv-loop rec vs₀ n at i₀ start₀ vs i start = ReadingVertices rec at vs₀ vs i start
+Inv-loop rec form vs₀ n at i₀ start₀ vs i start = ReadingVertices rec at vs₀ vs i start
 
 abbrev μ-loop : tie.MeasureT-loop
-μ-loop rec vs₀ n at i₀ start₀ vs i start = n - i
+μ-loop rec form vs₀ n at i₀ start₀ vs i start = n - i
 
 add-start : tie.Need-add-start Inv-loop μ-loop
 add-start c = omega (
@@ -69,7 +69,7 @@ returns : tie.Need-returns Inv-loop μ-loop
 returns c =
     let at-loop : tie.At-loop Inv-loop μ-loop = search in
     let start : tie.Start Inv-loop μ-loop = search in
-    vertices-end (at-loop .loop .inv) (start .pre .1 .0) (c .loop-test .left)
+    vertices-end (at-loop .loop .inv) (start .pre .1 .1 .0) (c .loop-test .left)
 
 pub load-vertices-spec : {M : Type 1} → statement M
 load-vertices-spec =
@@ -78,7 +78,7 @@ load-vertices-spec =
     Inv-loop
     μ-loop
     (λ c. vertices-start)
-    (λ c κs. let start : tie.Start Inv-loop μ-loop = search in length-inside (start .pre .0) _ (omega arith))
+    (λ c κs. let start : tie.Start Inv-loop μ-loop = search in length-inside (start .pre .0) (start .pre .1 .0) _ (omega arith))
     cast-put-vertex
     cast-put-vertex-2
     (λ c κs. let at-loop : tie.At-loop Inv-loop μ-loop = search in omega (arith, at-loop .loop .inv .len))

@@ -8,8 +8,11 @@ use Rattle.defs.specs.Record.{edgeAt, decode}
 use Rattle.defs.specs.Assembly.{overlaps}
 use Rattle.defs.specs.Refusals.{edgeWithoutOverlap}
 use Rattle.record.proofs.TurnLaws.{any-start, any-turn, any-found, any-none}
-use Rattle.overlap.proofs.OverlapLaws.{head-in-record, kmers-start, without-is}
+use Rattle.overlap.proofs.OverlapLaws.{without-is}
+use Rattle.record.proofs.Fields.{bytes-at-read}
+use Rattle.record.proofs.Sequences.{formed-headed}
 use native.Mathlib.Omega.{arith}
+use borrow.Author.Needs.{needs}
 use Rattle.overlap.proofs.edge_without_overlap.Statement.{statement}
 use Rattle.overlap.proofs.edge_without_overlap.Tie as tie
 
@@ -18,20 +21,26 @@ abbrev apart : List ℕ → ℕ → Bool
 apart rec i = not (overlaps (decode rec) (edgeAt rec i))
 
 abbrev Inv-loop : tie.InvT-loop
-Inv-loop rec k e at i₀ i = (i ≤ e) × (anyOf (apart rec) (upFrom i (e - i)) ≡ anyOf (apart rec) (upFrom 0 e))
+Inv-loop rec k form e at i₀ i = (i ≤ e) × (anyOf (apart rec) (upFrom i (e - i)) ≡ anyOf (apart rec) (upFrom 0 e))
 
 abbrev μ-loop : tie.MeasureT-loop
-μ-loop rec k e at i₀ i = e - i
+μ-loop rec k form e at i₀ i = e - i
 
 module _ (c : tie.At-loop Inv-loop μ-loop) where
+  abbrev at-bytes-at : tie.After-bytes-at Inv-loop μ-loop
+  at-bytes-at = search
+
   abbrev at-vertex-count : tie.After-vertex-count Inv-loop μ-loop
-  at-vertex-count = search
+  at-vertex-count = let c = at-bytes-at in search
 
   abbrev at-edge-count : tie.After-edge-count Inv-loop μ-loop
   at-edge-count = let c = at-vertex-count in search
 
+  abbrev at-form-of : tie.After-form-of Inv-loop μ-loop
+  at-form-of = let c = at-edge-count in search
+
   abbrev start : tie.Start Inv-loop μ-loop
-  start = let c = at-edge-count in search
+  start = let c = at-form-of in search
 
   -- what the search gives when it ends with r at turn i
   found : {r : Bool} → anyOf (apart (start .args .rec .now)) (upFrom (c .loop .i) (at-edge-count .edge-count .result - c .loop .i)) ≡ r
@@ -50,8 +59,17 @@ loop-holds c = (omega arith, any-start (apart (start .args .rec .now)) (at-edge-
 
 edge-overlaps-requires : tie.Need-edge-overlaps-requires Inv-loop μ-loop
 edge-overlaps-requires c κs =
-    let at-loop : tie.At-loop Inv-loop μ-loop = search in
-    (start at-loop .pre, (kmers-start (start at-loop .args .rec .now) (at-vertex-count at-loop .vertex-count .ensures .0) (at-edge-count at-loop .edge-count .ensures .0), omega arith))
+    let at-loop : tie.At-loop Inv-loop μ-loop = search in (
+      start at-loop .pre,
+      (
+        at-form-of at-loop .form-of .ensures,
+        (
+          bytes-at-read _ _ (at-form-of at-loop .form-of .ensures) (at-bytes-at at-loop .bytes-at .ensures)
+              (at-vertex-count at-loop .vertex-count .ensures .0) (at-edge-count at-loop .edge-count .ensures .0),
+          omega arith,
+        ),
+      ),
+    )
 
 returns : tie.Need-returns Inv-loop μ-loop
 returns c =
@@ -85,18 +103,32 @@ returns-2 c =
     found at-loop
     (any-none (apart (start at-loop .args .rec .now)) (at-loop .loop .i) (at-edge-count at-loop .edge-count .result) (c .loop-test .left))
 
+edge-count-requires : tie.Need-edge-count-requires Inv-loop μ-loop
+edge-count-requires c κs =
+    let start : tie.Start Inv-loop μ-loop = search in formed-headed (start .pre .formed) (c .form-of .ensures)
+
+vertex-count-requires : tie.Need-vertex-count-requires Inv-loop μ-loop
+vertex-count-requires c κs =
+    let at-form-of : tie.After-form-of Inv-loop μ-loop = search in
+    let start : tie.Start Inv-loop μ-loop = search in
+    formed-headed (start .pre .formed) (at-form-of .form-of .ensures)
+
+bytes-at-requires : tie.Need-bytes-at-requires Inv-loop μ-loop
+bytes-at-requires c κs = (omega (arith, c .vertex-count .ensures .1), omega (arith, at-edge-count .edge-count .ensures .1))
+  where
+    at-edge-count : tie.After-edge-count Inv-loop μ-loop
+    at-edge-count = search
+
 pub edge-without-overlap-spec : {M : Type 1} → statement M
 edge-without-overlap-spec =
     tie.close
     (tie.spec
     Inv-loop
     μ-loop
-    (λ c κs. let start : tie.Start Inv-loop μ-loop = search in head-in-record (start .pre))
-    (λ c κs. let start : tie.Start Inv-loop μ-loop = search in head-in-record (start .pre))
-    (λ c. omega arith)
-    (λ c. omega arith)
-    (λ c. omega arith)
-    (λ c. omega arith)
+    (λ c κs. search needs)
+    edge-count-requires
+    vertex-count-requires
+    bytes-at-requires
     loop-holds
     (λ c. omega arith)
     edge-overlaps-requires

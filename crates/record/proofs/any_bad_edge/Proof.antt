@@ -2,34 +2,32 @@
 use Prim.Native.Nat.{_-_, _≤_}
 use mathlib.Core.Path.{_≡_, sym, ap, _∙_}
 use Rattle.defs.specs.Lists.{anyOf, upFrom}
-use Rattle.defs.specs.Record.{verticesOf, edgesOf}
 use Rattle.defs.specs.Refusals.{badEdge}
-use Rattle.record.proofs.Fields.{edgeStart-is, bytesAt-is}
+use Rattle.record.proofs.Fields.{edge-inside}
 use Rattle.record.proofs.Tests.{any-bad-is}
 use Rattle.record.proofs.TurnLaws.{any-start, any-turn, any-found, any-none}
 use native.Mathlib.Omega.{arith}
+use borrow.Author.Needs.{needs}
 use Rattle.record.proofs.any_bad_edge.Statement.{statement}
 use Rattle.record.proofs.any_bad_edge.Tie as tie
 
 abbrev Inv-loop : tie.InvT-loop
-Inv-loop rec e i₀ i = (i ≤ e) × (anyOf (badEdge rec) (upFrom i (e - i)) ≡ anyOf (badEdge rec) (upFrom 0 e))
+Inv-loop rec form e i₀ i = (i ≤ e) × (anyOf (badEdge rec) (upFrom i (e - i)) ≡ anyOf (badEdge rec) (upFrom 0 e))
 
 abbrev μ-loop : tie.MeasureT-loop
-μ-loop rec e i₀ i = e - i
+μ-loop rec form e i₀ i = e - i
 
 bad-edge-requires : tie.Need-bad-edge-requires Inv-loop μ-loop
 bad-edge-requires c κs =
-    omega (
-      arith,
-      edgeStart-is (start .args .rec .now) (at-loop .loop .i),
-      bytesAt-is (verticesOf (start .args .rec .now)) (edgesOf (start .args .rec .now)),
-    )
-  where
-    at-loop : tie.At-loop Inv-loop μ-loop
-    at-loop = search
-
-    start : tie.Start Inv-loop μ-loop
-    start = let c = at-loop in search
+    let at-loop : tie.At-loop Inv-loop μ-loop = search in
+    let at-edge-count : tie.After-edge-count Inv-loop μ-loop = search in
+    let start : tie.Start Inv-loop μ-loop = search in
+    edge-inside
+    (start .pre)
+    (at-edge-count .edge-count .ensures .0)
+    (at-edge-count .edge-count .ensures .1)
+    (at-loop .loop .i)
+    (c .loop-test .taken)
 
 returns : tie.Need-returns Inv-loop μ-loop
 returns c =
@@ -79,13 +77,6 @@ returns-2 c =
     ∙ ap (λ n. anyOf (badEdge (start .args .rec .now)) (upFrom 0 n)) (at-edge-count .edge-count .ensures .0)
     ∙ sym (any-bad-is (start .args .rec .now))
 
-edge-count-requires : tie.Need-edge-count-requires Inv-loop μ-loop
-edge-count-requires c κs =
-    omega (arith, bytesAt-is (verticesOf (start .args .rec .now)) (edgesOf (start .args .rec .now)))
-  where
-    start : tie.Start Inv-loop μ-loop
-    start = search
-
 loop-holds : tie.Need-loop-holds Inv-loop μ-loop
 loop-holds c = (omega arith, any-start (badEdge (start .args .rec .now)) (c .edge-count .result))
   where
@@ -98,7 +89,7 @@ any-bad-edge-spec =
     (tie.spec
     Inv-loop
     μ-loop
-    edge-count-requires
+    (λ c κs. search needs)
     loop-holds
     (λ c. omega arith)
     bad-edge-requires

@@ -3,6 +3,7 @@ use mathlib.Core.Path.{sym, _∙_}
 use Rattle.kmer.proofs.SizeLaws.{refused-past, made-within, made-is}
 use Rattle.record.specs.Kinds.{takesOf}
 use Rattle.record.proofs.Tests.{
+  headed,
   long-enough,
   k-past,
   count-past,
@@ -31,8 +32,12 @@ returns c =
 wrong-mark-requires : tie.Need-wrong-mark-requires
 wrong-mark-requires c κs =
     let at-other-length : tie.After-other-length = search in
+    let at-form-of : tie.After-form-of = search in
     let start : tie.Start = search in
-    long-enough (start .args .rec .now) (sym (at-other-length .other-length .ensures) ∙ c .if1 .left)
+    headed
+    (start .args .rec .now)
+    (at-form-of .form-of .ensures)
+    (sym (at-other-length .other-length .ensures) ∙ c .if1 .left)
 
 returns-2 : tie.Need-returns-2
 returns-2 c =
@@ -73,8 +78,12 @@ count-past-limit-requires : tie.Need-count-past-limit-requires
 count-past-limit-requires c κs =
     let at-if1 : tie.Else1 = search in
     let at-other-length : tie.After-other-length = search in
+    let at-form-of : tie.After-form-of = search in
     let start : tie.Start = search in
-    long-enough (start .args .rec .now) (sym (at-other-length .other-length .ensures) ∙ at-if1 .if1 .left)
+    headed
+    (start .args .rec .now)
+    (at-form-of .form-of .ensures)
+    (sym (at-other-length .other-length .ensures) ∙ at-if1 .if1 .left)
 
 returns-4 : tie.Need-returns-4
 returns-4 c =
@@ -101,9 +110,11 @@ layout-disagrees-requires c κs =
     let at-kmer-size-of : tie.After-kmer-size-of = search in
     let at-if1 : tie.Else1 = search in
     let at-other-length : tie.After-other-length = search in
+    let at-form-of : tie.After-form-of = search in
     let start : tie.Start = search in (
       made-is _ (sym (at-kmer-size-of .kmer-size-of .ensures) ∙ at-k .k .given .1),
-      long-enough (start .args .rec .now) (sym (at-other-length .other-length .ensures) ∙ at-if1 .if1 .left),
+      headed (start .args .rec .now) (at-form-of .form-of .ensures)
+          (sym (at-other-length .other-length .ensures) ∙ at-if1 .if1 .left),
     )
 
 returns-5 : tie.Need-returns-5
@@ -130,15 +141,27 @@ returns-5 c =
 
 any-bad-edge-requires : tie.Need-any-bad-edge-requires
 any-bad-edge-requires c κs =
-    edges-inside
-    (start .args .rec .now)
-    (offsets-agree (start .args .rec .now) (sym (at-layout-disagrees .layout-disagrees .ensures) ∙ c .if4 .left))
+    record {
+      headed = headed (start .args .rec .now) (at-form-of .form-of .ensures)
+          (sym (at-other-length .other-length .ensures) ∙ at-if1 .if1 .left);
+      inside = edges-inside (start .args .rec .now)
+          (offsets-agree (start .args .rec .now) (sym (at-layout-disagrees .layout-disagrees .ensures) ∙ c .if4 .left));
+    }
   where
     at-layout-disagrees : tie.After-layout-disagrees
     at-layout-disagrees = search
 
+    at-if1 : tie.Else1
+    at-if1 = let c = at-layout-disagrees in search
+
+    at-other-length : tie.After-other-length
+    at-other-length = let c = at-if1 in search
+
+    at-form-of : tie.After-form-of
+    at-form-of = let c = at-other-length in search
+
     start : tie.Start
-    start = let c = at-layout-disagrees in let c : tie.After-other-length = search in search
+    start = let c = at-form-of in search
 
 returns-6 : tie.Need-returns-6
 returns-6 c =
@@ -195,6 +218,7 @@ pub check-layout-spec : {M : Type 1} → statement M
 check-layout-spec =
     tie.close
     (tie.spec
+    (λ c κs. search needs)
     (λ c κs. search needs)
     returns
     wrong-mark-requires

@@ -1,21 +1,28 @@
 -- `record::edge_from_at` meets its contract. Assumes nothing.
-use mathlib.Core.Path.{ap, sym, _∙_}
-use Rattle.defs.specs.Record.{u16At}
-use Rattle.record.proofs.Fields.{from-is}
+use native.Mathlib.Omega.{arith}
+use native.Mathlib.Omega.{arith}
+use mathlib.Core.Path.{_∙_}
+use Rattle.record.proofs.Fields.{edge-parts-inside, from-read}
 use borrow.Author.Needs.{needs}
 use Rattle.record.proofs.edge_from_at.Statement.{statement}
 use Rattle.record.proofs.edge_from_at.Tie as tie
+
+word-at-requires : tie.Need-word-at-requires
+word-at-requires c κs = omega (arith, edge-parts-inside (start .args .i) (start .pre), c .edge-start .ensures)
+  where
+    start : tie.Start
+    start = search
 
 returns : tie.Need-returns
 returns c =
     let at-edge-start : tie.After-edge-start = search in
     let start : tie.Start = search in
-    c .u16-at .ensures ∙ ap (λ n. u16At (start .args .rec .now) n) (at-edge-start .edge-start .ensures)
-    ∙ sym (from-is (start .args .rec .now) (start .args .i))
+    c .word-at .ensures ∙ from-read _ _ (start .pre .headed .is) (start .args .i) (at-edge-start .edge-start .ensures)
 
 pub edge-from-at-spec : {M : Type 1} → statement M
-edge-from-at-spec = tie.close (tie.spec
+edge-from-at-spec =
+    tie.close
+    (tie.spec
     (λ c κs. search needs)
-    (λ c κs. search needs)
-    (λ c. search needs)
+    word-at-requires
     returns)

@@ -1,22 +1,60 @@
 -- `record::edge_support_at` meets its contract. Assumes nothing.
-use Prim.Native.Nat.{_+_}
-use mathlib.Core.Path.{ap, sym, _∙_}
-use Rattle.defs.specs.Record.{u32At}
-use Rattle.record.proofs.Fields.{support-is}
+use native.Mathlib.Omega.{arith}
+use native.Mathlib.Omega.{arith}
+use mathlib.Core.Path.{_∙_}
+use Rattle.record.proofs.Fields.{edge-parts-inside, support-read}
 use borrow.Author.Needs.{needs}
 use Rattle.record.proofs.edge_support_at.Statement.{statement}
 use Rattle.record.proofs.edge_support_at.Tie as tie
 
 returns : tie.Need-returns
 returns c =
+    let at-word-size : tie.After-word-size = search in
     let at-edge-start : tie.After-edge-start = search in
     let start : tie.Start = search in
-    c .u32-at .ensures ∙ ap (λ n. u32At (start .args .rec .now) (n + 4)) (at-edge-start .edge-start .ensures)
-    ∙ sym (support-is (start .args .rec .now) (start .args .i))
+    c .u32-at .ensures ∙ support-read _ _ (start .pre .headed .is) (start .args .i) (at-edge-start .edge-start .ensures)
+    (at-word-size .word-size .ensures)
+
+mul-u32-at : tie.Need-mul-u32-at
+mul-u32-at c =
+    omega
+    (arith, edge-parts-inside (start .args .i) (start .pre), at-edge-start .edge-start .ensures, c .word-size .ensures)
+  where
+    at-edge-start : tie.After-edge-start
+    at-edge-start = search
+
+    start : tie.Start
+    start = let c = at-edge-start in search
+
+add-u32-at : tie.Need-add-u32-at
+add-u32-at c =
+    omega
+    (arith, edge-parts-inside (start .args .i) (start .pre), at-edge-start .edge-start .ensures, c .word-size .ensures)
+  where
+    at-edge-start : tie.After-edge-start
+    at-edge-start = search
+
+    start : tie.Start
+    start = let c = at-edge-start in search
+
+u32-at-requires : tie.Need-u32-at-requires
+u32-at-requires c κs =
+    omega
+    (arith, edge-parts-inside (start .args .i) (start .pre), at-edge-start .edge-start .ensures, c .word-size .ensures)
+  where
+    at-edge-start : tie.After-edge-start
+    at-edge-start = search
+
+    start : tie.Start
+    start = let c = at-edge-start in search
 
 pub edge-support-at-spec : {M : Type 1} → statement M
-edge-support-at-spec = tie.close (tie.spec
+edge-support-at-spec =
+    tie.close
+    (tie.spec
     (λ c κs. search needs)
-    (λ c. search needs)
     (λ c κs. search needs)
+    mul-u32-at
+    add-u32-at
+    u32-at-requires
     returns)

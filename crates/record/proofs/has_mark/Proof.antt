@@ -1,29 +1,31 @@
 -- `record::has_mark` meets its contract. Assumes nothing.
-use Rattle.record.proofs.Tests.{letter-0, letter-1, letter-2, letter-3}
+use native.Mathlib.Omega.{arith}
+use native.Mathlib.Omega.{arith}
+use mathlib.Core.Path.{_∙_, sym, ap}
+use lib.ListN.{take}
+use Rattle.defs.specs.Lists.{sameList}
+use Rattle.defs.specs.Forms.{mark}
+use Rattle.record.proofs.Fields.{header-long}
+use Rattle.record.proofs.Tests.{mark-1, mark-2}
 use borrow.Author.Needs.{needs}
 use Rattle.record.proofs.has_mark.Statement.{statement}
 use Rattle.record.proofs.has_mark.Tie as tie
 
+returns : tie.Need-returns
+returns c =
+    let at-enum-told : tie.After-enum-told = search in
+    let start : tie.Start = search in
+    mark-1
+    (start .args .form)
+    (start .args .rec .now)
+    (start .pre .is)
+    (at-enum-told .enum-told .given .1)
+    (c .begins-with .ensures)
+
 returns-2 : tie.Need-returns-2
 returns-2 c =
-    let at-if1 : tie.Else1 = search in
     let start : tie.Start = search in
-    letter-1 (start .args .rec .now) (start .pre) (at-if1 .if1 .left) (c .if2 .taken)
-
-returns-3 : tie.Need-returns-3
-returns-3 c =
-    let at-if2 : tie.Else2 = search in
-    let at-if1 : tie.Else1 = search in
-    let start : tie.Start = search in
-    letter-2 (start .args .rec .now) (start .pre) (at-if1 .if1 .left) (at-if2 .if2 .left) (c .if3 .taken)
-
-returns-4 : tie.Need-returns-4
-returns-4 c =
-    let at-if3 : tie.Else3 = search in
-    let at-if2 : tie.Else2 = search in
-    let at-if1 : tie.Else1 = search in
-    let start : tie.Start = search in
-    letter-3 (start .args .rec .now) (start .pre) (at-if1 .if1 .left) (at-if2 .if2 .left) (at-if3 .if3 .left)
+    mark-2 (start .args .form) (start .args .rec .now) (start .pre .is) (c .enum-told2 .given .1)
 
 pub has-mark-spec : {M : Type 1} → statement M
 has-mark-spec =
@@ -31,13 +33,7 @@ has-mark-spec =
     (tie.spec
     (λ c. search needs)
     (λ c. search needs)
-    (λ c. let start : tie.Start = search in letter-0 (start .args .rec .now) (start .pre) (c .if1 .taken))
+    (λ c κs. let start : tie.Start = search in (omega (arith, header-long (start .pre)), search needs))
     (λ c. search needs)
-    (λ c. search needs)
-    returns-2
-    (λ c. search needs)
-    (λ c. search needs)
-    returns-3
-    (λ c. search needs)
-    (λ c. search needs)
-    returns-4)
+    returns
+    returns-2)

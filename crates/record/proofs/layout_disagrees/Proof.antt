@@ -1,5 +1,7 @@
 -- `record::layout_disagrees` meets its contract. Assumes nothing.
 use mathlib.Core.Path.{sym, _∙_}
+use native.Mathlib.Omega.{arith}
+use Rattle.record.proofs.Fields.{header-long}
 use Rattle.record.proofs.Tests.{offsets-wrong, lengths-inside, other-sum, kmer-lengths, free-lengths}
 use borrow.Author.Needs.{needs}
 use Rattle.record.proofs.layout_disagrees.Statement.{statement}
@@ -9,11 +11,13 @@ total-length-requires : tie.Need-total-length-requires
 total-length-requires c κs =
     let at-if1 : tie.Else1 = search in
     let at-offsets-disagree : tie.After-offsets-disagree = search in
-    let start : tie.Start = search in (
-      c .vertex-count .ensures .1,
-      lengths-inside (start .args .rec .now) (sym (at-offsets-disagree .offsets-disagree .ensures) ∙ at-if1 .if1 .left)
-          (c .vertex-count .ensures .0),
-    )
+    let start : tie.Start = search in
+    record {
+      headed = start .pre .1;
+      few = c .vertex-count .ensures .1;
+      inside = lengths-inside (start .args .rec .now)
+          (sym (at-offsets-disagree .offsets-disagree .ensures) ∙ at-if1 .if1 .left) (c .vertex-count .ensures .0);
+    }
 
 returns-2 : tie.Need-returns-2
 returns-2 c =
@@ -38,8 +42,13 @@ other-kmer-length-requires c κs =
     let at-offsets-disagree : tie.After-offsets-disagree = search in
     let start : tie.Start = search in (
       start .pre .0,
-      lengths-inside (start .args .rec .now) (sym (at-offsets-disagree .offsets-disagree .ensures) ∙ at-if1 .if1 .left)
-          (at-vertex-count .vertex-count .ensures .0),
+      record {
+        headed = start .pre .1;
+        few = at-vertex-count .vertex-count .ensures .1;
+        inside = lengths-inside (start .args .rec .now)
+            (sym (at-offsets-disagree .offsets-disagree .ensures) ∙ at-if1 .if1 .left)
+            (at-vertex-count .vertex-count .ensures .0);
+      },
     )
 
 returns-3 : tie.Need-returns-3
@@ -86,6 +95,12 @@ returns c =
     let start : tie.Start = search in
     offsets-wrong (start .args .rec .now) (sym (at-offsets-disagree .offsets-disagree .ensures) ∙ c .if1 .taken)
 
+shared-slice-read-if3 : tie.Need-shared-slice-read-if3
+shared-slice-read-if3 c = omega (arith, header-long (start .pre .1))
+  where
+    start : tie.Start
+    start = search
+
 pub layout-disagrees-spec : {M : Type 1} → statement M
 layout-disagrees-spec =
     tie.close
@@ -96,7 +111,7 @@ layout-disagrees-spec =
     total-length-requires
     (λ c κs. search needs)
     returns-2
-    (λ c. search needs)
+    shared-slice-read-if3
     other-kmer-length-requires
     returns-3
     returns-4)

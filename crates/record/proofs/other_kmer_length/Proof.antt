@@ -3,6 +3,7 @@ use Prim.Native.Nat.{_-_, _≤_}
 use mathlib.Core.Path.{_≡_, sym, _∙_}
 use Rattle.defs.specs.Lists.{anyOf, upFrom}
 use Rattle.record.specs.Layout.{otherKmerLength}
+use Rattle.record.proofs.Fields.{length-inside}
 use Rattle.record.proofs.TurnLaws.{any-start, any-turn, any-found, any-none}
 use Rattle.record.proofs.Tests.{length-other, length-k}
 use native.Mathlib.Omega.{arith}
@@ -11,10 +12,10 @@ use Rattle.record.proofs.other_kmer_length.Statement.{statement}
 use Rattle.record.proofs.other_kmer_length.Tie as tie
 
 abbrev Inv-loop : tie.InvT-loop
-Inv-loop rec v size i₀ i = (i ≤ v) × (anyOf (otherKmerLength rec) (upFrom i (v - i)) ≡ anyOf (otherKmerLength rec) (upFrom 0 v))
+Inv-loop rec form v size i₀ i = (i ≤ v) × (anyOf (otherKmerLength rec) (upFrom i (v - i)) ≡ anyOf (otherKmerLength rec) (upFrom 0 v))
 
 abbrev μ-loop : tie.MeasureT-loop
-μ-loop rec v size i₀ i = v - i
+μ-loop rec form v size i₀ i = v - i
 
 returns : tie.Need-returns Inv-loop μ-loop
 returns c =
@@ -68,6 +69,12 @@ loop-holds c = (omega arith, any-start (otherKmerLength (start .args .rec .now))
     start : tie.Start Inv-loop μ-loop
     start = search
 
+length-at-requires : tie.Need-length-at-requires Inv-loop μ-loop
+length-at-requires c κs =
+    let at-loop : tie.At-loop Inv-loop μ-loop = search in
+    let start : tie.Start Inv-loop μ-loop = search in
+    length-inside (start .pre .1) (at-loop .loop .i) (c .loop-test .taken)
+
 pub other-kmer-length-spec : {M : Type 1} → statement M
 other-kmer-length-spec =
     tie.close
@@ -78,7 +85,7 @@ other-kmer-length-spec =
     (λ c. omega arith)
     loop-holds
     (λ c. omega arith)
-    (λ c κs. omega arith)
+    length-at-requires
     returns
     (λ c. omega arith)
     loop-again

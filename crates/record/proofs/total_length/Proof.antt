@@ -3,16 +3,18 @@ use Prim.Native.Nat.{_+_, _-_, _*_, _≤_}
 use mathlib.Core.Path.{_≡_}
 use Rattle.defs.specs.Lists.{tab, tabFrom, sum}
 use Rattle.defs.specs.Record.{lengthAt}
+use Rattle.record.proofs.Fields.{length-inside}
 use Rattle.record.proofs.TurnLaws.{sum-start, sum-turn, sum-spent}
 use native.Mathlib.Omega.{arith}
 use Rattle.record.proofs.total_length.Statement.{statement}
 use Rattle.record.proofs.total_length.Tie as tie
 
 abbrev Inv-loop : tie.InvT-loop
-Inv-loop rec v i₀ total₀ i total = (i ≤ v) × (total + sum (tabFrom i (v - i) (lengthAt rec)) ≡ sum (tab v (lengthAt rec))) × (total ≤ 65535 * i)
+Inv-loop rec form v i₀ total₀ i total =
+    (i ≤ v) × (total + sum (tabFrom i (v - i) (lengthAt rec)) ≡ sum (tab v (lengthAt rec))) × (total ≤ 4294967295 * i)
 
 abbrev μ-loop : tie.MeasureT-loop
-μ-loop rec v i₀ total₀ i total = v - i
+μ-loop rec form v i₀ total₀ i total = v - i
 
 loop-again : tie.Need-loop-again Inv-loop μ-loop
 loop-again c = (
@@ -49,6 +51,18 @@ returns c =
     start : tie.Start Inv-loop μ-loop
     start = let c = at-loop in search
 
+length-at-requires : tie.Need-length-at-requires Inv-loop μ-loop
+length-at-requires c κs =
+    let at-loop : tie.At-loop Inv-loop μ-loop = search in
+    let start : tie.Start Inv-loop μ-loop = search in
+    length-inside (start .pre) (at-loop .loop .i) (c .loop-test .taken)
+
+add-total : tie.Need-add-total Inv-loop μ-loop
+add-total c = omega (arith, start .pre .few)
+  where
+    start : tie.Start Inv-loop μ-loop
+    start = search
+
 pub total-length-spec : {M : Type 1} → statement M
 total-length-spec =
     tie.close
@@ -56,8 +70,8 @@ total-length-spec =
     Inv-loop
     μ-loop
     loop-holds
-    (λ c κs. omega arith)
-    (λ c. omega arith)
+    length-at-requires
+    add-total
     (λ c. omega arith)
     (λ c. omega arith)
     loop-again

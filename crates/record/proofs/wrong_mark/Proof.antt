@@ -1,7 +1,10 @@
 -- `record::wrong_mark` meets its contract. Assumes nothing.
+use native.Mathlib.Omega.{arith}
+use native.Mathlib.Omega.{arith}
 use mathlib.Core.Path.{sym, _∙_}
 use borrow.Author.Tests.{not-true, not-false}
 use Rattle.record.specs.Kinds.{takesOf}
+use Rattle.record.proofs.Fields.{header-long}
 use Rattle.record.proofs.Tests.{other-mark, other-kind, other-status, kmer-status, sequence-status}
 use borrow.Author.Needs.{needs}
 use Rattle.record.proofs.wrong_mark.Statement.{statement}
@@ -81,12 +84,12 @@ wrong-mark-spec =
     (tie.spec
     (λ c κs. search needs)
     returns
-    (λ c. search needs)
+    (λ c. let start : tie.Start = search in omega (arith, header-long (start .pre)))
     (λ c κs. search needs)
     returns-2
-    (λ c. search needs)
+    (λ c. let start : tie.Start = search in omega (arith, header-long (start .pre)))
     returns-3
-    (λ c. search needs)
-    (λ c. search needs)
+    (λ c. let start : tie.Start = search in omega (arith, header-long (start .pre)))
+    (λ c. let start : tie.Start = search in omega (arith, header-long (start .pre)))
     returns-4
     returns-5)

@@ -1,9 +1,10 @@
 -- `sequence::sequence_part` meets its contract. Assumes nothing.
+use native.Mathlib.Omega.{arith}
+use native.Mathlib.Omega.{arith}
 use Prim.Native.Nat.{_+_}
 use mathlib.Core.Path.{ap}
-use Rattle.record.proofs.Sequences.{length-is, sequence-inside}
+use Rattle.record.proofs.Sequences.{sequence-inside, formed-length}
 use Rattle.sequence.proofs.Starts.{part-is}
-use native.Mathlib.Omega.{arith}
 use borrow.Author.Needs.{needs}
 use Rattle.sequence.proofs.sequence_part.Statement.{statement}
 use Rattle.sequence.proofs.sequence_part.Tie as tie
@@ -53,15 +54,15 @@ returns c =
     (start .pre .1)
 
 length-at-requires : tie.Need-length-at-requires
-length-at-requires c κs = omega (arith, length-is (start .args .rec .now) (start .pre .0), start .pre .1)
-  where
-    start : tie.Start
-    start = search
+length-at-requires c κs =
+    let start : tie.Start = search in
+    formed-length (start .pre .0) (c .form-of .ensures) (start .args .v) (start .pre .1)
 
 pub sequence-part-spec : {M : Type 1} → statement M
 sequence-part-spec =
     tie.close
     (tie.spec
+    (λ c κs. search needs)
     (λ c κs. search needs)
     length-at-requires
     add-end

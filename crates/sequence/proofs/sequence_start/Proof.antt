@@ -1,37 +1,45 @@
 -- `sequence::sequence_start` meets its contract. Assumes nothing.
 use Prim.Native.Nat.{_-_}
-use Rattle.record.proofs.Sequences.{length-is, sequence-inside}
+use Rattle.record.proofs.Fields.{bytes-at-read}
+use Rattle.record.proofs.Sequences.{sequence-inside, formed-headed, formed-length}
 use Rattle.sequence.proofs.Starts.{AddingLengths, adding-start, adding-more, adding-fits, adding-end}
 use native.Mathlib.Omega.{arith}
+use borrow.Author.Needs.{needs}
 use Rattle.sequence.proofs.sequence_start.Statement.{statement}
 use Rattle.sequence.proofs.sequence_start.Tie as tie
 
 abbrev Inv-loop : tie.InvT-loop
-Inv-loop rec v at₀ i₀ at i = AddingLengths rec v i at
+Inv-loop rec v form at₀ i₀ at i = AddingLengths rec v i at
 
 abbrev μ-loop : tie.MeasureT-loop
-μ-loop rec v at₀ i₀ at i = v - i
+μ-loop rec v form at₀ i₀ at i = v - i
 
 loop-holds : tie.Need-loop-holds Inv-loop μ-loop
 loop-holds c =
+    let at-edge-count : tie.After-edge-count Inv-loop μ-loop = search in
     let at-vertex-count : tie.After-vertex-count Inv-loop μ-loop = search in
+    let at-form-of : tie.After-form-of Inv-loop μ-loop = search in
     let start : tie.Start Inv-loop μ-loop = search in
     adding-start
     (start .args .rec .now)
     (start .args .v)
-    (at-vertex-count .vertex-count .result)
-    (c .edge-count .result)
-    (at-vertex-count .vertex-count .ensures .0)
-    (c .edge-count .ensures .0)
+    (bytes-at-read _ _ (at-form-of .form-of .ensures) (c .bytes-at .ensures) (at-vertex-count .vertex-count .ensures .0)
+    (at-edge-count .edge-count .ensures .0))
 
 length-at-requires : tie.Need-length-at-requires Inv-loop μ-loop
-length-at-requires c κs = omega (arith, length-is (start .args .rec .now) (start .pre .0), start .pre .1)
+length-at-requires c κs = formed-length (start .pre .0) (at-form-of .form-of .ensures) (at-loop .loop .i) (omega (arith, start .pre .1))
   where
-    start : tie.Start Inv-loop μ-loop
-    start = search
+    at-loop : tie.At-loop Inv-loop μ-loop
+    at-loop = search
 
-add-at-3 : tie.Need-add-at-3 Inv-loop μ-loop
-add-at-3 c =
+    at-form-of : tie.After-form-of Inv-loop μ-loop
+    at-form-of = let c = at-loop in search
+
+    start : tie.Start Inv-loop μ-loop
+    start = let c = at-form-of in search
+
+add-at : tie.Need-add-at Inv-loop μ-loop
+add-at c =
     omega (
       arith,
       adding-fits (start .args .rec .now) (start .args .v) (at-loop .loop .i) (at-loop .loop .at)
@@ -76,16 +84,20 @@ returns c =
     (at-loop .loop .inv)
 
 vertex-count-requires : tie.Need-vertex-count-requires Inv-loop μ-loop
-vertex-count-requires c κs = omega (arith, length-is (start .args .rec .now) (start .pre .0))
-  where
-    start : tie.Start Inv-loop μ-loop
-    start = search
+vertex-count-requires c κs =
+    let start : tie.Start Inv-loop μ-loop = search in formed-headed (start .pre .0) (c .form-of .ensures)
 
 edge-count-requires : tie.Need-edge-count-requires Inv-loop μ-loop
-edge-count-requires c κs = omega (arith, length-is (start .args .rec .now) (start .pre .0))
+edge-count-requires c κs =
+    let at-form-of : tie.After-form-of Inv-loop μ-loop = search in
+    let start : tie.Start Inv-loop μ-loop = search in
+    formed-headed (start .pre .0) (at-form-of .form-of .ensures)
+
+bytes-at-requires : tie.Need-bytes-at-requires Inv-loop μ-loop
+bytes-at-requires c κs = (omega (arith, at-vertex-count .vertex-count .ensures .1), omega (arith, c .edge-count .ensures .1))
   where
-    start : tie.Start Inv-loop μ-loop
-    start = search
+    at-vertex-count : tie.After-vertex-count Inv-loop μ-loop
+    at-vertex-count = search
 
 pub sequence-start-spec : {M : Type 1} → statement M
 sequence-start-spec =
@@ -93,15 +105,13 @@ sequence-start-spec =
     (tie.spec
     Inv-loop
     μ-loop
+    (λ c κs. search needs)
     vertex-count-requires
-    (λ c. omega arith)
-    (λ c. omega arith)
     edge-count-requires
-    (λ c. omega arith)
-    (λ c. omega arith)
+    bytes-at-requires
     loop-holds
     length-at-requires
-    add-at-3
+    add-at
     (λ c. omega arith)
     (λ c. omega arith)
     loop-again

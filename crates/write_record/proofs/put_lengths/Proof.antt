@@ -3,7 +3,10 @@ use native.Mathlib.Omega.{arith}
 use Prim.Native.Nat.{ℕ, _-_}
 use mathlib.Core.Path.{sym, ap, _∙_}
 use mathlib.Core.List.{_++_}
-use Rattle.defs.specs.Record.{le16}
+use Rattle.defs.specs.Forms.{lengthsAt}
+use Rattle.defs.specs.Record.{wordBytes}
+use Rattle.form.specs.Coded.{formIs}
+use Rattle.form.proofs.FormLaws.{length-place}
 use Rattle.write_record.specs.Written.{lengthBytes}
 use Rattle.tabs.proofs.SumTabs.{fields, fields-none, fields-more}
 use Rattle.write_record.proofs.WriteLaws.{
@@ -12,65 +15,60 @@ use Rattle.write_record.proofs.WriteLaws.{
   growing-len,
   growing-more,
   growing-end,
-  lengths-length,
+  length-at-place,
 }
 use Rattle.write_record.proofs.put_lengths.Statement.{statement}
 use Rattle.write_record.proofs.put_lengths.Tie as tie
 
 abbrev Inv-loop : tie.InvT-loop
-Inv-loop out₀ vs n i₀ out i = Growing n (fields (lengthBytes vs)) out₀ 32 out i
+Inv-loop out₀ form vs n i₀ out i = Growing n (fields (lengthBytes (formIs form) vs)) out₀ (lengthsAt (formIs form)) out i
 
 abbrev μ-loop : tie.MeasureT-loop
-μ-loop out₀ vs n i₀ out i = n - i
+μ-loop out₀ form vs n i₀ out i = n - i
 
 loop-again : tie.Need-loop-again Inv-loop μ-loop
 loop-again c =
+    let at-put-word : tie.After-put-word Inv-loop μ-loop = search in
+    let at-len-number : tie.After-len-number Inv-loop μ-loop = search in
+    let at-edges-at : tie.After-edges-at Inv-loop μ-loop = search in
+    let at-loop-test : tie.In-loop Inv-loop μ-loop = search in
+    let at-loop : tie.At-loop Inv-loop μ-loop = search in
+    let start : tie.Start Inv-loop μ-loop = search in
     growing-more _ _
     (at-loop .loop .inv)
     (at-loop-test .loop-test .taken)
-    (fields-more (lengthBytes (start .args .vs .now)) (at-loop .loop .i)
-    ∙ ap (λ (x : ℕ). fields (lengthBytes (start .args .vs .now)) (at-loop .loop .i) ++ le16 x)
-    (sym (at-len-number .len-number .ensures)))
-    (omega (arith, lengths-length (start .args .vs .now) (at-loop .loop .i)))
-    (at-put-u16 .put-u16 .ensures)
-  where
-    at-put-u16 : tie.After-put-u16 Inv-loop μ-loop
-    at-put-u16 = search
-
-    at-len-number : tie.After-len-number Inv-loop μ-loop
-    at-len-number = let c = at-put-u16 in search
-
-    at-loop-test : tie.In-loop Inv-loop μ-loop
-    at-loop-test = let c = at-len-number in search
-
-    at-loop : tie.At-loop Inv-loop μ-loop
-    at-loop = let c = at-loop-test in search
-
-    start : tie.Start Inv-loop μ-loop
-    start = let c = at-loop in search
+    (fields-more (lengthBytes (formIs (start .args .form)) (start .args .vs .now)) (at-loop .loop .i)
+    ∙ ap (λ (x : ℕ). fields (lengthBytes (formIs (start .args .form)) (start .args .vs .now)) (at-loop .loop .i) ++
+    wordBytes (formIs (start .args .form)) x) (sym (at-len-number .len-number .ensures)))
+    (at-edges-at .edges-at .ensures ∙ length-at-place (formIs (start .args .form)) (start .args .vs .now)
+    (at-loop .loop .i))
+    (at-put-word .put-word .ensures)
 
 loop-holds : tie.Need-loop-holds Inv-loop μ-loop
 loop-holds c =
     let start : tie.Start Inv-loop μ-loop = search in
-    growing-start (fields-none (lengthBytes (start .args .vs .now)))
+    growing-start (fields-none (lengthBytes (formIs (start .args .form)) (start .args .vs .now)))
 
-cast-put-u16 : tie.Need-cast-put-u16 Inv-loop μ-loop
-cast-put-u16 c = omega (arith, start .pre .fits (at-loop .loop .i) (at-loop-test .loop-test .taken))
+put-word-requires : tie.Need-put-word-requires Inv-loop μ-loop
+put-word-requires c κs = (
+  omega (
+    arith,
+    start .pre .room,
+    growing-len (at-loop .loop .inv),
+    at-edges-at .edges-at .ensures,
+    length-place (start .args .n) 0 (at-loop .loop .i) (formIs (start .args .form)) (at-loop-test .loop-test .taken),
+  ),
+  omega (arith, c .len-number .ensures, start .pre .fits (at-loop .loop .i) (at-loop-test .loop-test .taken)),
+)
   where
+    at-edges-at : tie.After-edges-at Inv-loop μ-loop
+    at-edges-at = search
+
     at-loop-test : tie.In-loop Inv-loop μ-loop
-    at-loop-test = search
+    at-loop-test = let c = at-edges-at in search
 
     at-loop : tie.At-loop Inv-loop μ-loop
     at-loop = let c = at-loop-test in search
-
-    start : tie.Start Inv-loop μ-loop
-    start = let c = at-loop in search
-
-put-u16-requires : tie.Need-put-u16-requires Inv-loop μ-loop
-put-u16-requires c κs = omega (arith, start .pre .room, growing-len (at-loop .loop .inv))
-  where
-    at-loop : tie.At-loop Inv-loop μ-loop
-    at-loop = search
 
     start : tie.Start Inv-loop μ-loop
     start = let c = at-loop in search
@@ -82,11 +80,9 @@ put-lengths-spec =
     Inv-loop
     μ-loop
     loop-holds
-    (λ c. let start : tie.Start Inv-loop μ-loop = search in omega (arith, start .pre .room))
-    (λ c. let start : tie.Start Inv-loop μ-loop = search in omega (arith, start .pre .room))
+    (λ c κs. let start : tie.Start Inv-loop μ-loop = search in omega (arith, start .pre .few))
     (λ c κs. let start : tie.Start Inv-loop μ-loop = search in omega (arith, start .pre .vs-room))
-    cast-put-u16
-    put-u16-requires
+    put-word-requires
     (λ c. omega arith)
     (λ c. omega arith)
     loop-again
