@@ -3,10 +3,12 @@ use mathlib.Core.Path.{_≡_}
 use mathlib.Core.List.{List}
 use Prim.Native.Nat.{ℕ, _+_, _*_, _/_, _≤_, _<_}
 use lib.ListN.{length}
+use Rattle.defs.specs.Forms.{formOf}
 use Rattle.defs.specs.Record.{kindOf, verticesOf, edgesOf, bytesOf}
 use Rattle.record.specs.Layout.{WellFormed}
 use Rattle.memory.specs.Memory.{vertexRoom, edgeRoom, signatureRoom, Room, Scratch}
 use Rattle.accept.specs.Accept.{RoomToRead}
+use Rattle.calls.specs.Sending.{RoomFits}
 
 -- ---- to read
 
@@ -45,13 +47,12 @@ pub record FewToRewrite (v e : ℕ) (bs : List ℕ) : Type 0 where
   pub weight : WellFormed bs → kindOf bs ≡ 1 → verticesOf bs + bytesOf bs ≤ v
   pub edges : WellFormed bs → kindOf bs ≡ 1 → edgesOf bs + bytesOf bs / 4 + v ≤ e
 
--- Slices lent for the record bs: room to read it and for every rewrite of its graph; and no more vertices and edges than an answer may have.
+-- Slices lent for the record bs: room to read it and for every rewrite of its graph; and no more than fits a record of its form.
 pub record LentGraph (bs es vs p heads nexts nodes mp : List ℕ) : Type 0 where
   pub room : Room es vs p heads nexts nodes mp
   pub reading : RoomToRead bs es vs heads nexts nodes mp
   pub roomy : RoomToRewrite bs heads nexts
-  pub vertices-most : vertexRoom heads ≤ 10240
-  pub edges-most : edgeRoom nexts ≤ 16384
+  pub fits : RoomFits (formOf bs) heads nexts
 
 -- the same, with the lists of a round
 pub record Lent (bs es vs p heads nexts nodes mp starts tried sig : List ℕ) : Type 0 where

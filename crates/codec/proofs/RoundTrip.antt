@@ -90,10 +90,10 @@ within-encodable f g w =
     }
 
 -- a sequence is no longer than all together
-length-most : {s : List ℕ} {vs : List (List ℕ)} → List·Memᴰ s vs → length s ≤ sequenceBytes vs
+pub part-most : {s : List ℕ} {vs : List (List ℕ)} → List·Memᴰ s vs → length s ≤ sequenceBytes vs
 unfolding sequenceBytes
-length-most {s} (List·Memᴰ·head e) = omega (arith, ap length e)
-length-most (List·Memᴰ·tail m) = omega (arith, length-most m)
+part-most {s} (List·Memᴰ·head e) = omega (arith, ap length e)
+part-most (List·Memᴰ·tail m) = omega (arith, part-most m)
 
 -- every answer fits
 pub answer-encodable : (f : Form) (g : Graph) → g .k ≤ 128 → nodeCount g ≤ limits f .answerVertices → length (g .edges) ≤ limits f .answerEdges
@@ -105,7 +105,7 @@ answer-encodable f g hk hv he hb each =
       vertices = hv;
       edges = he;
       bytes = omega (arith, hb, limits-small f .bytes);
-      lengths = λ s m. omega (arith, hb, length-most m);
+      lengths = λ s m. omega (arith, hb, part-most m);
       each = each;
     }
 

@@ -100,10 +100,16 @@ placed-within : (b : Bool) (s l s′ l′ used : ℕ) → s + l ≤ used → 1 �
 placed-within true s l s′ l′ used w o a b = omega arith
 placed-within false s l s′ l′ used w o a b = omega arith
 
+placed-shorter : (b : Bool) (l l′ : ℕ) → 1 ≤ l → l′ ≡ cond b l 1 → l′ ≤ l
+placed-shorter true l l′ o q = omega arith
+placed-shorter false l l′ o q = omega arith
+
 pub trimming-end : {m n : ℕ} {es vs₀ vs : List ℕ} {v : ℕ} → Trimmable n vs₀ → Trimming m n es vs₀ vs v → n ≤ v → Trimmed m n es vs₀ vs
 trimming-end {m} {n} {es} {vs₀} {vs} {v} T W h = record {
   is = λ k p w. tab-ext n (seqIn vs p) (additionalSequence (graphIn k n m es vs₀ p)) (λ u b. let P = W .done u (omega arith) in
       placed-seq (eqb (length (incidentEdges (edgeEnd 1 es) m u)) 0) vs₀ vs p u (w .at u b) (T .whole u b) (P .start) (P .len) ∙ sym (additional k p u b));
+  shorter = λ u b. let P = W .done u (omega arith) in placed-shorter
+      (eqb (length (incidentEdges (edgeEnd 1 es) m u)) 0) _ _ (T .whole u b) (P .len);
   within = λ used w. record {
     at = λ u b. let P = W .done u (omega arith) in placed-within
         (eqb (length (incidentEdges (edgeEnd 1 es) m u)) 0) _ _ _ _ used (w .at u b) (T .whole u b) (P .start) (P .len);

@@ -19,6 +19,7 @@ pub record Trimmable (n : ℕ) (vs : List ℕ) : Type 0 where
 pub record Trimmed (m n : ℕ) (es vs vs′ : List ℕ) : Type 0 where
   pub is : (k : ℕ) (p : List ℕ) → Within (length p) n vs → seqsIn n vs′ p ≡ tab n (additionalSequence (graphIn k n m es vs p))
   pub within : (used : ℕ) → Within used n vs → Within used n vs′
+  pub shorter : (v : ℕ) → v < n → getD vs′ (2 * v + 1) 0 ≤ getD vs (2 * v + 1) 0
 
 -- the k-mers are distinct, and no edge is there twice
 pub record Separate (m n : ℕ) (es vs p : List ℕ) : Type 0 where

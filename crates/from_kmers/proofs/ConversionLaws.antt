@@ -10,6 +10,7 @@ use borrow.Author.Tests.{lt-ltb, le-ltb, ltb-false}
 use Rattle.defs.specs.Lists.{allOf}
 use Rattle.defs.specs.SeqGraph.{Edge, Graph}
 use Rattle.defs.specs.Simplify.{sequenceBytes}
+use Rattle.defs.specs.Forms.{Form, formOf, limits}
 use Rattle.defs.specs.Record.{decode}
 use Rattle.defs.specs.Refusals.{refusalOf, NonePresent, kmerOnly, edgeWithoutOverlap, recordRefusal}
 use Rattle.defs.specs.Refusals.{layoutCauses, doubledCause, overlapCause, cycleCause, recordCauses}
@@ -25,6 +26,7 @@ use Rattle.pool.specs.Pool.{bytesIn}
 use Rattle.pool.proofs.PoolLaws.{bytes-below}
 use Rattle.memory.specs.Memory.{graphOf}
 use Rattle.memory.specs.declared.Held.{Held}
+use Rattle.form.proofs.FormLaws.{between, SmallLimits, limits-small, LimitsFit, limits-fit}
 use Rattle.record.proofs.Accepted.{well-formed}
 use Rattle.record.specs.Layout.{WellFormed}
 use Rattle.sound.specs.Alike.{noEdge, SameEnds}
@@ -63,11 +65,11 @@ module _ (bs : List ℕ) where
     unfolding conversionCauses layoutCauses
     later = refusal-later (overlappingCauses bs) (bytesCause bs ∷ []) overlapping-numbered z
 
-    too-long : 8192 < sequenceBytes ((fromAssemblyGraph (decode bs)) .verts) → refusalOf (conversionCauses bs) ≡ 8
-    too-long l = later ∙ refusal-there (bytesCause bs) [] (lt-ltb 8192 (sequenceBytes ((fromAssemblyGraph (decode bs)) .verts)) l)
+    too-long : limits (formOf bs) .bytes < sequenceBytes ((fromAssemblyGraph (decode bs)) .verts) → refusalOf (conversionCauses bs) ≡ 8
+    too-long l = later ∙ refusal-there (bytesCause bs) [] (lt-ltb (limits (formOf bs) .bytes) (sequenceBytes ((fromAssemblyGraph (decode bs)) .verts)) l)
 
-    no-cause : sequenceBytes ((fromAssemblyGraph (decode bs)) .verts) ≤ 8192 → refusalOf (conversionCauses bs) ≡ 0
-    no-cause l = later ∙ refusal-absent (bytesCause bs) [] (le-ltb 8192 (sequenceBytes ((fromAssemblyGraph (decode bs)) .verts)) l) ∙ refusal-nil
+    no-cause : sequenceBytes ((fromAssemblyGraph (decode bs)) .verts) ≤ limits (formOf bs) .bytes → refusalOf (conversionCauses bs) ≡ 0
+    no-cause l = later ∙ refusal-absent (bytesCause bs) [] (le-ltb (limits (formOf bs) .bytes) (sequenceBytes ((fromAssemblyGraph (decode bs)) .verts)) l) ∙ refusal-nil
 
     -- the layout is that of a k-mer graph
     layout-none : refusalOf (layoutCauses kmerOnly bs) ≡ 0
@@ -92,8 +94,8 @@ module _ (bs : List ℕ) where
     pub all-overlap : edgeWithoutOverlap (decode bs) ≡ false
     all-overlap = behind .absent (overlapCause bs) (List·Memᴰ·head refl)
 
-    pub none-late : sequenceBytes ((fromAssemblyGraph (decode bs)) .verts) ≤ 8192
-    none-late = ltb-false 8192 _ (behind .absent (bytesCause bs) (List·Memᴰ·tail (List·Memᴰ·tail (List·Memᴰ·head refl))))
+    pub none-late : sequenceBytes ((fromAssemblyGraph (decode bs)) .verts) ≤ limits (formOf bs) .bytes
+    none-late = ltb-false (limits (formOf bs) .bytes) _ (behind .absent (bytesCause bs) (List·Memᴰ·tail (List·Memᴰ·tail (List·Memᴰ·head refl))))
 
 -- ---- no k-mer and no edge is there twice
 
@@ -141,8 +143,7 @@ module _ {h : Held} {es vs heads nexts order scratch place sorted : List ℕ} (C
     {vs′ : List ℕ} (T : Trimmed (h .m) (h .n) es vs vs′) where
   pub countable : length vs′ ≡ length vs → (2 * h .n ≤ length vs′) × (bytesIn (h .n) vs′ < 4294967296)
   countable l =
-      let w = T .within 303136 (C .within) in
-      let most = sum-most 303136 (h .n) (λ (v : ℕ). getD vs′ (2 * v + 1) 0) (λ v b. omega (arith, w .at v b)) in
+      let most = sum-most 128 (h .n) (λ (v : ℕ). getD vs′ (2 * v + 1) 0) (λ v b. omega (arith, T .shorter v b, C .sizes v b)) in
       (omega (arith, C .trimmable .vs-room), omega (arith, C .vertices, most))
 
   module _ {sorted′ : List ℕ} (S : EdgesSorted (h .m) (h .n) es order sorted′) where
@@ -154,17 +155,18 @@ module _ {h : Held} {es vs heads nexts order scratch place sorted : List ℕ} (C
       graph-is = converted (h .k .0) bs (H .loaded .within) (separate H) (H .ordered) T S ∙ ap fromAssemblyGraph (H .loaded .is)
 
       bytes-is : sequenceBytes ((fromAssemblyGraph (decode bs)) .verts) ≡ bytesIn (h .n) vs′
-      bytes-is = ap (λ (g : Graph). sequenceBytes (g .verts)) (sym graph-is) ∙ bytes-are 0 (h .k .0) (h .n) (h .m) sorted′ vs′ bs inside
+      bytes-is = ap (λ (g : Graph). sequenceBytes (g .verts)) (sym graph-is) ∙ bytes-are (formOf bs) 0 (h .k .0) (h .n) (h .m) sorted′ vs′ bs inside
 
-      sendable : bytesIn (h .n) vs′ ≤ 8192 → length vs′ ≡ length vs → length sorted′ ≡ length sorted → Sendable 0 h sorted′ vs′ bs
+      sendable : bytesIn (h .n) vs′ ≤ limits (formOf bs) .bytes → length vs′ ≡ length vs → length sorted′ ≡ length sorted
+          → Sendable (formOf bs) 0 h sorted′ vs′ bs
       sendable l lv ls = record {
         measured = measured;
         within = inside;
         writable = λ out enough. record {
           status-fits = omega arith;
-          n-fits = omega (arith, H .vertices);
-          m-fits = omega (arith, H .edges);
-          lengths-fit = λ v c. omega (arith, bytes-below (h .n) v vs′ c);
+          n-fits = omega (arith, H .vertices, fit .vertices, most .answer-vertices);
+          m-fits = omega (arith, H .edges, fit .edges, most .answer-edges);
+          lengths-fit = λ v c. omega (arith, bytes-below (h .n) v vs′ c, fit .bytes);
           ends = S .ends;
           es-room = omega (arith, C .convertible .out-room);
           within = inside;
@@ -173,19 +175,44 @@ module _ {h : Held} {es vs heads nexts order scratch place sorted : List ℕ} (C
         };
       }
         where
-          measured : Measured h vs′
-          measured = record { vs-room = omega (arith, C .trimmable .vs-room); small = omega (arith, H .vertices, H .edges) }
+          most : SmallLimits (formOf bs)
+          most = limits-small (formOf bs)
 
-    module _ {b : ℕ} (q : b ≡ bytesIn (h .n) vs′) where
-      pub over : 8192 < b → {es₂ vs₂ : List ℕ} → KmersConverted h es vs heads nexts order (Refused 8) es₂ vs₂
-      over l = record { is = λ bs none H. refused-as bs 8 (sym (too-long bs none (omega (arith, bytes-is H)))) (λ z. omega arith) }
+          fit : LimitsFit (formOf bs)
+          fit = limits-fit (formOf bs)
 
-      pub done : b ≤ 8192 → length vs′ ≡ length vs → length sorted′ ≡ length sorted → KmersConverted h es vs heads nexts order (read.Graph h) sorted′ vs′
+          measured : Measured (formOf bs) h vs′
+          measured = record {
+            vs-room = omega (arith, C .trimmable .vs-room);
+            small =
+                let B = between (formOf bs) (h .n) (h .m) (bytesIn (h .n) vs′) in
+                omega (
+                  arith,
+                  H .vertices,
+                  H .edges,
+                  most .vertices,
+                  most .edges,
+                  most .bytes,
+                  B .whole-is,
+                  B .edges-most,
+                  B .bytes-most,
+                );
+          }
+
+    -- b bytes, of which there may be c
+    module _ {b c : ℕ} (q : b ≡ bytesIn (h .n) vs′) {f : Form} (limit : c ≡ limits f .bytes) where
+      pub over : c < b → {es₂ vs₂ : List ℕ} → KmersConverted f h es vs heads nexts order (Refused 8) es₂ vs₂
+      over l = record {
+        is = λ bs e none H.
+            refused-as bs 8 (sym (too-long bs none (omega (arith, limit, bytes-is H, ap (λ (g : Form). limits g .bytes) e)))) (λ z. omega arith);
+      }
+
+      pub done : b ≤ c → length vs′ ≡ length vs → length sorted′ ≡ length sorted → KmersConverted f h es vs heads nexts order (read.Graph h) sorted′ vs′
       done l lv ls = record {
-        is = λ bs none H. record {
-          number = number-graph refl ∙ sym (no-cause bs none (omega (arith, bytes-is H)));
+        is = λ bs form none H. let same = ap (λ (g : Form). limits g .bytes) form in record {
+          number = number-graph refl ∙ sym (no-cause bs none (omega (arith, limit, same, bytes-is H)));
           is = λ g e. subst (λ (x : Held). graphOf x sorted′ vs′ bs ≡ fromAssemblyGraph (decode bs)) (same-held e) (graph-is H);
-          sendable = λ g e. subst (λ (x : Held). Sendable 0 x sorted′ vs′ bs) (same-held e) (sendable H (omega arith) lv ls);
+          sendable = λ g e. subst (λ (x : Held). Sendable (formOf bs) 0 x sorted′ vs′ bs) (same-held e) (sendable H (omega (arith, limit, same)) lv ls);
           refused = λ n e. not-both refl e;
         };
       }
@@ -203,8 +230,9 @@ module _ {bs : List ℕ} {r : Read} {es vs heads nexts order : List ℕ} (A : Km
     formed : WellFormed bs
     formed = well-formed kmerOnly bs (layout-none bs none)
 
-    pub converted-as : {x : Read} {sorted vs′ : List ℕ} → KmersConverted h es vs heads nexts order x sorted vs′ → ConvertedAs bs x sorted vs′
-    converted-as K = K .is bs none (A .holds h ok)
+    pub converted-as : {f : Form} {x : Read} {sorted vs′ : List ℕ} → f ≡ formOf bs → KmersConverted f h es vs heads nexts order x sorted vs′
+        → ConvertedAs bs x sorted vs′
+    converted-as e K = K .is bs e none (A .holds h ok)
 
     module _ {scratch place sorted : List ℕ} (R : RoomToConvert bs es vs heads nexts order scratch place sorted) where
       room : RoomFor bs es vs heads nexts order scratch
@@ -223,8 +251,8 @@ module _ {bs : List ℕ} {r : Read} {es vs heads nexts order : List ℕ} (A : Km
           scratch-edges = omega (arith, held .loaded .m, R .scratch-room formed);
           place-room = omega (arith, held .loaded .n, R .reading .marks-room formed);
           out-room = omega (arith, held .loaded .m, R .sorted-room formed);
-          few-vertices = omega (arith, held .vertices);
-          few-edges = omega (arith, held .edges);
+          few-vertices = omega (arith, held .vertices, limits-small (formOf bs) .vertices);
+          few-edges = omega (arith, held .edges, limits-small (formOf bs) .edges);
         };
         trimmable = record {
           vs-room = omega (arith, held .loaded .n, room .vs-room);
@@ -232,6 +260,6 @@ module _ {bs : List ℕ} {r : Read} {es vs heads nexts order : List ℕ} (A : Km
           small = λ v b. omega (arith, held .loaded .within .at v b, held .short);
         };
         indexed = held .indexed;
-        vertices = held .vertices;
-        within = record { at = λ v b. omega (arith, held .loaded .within .at v b, held .short) };
+        vertices = omega (arith, held .vertices, limits-small (formOf bs) .vertices);
+        sizes = λ v b. omega (arith, held .sizes v b, held .k-most);
       }

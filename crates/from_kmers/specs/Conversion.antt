@@ -1,14 +1,14 @@
 -- The graph of a k-mer record that is converted. Assumes nothing.
 use mathlib.Core.Path.{_≡_}
 use mathlib.Core.List.{List}
-use Prim.Native.Nat.{ℕ, _*_, _≤_}
-use lib.ListN.{length}
+use Prim.Native.Nat.{ℕ, _+_, _*_, _≤_, _<_}
+use lib.ListN.{length, getD}
+use Rattle.defs.specs.Forms.{Form, formOf}
 use Rattle.defs.specs.Record.{edgesOf, decode}
 use Rattle.defs.specs.Refusals.{refusalOf}
 use Rattle.defs.specs.Assembly.{fromAssemblyGraph}
 use Rattle.defs.specs.Calls.{conversionCauses}
 use Rattle.record.specs.Layout.{WellFormed}
-use Rattle.store.specs.Store.{Within}
 use Rattle.index.specs.Index.{Indexed}
 use Rattle.memory.specs.Memory.{graphOf}
 use Rattle.calls.specs.Sending.{Sendable}
@@ -31,17 +31,17 @@ pub record RoomToConvert (bs es vs heads nexts order scratch place sorted : List
 pub record ConvertedAs (bs : List ℕ) (r : Read) (es vs : List ℕ) : Type 0 where
   pub number : readNumber r ≡ refusalOf (conversionCauses bs)
   pub is : (h : Held) → r ≡ Graph h → graphOf h es vs bs ≡ fromAssemblyGraph (decode bs)
-  pub sendable : (h : Held) → r ≡ Graph h → Sendable 0 h es vs bs
+  pub sendable : (h : Held) → r ≡ Graph h → Sendable (formOf bs) 0 h es vs bs
   pub refused : (n : ℕ) → r ≡ Refused n → n ≡ 0 → ⊥
 
--- a held graph of k-mers, indexed, and room to convert it; the k-mers lie within the longest record
+-- a held graph of k-mers, indexed, and room to convert it
 pub record ConvertibleKmers (h : Held) (es vs heads nexts order scratch place sorted : List ℕ) : Type 0 where
   pub convertible : Convertible (h .m) (h .n) es order scratch place sorted
   pub trimmable : Trimmable (h .n) vs
   pub indexed : Indexed (h .m) (h .n) es heads nexts
-  pub vertices : h .n ≤ 2048
-  pub within : Within 303136 (h .n) vs
+  pub vertices : h .n ≤ 32768
+  pub sizes : (v : ℕ) → v < h .n → getD vs (2 * v + 1) 0 ≤ 128
 
--- what became of a held graph, for every record of which it was read
-pub record KmersConverted (h : Held) (es vs heads nexts order : List ℕ) (r : Read) (sorted vs′ : List ℕ) : Type 0 where
-  pub is : (bs : List ℕ) → refusalOf (overlappingCauses bs) ≡ 0 → HoldsKmers bs h es vs heads nexts order → ConvertedAs bs r sorted vs′
+-- what became of a held graph, for every record of this form of which it was read
+pub record KmersConverted (f : Form) (h : Held) (es vs heads nexts order : List ℕ) (r : Read) (sorted vs′ : List ℕ) : Type 0 where
+  pub is : (bs : List ℕ) → f ≡ formOf bs → refusalOf (overlappingCauses bs) ≡ 0 → HoldsKmers bs h es vs heads nexts order → ConvertedAs bs r sorted vs′

@@ -10,6 +10,7 @@ use borrow.Author.Tests.{eq-eqb}
 use Rattle.defs.specs.Lists.{allOf}
 use Rattle.defs.specs.SeqGraph as seq
 use Rattle.defs.specs.SeqGraph.{vertexSequence}
+use Rattle.defs.specs.Forms.{formOf, limits}
 use Rattle.defs.specs.Record.{kindOf, kOf, verticesOf, lengthAt, decode}
 use Rattle.defs.specs.Refusals.{Cause, refusalOf, kmerOnly, doubledEdge, equalKmers, doubled, hasCycle, edgeWithoutOverlap}
 use Rattle.defs.specs.Refusals.{layoutCauses, doubledCause, overlapCause, cycleCause}
@@ -20,6 +21,7 @@ use Rattle.store.specs.Store.{edgesIn, seqIn, seqsIn}
 use Rattle.store.proofs.VertexLaws.{part-long}
 use Rattle.index.specs.Index.{Indexed, Indexable}
 use Rattle.memory.specs.declared.Held.{Held}
+use Rattle.form.proofs.FormLaws.{limits-small}
 use Rattle.record.specs.Kinds.{takesOf}
 use Rattle.record.specs.declared.Takes.the-variants.{KmerOnly}
 use Rattle.kmer.specs.declared.KmerSize.{KmerSize}
@@ -28,7 +30,7 @@ use Rattle.record.specs.declared.Layout.{Layout}
 use Rattle.record.specs.declared.Layout.the-variants.{Formed}
 use Rattle.record.specs.declared.Layout.the-variants as checked
 use Rattle.record.proofs.Accepted.{well-formed, kmer-kind, formed-none, formed-size, refused-number, refused-some}
-use Rattle.record.proofs.Sequences.{vertex-is, length-sequence, length-is, bytes-most}
+use Rattle.record.proofs.Sequences.{vertex-is, length-sequence, length-most}
 use Rattle.load.specs.Loaded.{Loadable, Loaded}
 use Rattle.load.proofs.LoadLaws.{formed-laid}
 use Rattle.doubled.specs.Doubled.{Markable}
@@ -90,11 +92,17 @@ module _ (bs : List ℕ) where
     read-loadable = record { laid = formed-laid formed; es-room = R .es-room; vs-room = R .vs-room }
 
     module _ {h : Held} {es′ vs′ : List ℕ} (L : Loaded bs h es′ vs′) where
-      n-small : h .n ≤ 2048
-      n-small = omega (arith, L .n, formed .vertices)
+      n-most : h .n ≤ limits (formOf bs) .vertices
+      n-most = omega (arith, L .n, formed .vertices)
 
-      m-small : h .m ≤ 4096
-      m-small = omega (arith, L .m, formed .edges)
+      m-most : h .m ≤ limits (formOf bs) .edges
+      m-most = omega (arith, L .m, formed .edges)
+
+      n-small : h .n ≤ 32768
+      n-small = omega (arith, n-most, limits-small (formOf bs) .vertices)
+
+      m-small : h .m ≤ 65536
+      m-small = omega (arith, m-most, limits-small (formOf bs) .edges)
 
       pub read-indexable : length es′ ≡ length es → Indexable (h .m) (h .n) es′ heads nexts
       read-indexable l = record {
@@ -145,9 +153,9 @@ module _ (bs : List ℕ) where
               distinct = apart .1;
               k-least = omega (arith, L .k, formed .k-least);
               k-most = omega (arith, L .k, formed .k-most);
-              vertices = n-small;
-              edges = m-small;
-              short = omega (arith, length-is bs formed, formed .vertices, formed .edges, bytes-most bs formed);
+              vertices = n-most;
+              edges = m-most;
+              short = length-most bs formed;
               sizes = size-held;
               indexed = I;
               ordered = D .ordered t;
@@ -217,11 +225,11 @@ module _ {bs : List ℕ} {r : Read} {es vs heads nexts order : List ℕ} (A : Km
         let R = Y .reading .room (K .formed) in (
           held .indexed,
           (
-            omega (arith, held .edges),
+            omega (arith, held .edges, limits-small (formOf bs) .edges),
             record {
               degrees-room = omega (arith, l, held .loaded .n, R .mp-room);
               queue-room = omega (arith, held .loaded .n, Y .marks-room (K .formed));
-              small = omega (arith, held .vertices);
+              small = omega (arith, held .vertices, limits-small (formOf bs) .vertices);
             },
           ),
         )

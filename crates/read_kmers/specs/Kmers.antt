@@ -4,6 +4,7 @@ use mathlib.Core.Bool.{Bool, false, _||_}
 use mathlib.Core.List.{List, [], _∷_, _++_}
 use Prim.Native.Nat.{ℕ, _+_, _*_, _≤_, _<_}
 use lib.ListN.{length, getD}
+use Rattle.defs.specs.Forms.{formOf, limits}
 use Rattle.defs.specs.Refusals.{Cause, refusalOf, kmerOnly, doubledEdge, equalKmers, layoutCauses, doubledCause, overlapCause, cycleCause}
 use Rattle.store.specs.Store.{edgesIn, seqsIn}
 use Rattle.index.specs.Index.{Indexed}
@@ -34,9 +35,9 @@ pub record HoldsKmers (bs : List ℕ) (h : Held) (es vs heads nexts order : List
   pub distinct : equalKmers (seqsIn (h .n) vs bs) ≡ false
   pub k-least : 2 ≤ h .k .0
   pub k-most : h .k .0 ≤ 128
-  pub vertices : h .n ≤ 2048
-  pub edges : h .m ≤ 4096
-  pub short : length bs ≤ 303136
+  pub vertices : h .n ≤ limits (formOf bs) .vertices
+  pub edges : h .m ≤ limits (formOf bs) .edges
+  pub short : length bs ≤ 5177380
   pub sizes : (v : ℕ) → v < h .n → getD vs (2 * v + 1) 0 ≡ h .k .0
   pub indexed : Indexed (h .m) (h .n) es heads nexts
   pub ordered : KmerOrder (h .n) vs bs order

@@ -1,4 +1,5 @@
 pub mod Fields
+pub mod Told
 pub mod Checks
 pub mod Written
 pub mod Graphs

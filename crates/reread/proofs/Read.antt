@@ -5,6 +5,7 @@ use mathlib.Core.Path.{_≡_, refl, ap, _∙_}
 use mathlib.Core.Logic.{inr}
 use mathlib.Core.List.{List, List·Memᴰ}
 use lib.ListN.{length, getD}
+use Rattle.defs.specs.Forms.{formOf}
 use Rattle.defs.specs.SeqGraph.{Edge}
 use Rattle.defs.specs.Record.{kindOf, kOf, verticesOf, sequenceAt, decode}
 use Rattle.defs.specs.Refusals.{Takes, kmerOnly, sequenceOnly, recordRefusal}
@@ -29,12 +30,15 @@ k-is : (bs : List ℕ) → (decode bs) .k ≡ kOf bs
 unfolding decode
 k-is bs = refl
 
-module _ (t : Takes) (bs : List ℕ) (small : Bytes bs) (ok : recordRefusal t bs ≡ 0) where
-  supports-fit : (e : Edge) → List·Memᴰ e ((decode bs) .edges) → e .support < 4294967296
-  supports-fit e m = (decoded-encodable bs small (accepted-layout t bs ok)) .each e m .support
+-- supports that fit four bytes are all that is asked beside the checks
+abbrev SupportsFit : List ℕ → Type 0
+SupportsFit bs = (e : Edge) → List·Memᴰ e ((decode bs) .edges) → e .support < 4294967296
 
-pub sequence-input : (bs : List ℕ) → Bytes bs → recordRefusal sequenceOnly bs ≡ 0 → SequenceInput (decode bs)
-sequence-input bs small ok =
+supports-fit : (t : Takes) (bs : List ℕ) → Bytes bs → recordRefusal t bs ≡ 0 → SupportsFit bs
+supports-fit t bs small ok e m = (decoded-encodable bs small (accepted-layout t bs ok)) .each e m .support
+
+pub accepted-input : (bs : List ℕ) → SupportsFit bs → recordRefusal sequenceOnly bs ≡ 0 → SequenceInput (formOf bs) (decode bs)
+accepted-input bs fit ok =
     let W = accepted-layout sequenceOnly bs ok in
     let L = accepted-limits sequenceOnly bs ok (sequence-kind bs (accepted-early sequenceOnly bs ok)) in
     record {
@@ -44,8 +48,12 @@ sequence-input bs small ok =
       vertices = L .vertices;
       edges = L .edges;
       bytes = L .few;
-      supports = supports-fit sequenceOnly bs small ok;
+      supports = fit;
     }
+
+-- of bytes they do
+pub sequence-input : (bs : List ℕ) → Bytes bs → recordRefusal sequenceOnly bs ≡ 0 → SequenceInput (formOf bs) (decode bs)
+sequence-input bs small ok = accepted-input bs (supports-fit sequenceOnly bs small ok) ok
 
 module _ (bs : List ℕ) (small : Bytes bs) (ok : recordRefusal kmerOnly bs ≡ 0) where
   W : WellFormed bs
@@ -63,7 +71,7 @@ module _ (bs : List ℕ) (small : Bytes bs) (ok : recordRefusal kmerOnly bs ≡ 
   never-same : SameKmers (decode bs) → ⊥
   never-same s = omega (arith, ok, means-six kmerOnly bs (accepted-early kmerOnly bs ok) (inr (kind-is, s)))
 
-  pub kmer-input : KmerInput (decode bs)
+  pub kmer-input : KmerInput (formOf bs) (decode bs)
   kmer-input = record {
     good = accepted-good kmerOnly bs ok;
     k-least = omega (arith, k-is bs, W .k-least);

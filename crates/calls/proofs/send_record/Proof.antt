@@ -25,8 +25,8 @@ write-record-requires c κs =
     let start : tie.Start = search in
     send-writable (start .pre) _ (at-record-length .record-length .ensures) (at-if1 .if1 .left)
 
-cast-t13 : tie.Need-cast-t13
-cast-t13 c =
+cast-t14 : tie.Need-cast-t14
+cast-t14 c =
     omega (
       arith,
       send-small (start .pre) _ (at-record-length .record-length .ensures) (at-write-record .write-record .ensures),
@@ -59,4 +59,4 @@ returns-2 c =
 pub send-record-spec : {M : Type 1} → statement M
 send-record-spec =
     tie.close
-    (tie.spec record-length-requires returns write-record-requires cast-t13 same-length returns-2)
+    (tie.spec record-length-requires returns write-record-requires cast-t14 same-length returns-2)

@@ -25,13 +25,17 @@ returns c =
     (at-as .additional-sequences .ensures)
     (at-edges-sorted .edges-sorted .ensures)
     (at-sequence-bytes .sequence-bytes .ensures)
+    (at-most-bytes .most-bytes .ensures)
     (c .if1 .taken)
   where
     at-sequence-bytes : tie.After-sequence-bytes
     at-sequence-bytes = search
 
+    at-most-bytes : tie.After-most-bytes
+    at-most-bytes = let c = at-sequence-bytes in search
+
     at-as : tie.After-additional-sequences
-    at-as = let c = at-sequence-bytes in search
+    at-as = let c = at-most-bytes in search
 
     at-edges-sorted : tie.After-edges-sorted
     at-edges-sorted = let c = at-as in search
@@ -46,6 +50,7 @@ returns-2 c =
     (at-as .additional-sequences .ensures)
     (at-edges-sorted .edges-sorted .ensures)
     (at-sequence-bytes .sequence-bytes .ensures)
+    (at-most-bytes .most-bytes .ensures)
     (c .if1 .left)
     (at-as .additional-sequences .kept .1 .1 .1 .1 .1 .0)
     (at-edges-sorted .edges-sorted .kept .1 .1 .1 .1 .1 .1 .0)
@@ -53,8 +58,11 @@ returns-2 c =
     at-sequence-bytes : tie.After-sequence-bytes
     at-sequence-bytes = search
 
+    at-most-bytes : tie.After-most-bytes
+    at-most-bytes = let c = at-sequence-bytes in search
+
     at-as : tie.After-additional-sequences
-    at-as = let c = at-sequence-bytes in search
+    at-as = let c = at-most-bytes in search
 
     at-edges-sorted : tie.After-edges-sorted
     at-edges-sorted = let c = at-as in search
@@ -66,6 +74,7 @@ pub convert-spec : {M : Type 1} → statement M
 convert-spec =
     tie.close
     (tie.spec
+    (λ c κs. search needs)
     (λ c κs. search needs)
     (λ c κs. search needs)
     sequence-bytes-requires

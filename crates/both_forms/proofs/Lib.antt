@@ -1,0 +1,4 @@
+pub mod Responses
+pub mod Judged
+pub mod Converted
+pub mod Theorem
