@@ -6,11 +6,13 @@ use native.Mathlib.Omega.{arith}
 use lib.ListN.{length}
 use Rattle.defs.specs.Forms.{Form, sgr1, sgr2, formOf, limits}
 use Rattle.defs.specs.Record.{verticesOf, edgesOf, bytesOf}
-use Rattle.form.specs.Coded.{wordLimit}
+use Rattle.form.specs.declared.Form as Code
+use Rattle.form.specs.Coded.{formIs, wordLimit}
 use Rattle.form.proofs.FormLaws.{sizes, limits-small}
+use Rattle.record.specs.Headed.{Headed}
 use Rattle.record.proofs.Sequences.{length-least}
 use Rattle.accept.specs.Accept.{RoomToRead, RoomToMark}
-use Rattle.arrays.specs.Sized.{FewToRead, SizedToRead, SizedToMark, FewToRewrite, LentGraph, Lent, SizedGraph, Sized}
+use Rattle.arrays.specs.Sized.{FewToRead, SizedToRead, SizedToMark, FewToRewrite, CountedAt, LentGraph, Lent, SizedGraph, Sized}
 
 -- ---- the tests
 
@@ -65,17 +67,26 @@ module _ (bs : List ℕ) where
     edges = λ W k. omega (arith, length-least bs W);
   }
 
-  -- for a record whose counts say so
+  -- for a record whose counts say so; past the small class by its length it has a header
+  pub long-headed : {form : Code.Form} → formIs form ≡ formOf bs → 1024 < length bs → Headed form bs
+  long-headed is l = record { is = is; long = omega (arith, sizes (formOf bs) .header-most) }
+
+  pub counts-read : {v e b : ℕ} → v ≡ verticesOf bs → e ≡ edgesOf bs → b ≡ bytesOf bs → CountedAt (v + b) (e + b / 4) bs
+  counts-read v e b = record { weight-is = λ i. v i + b i; surplus-is = λ i. e i + b i / 4 }
+
   pub counted-to-read : {v e : ℕ} → verticesOf bs ≤ v → edgesOf bs ≤ e → FewToRead v e bs
   counted-to-read v e = record { vertices = λ W. v; edges = λ W. e }
 
-  pub counted-to-rewrite : {v e : ℕ} → verticesOf bs + bytesOf bs < v → edgesOf bs + bytesOf bs / 4 + v ≤ e → FewToRewrite v e bs
-  counted-to-rewrite v e = record {
-    reading = record { vertices = λ W. omega (arith, v); edges = λ W. omega (arith, e) };
-    vertices = λ W k. omega (arith, v);
-    weight = λ W k. omega (arith, v);
-    edges = λ W k. e;
-  }
+  pub counted-to-rewrite : {w s v e : ℕ} → CountedAt w s bs → w < v → s + v ≤ e → FewToRewrite v e bs
+  counted-to-rewrite {w} {s} C v e =
+      let q = C .weight-is in
+      let r = C .surplus-is in
+      record {
+        reading = record { vertices = λ W. omega (arith, v, q); edges = λ W. omega (arith, e, r) };
+        vertices = λ W k. omega (arith, v, q);
+        weight = λ W k. omega (arith, v, q);
+        edges = λ W k. omega (arith, e, r);
+      }
 
 -- ---- the arrays
 

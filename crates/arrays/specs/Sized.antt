@@ -47,6 +47,11 @@ pub record FewToRewrite (v e : ℕ) (bs : List ℕ) : Type 0 where
   pub weight : WellFormed bs → kindOf bs ≡ 1 → verticesOf bs + bytesOf bs ≤ v
   pub edges : WellFormed bs → kindOf bs ≡ 1 → edgesOf bs + bytesOf bs / 4 + v ≤ e
 
+-- what decides about the class of a record, by its counts: vertices and bytes together, edges and a quarter of the bytes
+pub record CountedAt (weight surplus : ℕ) (bs : List ℕ) : Type 0 where
+  pub weight-is : weight ≡ verticesOf bs + bytesOf bs
+  pub surplus-is : surplus ≡ edgesOf bs + bytesOf bs / 4
+
 -- Slices lent for the record bs: room to read it and for every rewrite of its graph; and no more than fits a record of its form.
 pub record LentGraph (bs es vs p heads nexts nodes mp : List ℕ) : Type 0 where
   pub room : Room es vs p heads nexts nodes mp

@@ -5,6 +5,7 @@ use Prim.Native.Nat.{ℕ}
 use native.Mathlib.Omega.{arith}
 use lib.ListN.{length, take}
 use Rattle.defs.specs.Cleanup.{Status, justReference, someVariation, Cleaned, statusNumber, choiceGraph, cleanupSeqGraph}
+use Rattle.defs.specs.Forms.{formOf}
 use Rattle.defs.specs.Record.{decode}
 use Rattle.defs.specs.Refusals.{Cause, refusalOf, sequenceOnly, recordCauses, recordRefusal}
 use Rattle.defs.specs.Calls as D
@@ -12,7 +13,7 @@ use Rattle.defs.specs.Calls.{numberOf, fieldOf, callerCause, cleanupSeqGraphCau
 use Rattle.calls.specs.Sending.{withOutput}
 use Rattle.laws.proofs.Cleaned.{cleanup-varies, cleanup-plain}
 use Rattle.sound.proofs.Accepted.{accepted-good}
-use Rattle.reread.specs.Reread.{RereadAs}
+use Rattle.reread.specs.Reread.{answerLength, RereadAs}
 use Rattle.reread.proofs.Read.{Bytes}
 use Rattle.reread.proofs.Answers.{cleanup-reread}
 use Rattle.calls.specs.Answers.{cleanupAnswerOf, AnswersCleanup}
@@ -61,9 +62,9 @@ module _ {bs out : List ℕ} {caller : ℕ} {r : RewritingAnswer} {a : CountedCl
         subst (SpellsChosen (choiceGraph (decode bs))) (sym (again ok .graph)) (chosen ok (status-two (z .status) (sym (status-is i) ∙ two)))) i;
     plain = λ i one. holds (λ rec. decode rec ≡ choiceGraph (decode bs)) (λ ok.
         again ok .graph ∙ cleanup-plain (decode bs) (status-one (z .status) (sym (status-is i) ∙ one))) i;
-    room = λ l i. room-enough causes out result 176160 (caller-record-never-11 caller sequenceOnly bs)
+    room = λ l i. room-enough causes out result (answerLength (formOf bs)) (caller-record-never-11 caller sequenceOnly bs)
         (λ ok. again ok .size) l (sym number-is ∙ i);
-    reread = holds (RereadAs (z .graph)) again;
+    reread = holds (RereadAs (formOf bs) (z .graph)) again;
   }
     where
       number-is : a .answer .number ≡ numberOf (cleanupSeqGraphResponse bs (length out) caller)
@@ -75,7 +76,7 @@ module _ {bs out : List ℕ} {caller : ℕ} {r : RewritingAnswer} {a : CountedCl
       none-of : refusalOf causes ≡ 0 → recordRefusal sequenceOnly bs ≡ 0
       none-of = caller-record-none caller sequenceOnly bs
 
-      again : refusalOf causes ≡ 0 → RereadAs (z .graph) result
+      again : refusalOf causes ≡ 0 → RereadAs (formOf bs) (z .graph) result
       again ok = cleanup-reread bs small (none-of ok)
 
       holds : (P : List ℕ → Type 0) → (refusalOf causes ≡ 0 → P result) → a .answer .number ≡ 0 → P (take (a .answer .length) out′)

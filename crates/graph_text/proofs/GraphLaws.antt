@@ -12,6 +12,7 @@ use Rattle.defs.specs.SeqGraph.{Edge, nodeCount, vertexSequence}
 use Rattle.defs.specs.Simplify.{sequenceBytes, End, quiet, repeated, full, endNumber}
 use Rattle.tabs.proofs.Tabs.{length-tab, getD-tab, tab-ext}
 use Rattle.tabs.proofs.SumTabs.{map-tab}
+use Rattle.defs.specs.Forms.{sgr1}
 use Rattle.store.specs.Store.{edgeIn, seqIn, part, graphIn}
 use Rattle.store.proofs.VertexLaws.{part-long}
 use Rattle.pool.specs.Pool.{bytesIn}
@@ -127,7 +128,7 @@ module _ {h : Held} {es vs pool text : List ℕ} (P : Printable h es vs pool tex
       ≡ firstLine (h .k .0) (length (tab (h .n) (seqIn vs pool))) (length (tab (h .m) (edgeIn es)))
       (sequenceBytes (tab (h .n) (seqIn vs pool)))
   first-is q = λ i. firstLine (h .k .0) (sym (length-tab (h .n) (seqIn vs pool)) i) (sym (length-tab (h .m) (edgeIn es)) i)
-      ((q ∙ sym (bytes-are 0 (h .k .0) (h .n) (h .m) es vs pool (P .within))) i)
+      ((q ∙ sym (bytes-are sgr1 0 (h .k .0) (h .n) (h .m) es vs pool (P .within))) i)
 
   pub graph-put : (rewrites rounds end : ℕ) {b r₁ r₂ r₃ r₄ : ℕ} {t₁ t₂ t₃ t₄ : List ℕ} → b ≡ bytesIn (h .n) vs
       → TextPut 87 (firstLine (h .k .0) (h .n) (h .m) b) text 0 r₁ t₁ → TextPut 51 (secondLine rewrites rounds (endWithNumber end)) t₁ r₁ r₂ t₂

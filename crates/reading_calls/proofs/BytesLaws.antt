@@ -144,7 +144,7 @@ module _ {h : Held} {es vs p : List ℕ} where
   pub reference-answered : {out out′ : List ℕ} {b : OptionBytes} {s : Answer} → Told (referencePathBytes (graphOf h es vs p)) out b out′
       → length out′ ≡ length out → Tells b (length out′) 10 s → GraphAnswered referenceResponse h es vs p out s out′
   reference-answered {out} {out′} {b} T l S = record {
-    is = λ bs z e. tells (subst (λ (g : Graph). Told (referencePathBytes g) out b out′) e T) (reference-none bs (length out) z)
+    is = λ bs _ z e. tells (subst (λ (g : Graph). Told (referencePathBytes g) out b out′) e T) (reference-none bs (length out) z)
         (reference-some bs (length out) z) l S;
   }
 
@@ -152,6 +152,6 @@ module _ {h : Held} {es vs p : List ℕ} where
       → Told (given (isPathOf (graphOf h es vs p) start list) (pathBasesBytes (graphOf h es vs p) start list)) out b out′
       → length out′ ≡ length out → Tells b (length out′) 9 s → GraphAnswered (pathResponse start list) h es vs p out s out′
   path-answered start list {out} {out′} {b} T l S = record {
-    is = λ bs z e. tells (subst (λ (g : Graph). Told (given (isPathOf g start list) (pathBasesBytes g start list)) out b out′) e T)
+    is = λ bs _ z e. tells (subst (λ (g : Graph). Told (given (isPathOf g start list) (pathBasesBytes g start list)) out b out′) e T)
         (path-none bs start list (length out) z) (path-some bs start list (length out) z) l S;
   }

@@ -1,19 +1,20 @@
 -- Reading, then what the call does with the graph. Assumes nothing.
 use mathlib.Core.Path.{_≡_, refl, sym, ap, _∙_, subst}
 use mathlib.Core.List.{List}
-use Prim.Native.Nat.{ℕ, _+_, _*_, _≤_, _<_}
+use Prim.Native.Nat.{ℕ, _≤_, _<_}
 use native.Mathlib.Omega.{arith}
-use lib.ListN.{length, getD}
+use lib.ListN.{length}
 use Rattle.defs.specs.SeqGraph.{Graph}
 use Rattle.defs.specs.Simplify.{sequenceBytes}
 use Rattle.defs.specs.Cleanup.{cleanNonRefPaths}
+use Rattle.defs.specs.Forms.{Form, formOf, limits}
 use Rattle.defs.specs.Record.{sequenceGraph, bytesOf, encode}
 use Rattle.defs.specs.Refusals.{sequenceOnly, layoutCauses, recordCauses, recordRefusal}
 use Rattle.defs.specs.Calls.{refused, reducedRecord, cleanNonRefPathsCauses, cleanNonRefPathsResponse}
 use Rattle.defs.specs.Calls.{referencePathBytesCauses, referencePathBytesResponse, pathBasesBytesCauses, pathBasesBytesResponse}
-use Rattle.tabs.proofs.SumTabs.{sum-most}
+use Rattle.form.proofs.FormLaws.{between, SmallLimits, limits-small, LimitsFit, limits-fit}
 use Rattle.record.proofs.Accepted.{sequence-kind}
-use Rattle.record.proofs.Sequences.{length-is}
+use Rattle.record.proofs.Sequences.{length-least}
 use Rattle.store.specs.Store.{Within}
 use Rattle.compact.specs.Compact.{Compactable}
 use Rattle.index.specs.Index.{Indexable}
@@ -26,7 +27,11 @@ use Rattle.accept.specs.Accept.{RoomToMark, ReadAs}
 use Rattle.accept.specs.declared.Read.{Read}
 use Rattle.accept.specs.declared.Read.the-variants as read
 use Rattle.accept.proofs.AcceptLaws.{read-none, read-number}
+use Rattle.pool.specs.Pool.{bytesIn}
+use Rattle.pool.proofs.PoolLaws.{bytes-below}
 use Rattle.write_record.specs.Written.{Measured}
+use Rattle.write_record.proofs.WriteLaws.{bytes-are}
+use Rattle.cleanup_room.proofs.CleanInput.{clean-bytes}
 use Rattle.calls.specs.Sending.{fits, Sendable, Responds}
 use Rattle.calls.specs.declared.Answer.{Answer}
 use Rattle.calls.proofs.SendLaws.{responds-refused, responds-as}
@@ -47,6 +52,7 @@ module _ {bs es vs heads nexts nodes mp tried : List ℕ} (Z : RoomToMark bs es 
       let L = A .loaded h ok in
       let W = accepted-layout sequenceOnly bs z in
       let R = Z .reading .room W in
+      let most = limits-small (formOf bs) in
       let bytes = W .bytes (sequence-kind bs (accepted-early sequenceOnly bs z)) in
       let total : sequenceBytes (graphOf h es vs bs .verts) ≡ bytesOf bs = ap (λ (g : Graph). sequenceBytes (g .verts)) (L .is) ∙ read-bytes bs W in
       record {
@@ -55,7 +61,7 @@ module _ {bs es vs heads nexts nodes mp tried : List ℕ} (Z : RoomToMark bs es 
             room = omega (arith, L .m, R .es-room);
             heads-room = omega (arith, L .n, R .heads-room);
             nexts-room = omega (arith, L .m, R .nexts-room);
-            small = omega (arith, L .m, W .edges);
+            small = omega (arith, L .m, W .edges, most .edges);
             ends = L .ends;
           };
           spellable = record {
@@ -63,26 +69,26 @@ module _ {bs es vs heads nexts nodes mp tried : List ℕ} (Z : RoomToMark bs es 
             within = L .within;
             vs-room = omega (arith, L .n, R .vs-room);
             nodes-room = omega (arith, L .n, R .nodes-room);
-            small = omega (arith, L .n, W .vertices);
-            bytes = omega (arith, total, length-is bs W);
+            small = omega (arith, L .n, W .vertices, most .vertices);
+            bytes = omega (arith, total, length-least bs W);
           };
-          few = omega (arith, total, bytes);
+          few = omega (arith, total, bytes, most .bytes);
         };
         compactable = record {
           es-room = omega (arith, L .m, R .es-room);
           vs-room = omega (arith, L .n, R .vs-room);
           mp-room = omega (arith, L .n, R .mp-room);
-          small = omega (arith, L .n, W .vertices);
+          small = omega (arith, L .n, W .vertices, most .vertices);
           ends = L .ends;
         };
         walkable = record {
           marks-room = omega (arith, L .n, Z .marks-room W);
           queue-room = omega (arith, L .n, R .nodes-room);
-          small = omega (arith, L .n, W .vertices);
+          small = omega (arith, L .n, W .vertices, most .vertices);
         };
         vertices = omega (arith, L .n, W .vertices);
         edges = omega (arith, L .m, W .edges);
-        short = omega (arith, length-is bs W, W .vertices, W .edges, bytes);
+        bytes = omega (arith, total, bytes);
       }
 
 module _ {h : Held} {es vs p heads nexts nodes mp tried : List ℕ} (Q : Answerable h es vs p heads nexts nodes mp tried) where
@@ -90,16 +96,16 @@ module _ {h : Held} {es vs p heads nexts nodes mp tried : List ℕ} (Q : Answera
   answerable-walkable = (Q .compactable, (Q .tellable .indexable, Q .walkable))
 
   -- the cleaned graph's record can be written where it fits
-  pub cleaned-sendable : {c : Held} {es′ vs′ : List ℕ} → Reduced cleanNonRefPaths h es vs c es′ vs′ → length es′ ≡ length es → length vs′
-      ≡ length vs → Sendable 0 c es′ vs′ p
-  cleaned-sendable {c} {es′} {vs′} R a b = record {
+  pub cleaned-sendable : {f : Form} → f ≡ formOf p → {c : Held} {es′ vs′ : List ℕ} → Reduced cleanNonRefPaths h es vs c es′ vs′ → length es′ ≡ length es → length vs′
+      ≡ length vs → Sendable f 0 c es′ vs′ p
+  cleaned-sendable {f} form {c} {es′} {vs′} R a b = subst (λ (g : Form). Sendable g 0 c es′ vs′ p) (sym form) record {
     measured = measured;
     within = within;
     writable = λ out room. record {
       status-fits = omega arith;
-      n-fits = omega (arith, R .most-n, Q .vertices);
-      m-fits = omega (arith, R .most-m, Q .edges);
-      lengths-fit = λ v l. omega (arith, size-most v l);
+      n-fits = omega (arith, R .most-n, Q .vertices, fit .vertices, most .answer-vertices);
+      m-fits = omega (arith, R .most-m, Q .edges, fit .edges, most .answer-edges);
+      lengths-fit = λ v l. omega (arith, bytes-below (c .n) v vs′ l, total, fit .bytes);
       ends = R .ends;
       es-room = omega (arith, a, R .most-m, Q .compactable .es-room);
       within = within;
@@ -111,22 +117,47 @@ module _ {h : Held} {es vs p heads nexts nodes mp tried : List ℕ} (Q : Answera
       within : Within (length p) (c .n) vs′
       within = R .within (length p) (Q .tellable .spellable .within)
 
-      size-most : (v : ℕ) → v < c .n → getD vs′ (2 * v + 1) 0 ≤ 49184
-      size-most v l = omega (arith, within .at v l, Q .short)
+      most : SmallLimits (formOf p)
+      most = limits-small (formOf p)
 
-      measured : Measured c vs′
+      fit : LimitsFit (formOf p)
+      fit = limits-fit (formOf p)
+
+      -- cleaning takes bytes away, if any
+      total : bytesIn (c .n) vs′ ≤ limits (formOf p) .bytes
+      total =
+          let are = bytes-are (formOf p) 0 (c .k .0) (c .n) (c .m) es′ vs′ p within in
+          omega (arith, are, ap (λ (g : Graph). sequenceBytes (g .verts)) (R .is p), clean-bytes (graphOf h es vs p), Q .bytes)
+
+      measured : Measured (formOf p) c vs′
       measured = record {
         vs-room = omega (arith, b, R .most-n, Q .compactable .vs-room);
         small =
-            omega (arith, R .most-n, R .most-m, Q .vertices, Q .edges, sum-most 49184 (c .n) (λ (v : ℕ). getD vs′ (2 * v + 1) 0) size-most);
+            let B = between (formOf p) (c .n) (c .m) (bytesIn (c .n) vs′) in
+            omega (
+              arith,
+              R .most-n,
+              R .most-m,
+              Q .vertices,
+              Q .edges,
+              total,
+              most .vertices,
+              most .edges,
+              most .bytes,
+              B .whole-is,
+              B .edges-most,
+              B .bytes-most,
+            );
       }
 
-pub cleaned-answered : {h : Held} {es vs p : List ℕ} {c : Held} {es′ vs′ out out′ : List ℕ} {s : Answer} → Reduced cleanNonRefPaths h es vs c es′ vs′
-    → Responds (fits (length out) (encode sequenceGraph 0 (graphOf c es′ vs′ p))) out s out′ → GraphAnswered cleaningResponse h es vs p out s out′
+pub cleaned-answered : {p : List ℕ} {f : Form} → f ≡ formOf p → {h : Held} {es vs : List ℕ} {c : Held} {es′ vs′ out out′ : List ℕ} {s : Answer} → Reduced cleanNonRefPaths h es vs c es′ vs′
+    → Responds (fits (length out) (encode f sequenceGraph 0 (graphOf c es′ vs′ p))) out s out′
+    → GraphAnswered cleaningResponse h es vs p out s out′
 unfolding cleaningResponse recordRefusal
-cleaned-answered {p = p} {out = out} {out′} {s} R S = record {
-  is = λ bs z e. responds-as (respond-fits (recordCauses sequenceOnly bs) (length out) (reducedRecord bs) (record-numbered sequenceOnly bs) z)
-      (subst (λ (g : Graph). Responds (fits (length out) (encode sequenceGraph 0 g)) out s out′) (R .is p ∙ ap cleanNonRefPaths e) S);
+cleaned-answered {p} {f} own {out = out} {out′} {s} R S = record {
+  is = λ bs form z e. responds-as (respond-fits (recordCauses sequenceOnly bs) (length out) (reducedRecord bs) (record-numbered sequenceOnly bs) z)
+      (subst (λ (l : List ℕ). Responds (fits (length out) l) out s out′)
+      (λ i. encode ((own ∙ form) i) sequenceGraph 0 ((R .is p ∙ ap cleanNonRefPaths e) i)) S);
 }
 
 -- a record that is refused is refused by every call
@@ -170,7 +201,7 @@ module _ (call : ReadingCall) (list : List ℕ) {bs : List ℕ} {x : Read} {es v
 
   pub record-answered : {h : Held} → x ≡ read.Graph h → {s : Answer} {out′ : List ℕ} → GraphAnswered (readingResponse call list) h es vs bs out s out′
       → Responds (readingResponse call list bs (length out)) out s out′
-  record-answered {h} ok G = G .is bs (read-none A ok) (A .loaded h ok .is)
+  record-answered {h} ok G = G .is bs refl (read-none A ok) (A .loaded h ok .is)
 
 -- ---- a caller
 

@@ -4,6 +4,7 @@ use mathlib.Core.List.{List, [], _∷_, _++_}
 use Prim.Native.Nat.{ℕ, _≤_, _<_}
 use lib.ListN.{length}
 use Rattle.defs.specs.Simplify.{sequenceBytes}
+use Rattle.defs.specs.Forms.{formOf, limits}
 use Rattle.defs.specs.Record.{decode}
 use Rattle.defs.specs.Refusals.{sequenceOnly, recordCauses, recordRefusal}
 use Rattle.defs.specs.Calls.{Response, respond, reducedRecord, referenceCause, referenceBytes, pathCause, pathBytes}
@@ -55,15 +56,16 @@ pub record Tellable (h : Held) (es vs p heads nexts nodes : List ℕ) : Type 0 w
   pub spellable : Spellable h es vs p nodes
   pub few : sequenceBytes (graphOf h es vs p .verts) < 4294967296
 
--- and that can be cleaned and its record written
+-- and that can be cleaned and its record written: the graph of the record p
 pub record Answerable (h : Held) (es vs p heads nexts nodes mp tried : List ℕ) : Type 0 where
   pub tellable : Tellable h es vs p heads nexts nodes
   pub compactable : Compactable (h .n) (h .m) es vs mp
   pub walkable : Walkable (h .n) tried nodes
-  pub vertices : h .n ≤ 2048
-  pub edges : h .m ≤ 4096
-  pub short : length p ≤ 49184
+  pub vertices : h .n ≤ limits (formOf p) .vertices
+  pub edges : h .m ≤ limits (formOf p) .edges
+  pub bytes : sequenceBytes (graphOf h es vs p .verts) ≤ limits (formOf p) .bytes
 
--- what is sent responds, for every accepted record of the held graph
+-- what is sent responds, for every accepted record of the held graph that has the form of p
 pub record GraphAnswered (f : List ℕ → ℕ → Response) (h : Held) (es vs p out : List ℕ) (s : Answer) (out′ : List ℕ) : Type 0 where
-  pub is : (bs : List ℕ) → recordRefusal sequenceOnly bs ≡ 0 → graphOf h es vs p ≡ decode bs → Responds (f bs (length out)) out s out′
+  pub is : (bs : List ℕ) → formOf p ≡ formOf bs → recordRefusal sequenceOnly bs ≡ 0 → graphOf h es vs p ≡ decode bs
+      → Responds (f bs (length out)) out s out′

@@ -1,8 +1,11 @@
 // The calls that read a graph and do not rewrite it, from record to record or to bytes: what they have in common is said once, over which of
-// them it is. First in slices, then in arrays of two classes, which a call has on its stack. The sequences are read in the record itself.
+// them it is. First in slices, then in arrays of three classes, which a call has on its stack. The sequences are read in the record itself.
 ghost use mathlib.Core.Path.{_≡_};
 ghost use Prim.Native.Nat.{ℕ, _<_};
 ghost use lib.ListN.{length};
+ghost use Rattle.defs.specs.Forms.{formOf};
+ghost use Rattle.defs.specs.Record.{verticesOf, edgesOf};
+ghost use Rattle.form.specs.Coded.{formIs};
 ghost use Rattle.arrays.specs.Sized.{FewToRead};
 ghost use Rattle.calls.specs.Sending.{Responds};
 ghost use Rattle.reading_calls.specs.Reading.{cleaningResponse, referenceResponse, pathResponse, readingResponse, readingResponseTo};
@@ -10,11 +13,14 @@ ghost use Rattle.reading_calls.specs.Reading.{Answerable, Tellable, Tell
 use accept::Read;
 use arrays::FEW_EDGES;
 use arrays::FEW_VERTICES;
+use arrays::MANY_EDGES;
+use arrays::MANY_VERTICES;
+use arrays::MOST_EDGES;
+use arrays::MOST_VERTICES;
 use arrays::SMALL_RECORD;
 use calls::Answer;
+use form::Form;
 use memory::Held;
-use record::MOST_EDGES;
-use record::MOST_VERTICES;
 use spell::OptionBytes;
 use tallies::LAST_CALLER;
 
@@ -65,7 +71,7 @@ fn clean_in(
         (now (out .exit)) ⌝ }
 {
     let cleaned = non_ref_paths::clean_non_ref_paths(held, es, vs, heads, nexts, nodes, map, tried);
-    calls::send_record(out, 0, cleaned, es, vs, p)
+    calls::send_record(out, form::form_of(p), 0, cleaned, es, vs, p)
 }
 
 // 10 where there is no reference path.
@@ -141,9 +147,9 @@ fn answer_graph(
     }
 }
 
-// Whole arrays, whose lengths are known. A record is read here, and not in a function that both classes call: were there only one call here, the
-// compiler would lay this function's caller, and so the frames of both classes, into one.
-fn large_with(
+// Whole arrays, whose lengths are known. A record is read here, and not in a function that all classes call: were there only one call here, the
+// compiler would lay this function's caller, and so the frames of all classes, into one.
+fn vast_with(
     call: ReadingCall,
     list: &[u32],
     rec: &[u8],
@@ -182,7 +188,7 @@ fn large_with(
     )
 }
 
-fn large(call: ReadingCall, list: &[u32], rec: &[u8], out: &mut [u8]) -> Answer
+fn vast(call: ReadingCall, list: &[u32], rec: &[u8], out: &mut [u8]) -> Answer
     ensures { λ r. ⌜ Responds (readingResponse call (now (list .entry)) (now (rec .entry)) (length (now (out .entry)))) (now (out .entry)) r
         (now (out .exit)) ⌝ }
 {
@@ -193,6 +199,73 @@ fn large(call: ReadingCall, list: &[u32], rec: &[u8], out: &mut [u8]) -> Answer
     let mut nodes = [0u32; MOST_VERTICES];
     let mut map = [0u32; MOST_VERTICES];
     let mut tried = [0u8; MOST_VERTICES];
+    vast_with(
+        call,
+        list,
+        rec,
+        out,
+        &mut es,
+        &mut vs,
+        &mut heads,
+        &mut nexts,
+        &mut nodes,
+        &mut map,
+        &mut tried,
+    )
+}
+
+fn large_with(
+    call: ReadingCall,
+    list: &[u32],
+    rec: &[u8],
+    out: &mut [u8],
+    es: &mut [u32; 4 * MANY_EDGES],
+    vs: &mut [u32; 2 * MANY_VERTICES],
+    heads: &mut [u32; 2 * MANY_VERTICES],
+    nexts: &mut [u32; 2 * MANY_EDGES],
+    nodes: &mut [u32; MANY_VERTICES],
+    map: &mut [u32; MANY_VERTICES],
+    tried: &mut [u8; MANY_VERTICES],
+) -> Answer
+    requires { ⌜ FewToRead 2048 4096 (now rec) ⌝ }
+    ensures { λ r. ⌜ Responds (readingResponse call (now (list .entry)) (now (rec .entry)) (length (now (out .entry)))) (now (out .entry)) r
+        (now (out .exit)) ⌝ }
+{
+    let held = match accept::read_sequence_graph(rec, es, vs, heads, nexts, nodes, map) {
+        Read::Graph(held) => held,
+        Read::Refused(number) => return Answer {
+            number: number,
+            length: 0,
+        },
+    };
+    answer_graph(
+        call,
+        list,
+        rec,
+        held,
+        out,
+        es,
+        vs,
+        heads,
+        nexts,
+        nodes,
+        map,
+        tried,
+    )
+}
+
+fn large(call: ReadingCall, list: &[u32], rec: &[u8], out: &mut [u8]) -> Answer
+    requires { ⌜ FewToRead 2048 4096 (now rec) ⌝ }
+    ensures { λ r. ⌜ Responds (readingResponse call (now (list .entry)) (now (rec .entry)) (length (now (out .entry)))) (now (out .entry)) r
+        (now (out .exit)) ⌝ }
+{
+    let mut es = [0u32; 4 * MANY_EDGES];
+    let mut vs = [0u32; 2 * MANY_VERTICES];
+    let mut heads = [0u32; 2 * MANY_VERTICES];
+    let mut nexts = [0u32; 2 * MANY_EDGES];
+    let mut nodes = [0u32; MANY_VERTICES];
+    let mut map = [0u32; MANY_VERTICES];
+    let mut tried = [0u8; MANY_VERTICES];
     large_with(
         call,
         list,
@@ -275,8 +348,36 @@ fn small(call: ReadingCall, list: &[u32], rec: &[u8], out: &mut [u8]) -> Answer
     )
 }
 
-// In the arrays of the record's class. The large ones stand behind two tests: with one call of `large` the compiler would lay its frame into this
-// one, and every record would take it.
+// A record past the small class, with v vertices and e edges by its counts. One that does not begin SGR2 is refused, if it is, by the limits of SGR1, for
+// which the large arrays are enough.
+fn past_small(
+    call: ReadingCall,
+    list: &[u32],
+    rec: &[u8],
+    out: &mut [u8],
+    form: Form,
+    v: usize,
+    e: usize,
+) -> Answer
+    requires { ⌜ (formIs form ≡ formOf (now rec)) × ((v ≡ verticesOf (now rec)) × (e ≡ edgesOf (now rec))) ⌝ }
+    ensures { λ r. ⌜ Responds (readingResponse call (now (list .entry)) (now (rec .entry)) (length (now (out .entry)))) (now (out .entry)) r
+        (now (out .exit)) ⌝ }
+{
+    match form {
+        Form::Sgr1 => return large(call, list, rec, out),
+        Form::Sgr2 => {}
+    }
+    if MANY_VERTICES < v {
+        return vast(call, list, rec, out);
+    }
+    if MANY_EDGES < e {
+        return vast(call, list, rec, out);
+    }
+    large(call, list, rec, out)
+}
+
+// In the arrays of the record's class. Those of each but the small one stand behind two tests: with one call of a function that has arrays the compiler
+// would lay its frame into this one, and every record would take it.
 fn by_class(call: ReadingCall, list: &[u32], rec: &[u8], out: &mut [u8]) -> Answer
     ensures { λ r. ⌜ Responds (readingResponse call (now (list .entry)) (now (rec .entry)) (length (now (out .entry)))) (now (out .entry)) r
         (now (out .exit)) ⌝ }
@@ -284,11 +385,14 @@ fn by_class(call: ReadingCall, list: &[u32], rec: &[u8], out: &mut [u8]) -> Answ
     if rec.len() <= SMALL_RECORD {
         return small(call, list, rec, out);
     }
-    if FEW_VERTICES < record::vertex_count(rec) {
-        return large(call, list, rec, out);
+    let form = form::form_of(rec);
+    let v = record::vertex_count(rec, form);
+    let e = record::edge_count(rec, form);
+    if FEW_VERTICES < v {
+        return past_small(call, list, rec, out, form, v, e);
     }
-    if FEW_EDGES < record::edge_count(rec) {
-        return large(call, list, rec, out);
+    if FEW_EDGES < e {
+        return past_small(call, list, rec, out, form, v, e);
     }
     small(call, list, rec, out)
 }

@@ -52,12 +52,12 @@ bytes-most bs ok =
     let most = limits-small (formOf bs) in
     elim (ℕ-discrete (kindOf bs) 0) [
       | yes z ↦ omega (
-          arith,
-          ok .lengths,
-          ok .vertices,
-          most .vertices,
-          sum-most 128 (verticesOf bs) (lengthAt bs) (λ i b. omega (arith, ok .kmers z i b, ok .k-most)),
-        )
+        arith,
+        ok .lengths,
+        ok .vertices,
+        most .vertices,
+        sum-most 128 (verticesOf bs) (lengthAt bs) (λ i b. omega (arith, ok .kmers z i b, ok .k-most)),
+      )
       | no ne ↦ omega (arith, ok .bytes (omega (arith, ok .kind, ne)), most .bytes)
     ]
 

@@ -119,5 +119,5 @@ lent-cleanable Z H = record {
   holds = H;
   scratch = Z .scratch;
   sig-room = Z .sig-room;
-  countable = record { small = omega (arith, Z .graph .vertices-most) };
+  countable = record { small = omega (arith, Z .graph .fits .vertices-most) };
 }

@@ -6,6 +6,7 @@ use native.Mathlib.Omega.{arith}
 use lib.ListN.{length}
 use Rattle.defs.specs.SeqGraph.{Graph}
 use Rattle.defs.specs.Cleanup.{Status, justReference, someVariation, statusNumber, cleanupSeqGraph}
+use Rattle.defs.specs.Forms.{Form, formOf}
 use Rattle.defs.specs.Record.{sequenceGraph, encode, decode}
 use Rattle.defs.specs.Refusals.{sequenceOnly, recordCauses, recordRefusal}
 use Rattle.memory.specs.Memory.{graphOf}
@@ -20,7 +21,7 @@ use Rattle.rewriting.specs.declared.RewritingCall.{RewritingCall}
 use Rattle.rewriting.specs.declared.RewritingCall.the-variants.{SimplifyGraph, CleanupSeqGraph}
 use Rattle.rewriting.proofs.RewritingLaws.{lent-cleanable}
 use Rattle.arrays.specs.Sized.{Lent}
-use Rattle.calls.specs.Sending.{fits, Sendable, Responds}
+use Rattle.calls.specs.Sending.{fits, Sendable, RoomFits, Responds}
 use Rattle.calls.specs.declared.Answer.{Answer}
 use Rattle.calls.proofs.SendLaws.{held-sendable, responds-refused, responds-as}
 use Rattle.calls.proofs.ResponseLaws.{respond-refused, respond-fits}
@@ -43,30 +44,31 @@ result-small CleanupSeqGraph g = status-small ((cleanupSeqGraph g) .status)
 
 -- what is lent is room enough to answer what is held
 pub lent-answerable : {bs es vs p heads nexts nodes mp starts tried sig : List ℕ} → Lent bs es vs p heads nexts nodes mp starts tried sig
-    → {x : Read} → HeldAs bs heads nexts x es vs p → {h : Held} → x ≡ read.Graph h → HeldAnswerable h es vs p heads nexts nodes mp starts tried sig
-lent-answerable Z A {h} ok = record {
+    → {x : Read} → HeldAs bs heads nexts x es vs p → {h : Held} → x ≡ read.Graph h → {f : Form} → f ≡ formOf bs
+    → HeldAnswerable f h es vs p heads nexts nodes mp starts tried sig
+lent-answerable {heads = heads} {nexts} Z A {h} ok e = record {
   cleanable = lent-cleanable Z (A .holds h ok);
-  vertices-most = Z .graph .vertices-most;
-  edges-most = Z .graph .edges-most;
+  fits = subst (λ (g : Form). RoomFits g heads nexts) (sym e) (Z .graph .fits);
 }
 
 module _ {call : RewritingCall} {h : Held} {es vs p heads nexts : List ℕ} {r : Rewritten} {es′ vs′ p′ : List ℕ}
     (G : GraphRewritten call h es vs p heads nexts r es′ vs′ p′) where
   -- the record of what it became can be written where it fits
-  pub rewritten-sendable : {nodes mp starts tried sig : List ℕ} → HeldAnswerable h es vs p heads nexts nodes mp starts tried sig
-      → length es′ ≡ length es → length vs′ ≡ length vs → length p′ ≡ length p → Sendable (r .status) (r .held) es′ vs′ p′
-  rewritten-sendable {nodes} {mp} Q a b c =
+  pub rewritten-sendable : {f : Form} {nodes mp starts tried sig : List ℕ} → HeldAnswerable f h es vs p heads nexts nodes mp starts tried sig
+      → length es′ ≡ length es → length vs′ ≡ length vs → length p′ ≡ length p → Sendable f (r .status) (r .held) es′ vs′ p′
+  rewritten-sendable {f} {nodes} {mp} Q a b c =
       held-sendable (r .status) (omega (arith, ap (λ (z : Result). z .status) (G .is), result-small call (graphOf h es vs p)))
-      (omega (arith, Q .vertices-most)) (omega (arith, Q .edges-most))
+      (Q .fits)
       (room-kept {heads′ = heads} {nexts′ = nexts} {nodes′ = nodes} {mp′ = mp} (Q .cleanable .room) a b c refl refl refl refl) (G .holds)
 
-  pub held-answered : {out out′ : List ℕ} {s : Answer} → Responds (fits (length out) (encode sequenceGraph (r .status) (graphOf (r .held) es′ vs′ p′))) out s out′
-      → HeldAnswered call h es vs p out record { sent = s; status = r .status; rewrites = r .rewrites; rounds = r .rounds; end = r .end } out′
+  pub held-answered : {f : Form} {out out′ : List ℕ} {s : Answer}
+      → Responds (fits (length out) (encode f sequenceGraph (r .status) (graphOf (r .held) es′ vs′ p′))) out s out′
+      → HeldAnswered call f h es vs p out record { sent = s; status = r .status; rewrites = r .rewrites; rounds = r .rounds; end = r .end } out′
   unfolding recordRefusal
-  held-answered {out} {out′} {s} S = record {
-    is = λ bs z e. let q = G .is ∙ ap (resultOf call) e in record {
-      sent = responds-as (respond-fits (recordCauses sequenceOnly bs) (length out) (recordOf (resultOf call (decode bs))) (record-numbered sequenceOnly bs) z)
-          (subst (λ (y : Result). Responds (fits (length out) (recordOf y)) out s out′) q S);
+  held-answered {f} {out} {out′} {s} S = record {
+    is = λ bs form z e. let q = G .is ∙ ap (resultOf call) e in record {
+      sent = responds-as (respond-fits (recordCauses sequenceOnly bs) (length out) (recordOf (formOf bs) (resultOf call (decode bs))) (record-numbered sequenceOnly bs) z)
+          (sent-as bs form q S);
       counted = λ _. record {
         status = ap (λ (x : Result). x .status) q;
         rewrites = ap (λ (x : Result). x .rewrites) q;
@@ -75,6 +77,10 @@ module _ {call : RewritingCall} {h : Held} {es vs p heads nexts : List ℕ} {r :
       };
     };
   }
+    where
+      sent-as : (bs : List ℕ) → f ≡ formOf bs → {y z : Result} → y ≡ z → Responds (fits (length out) (recordOf f y)) out s out′
+          → Responds (fits (length out) (recordOf (formOf bs) z)) out s out′
+      sent-as bs e q R = subst (λ (l : List ℕ). Responds (fits (length out) l) out s out′) (λ i. recordOf (e i) (q i)) R
 
 -- ---- a record
 
@@ -89,9 +95,9 @@ module _ {call : RewritingCall} {bs heads nexts : List ℕ} {x : Read} {es vs p 
         counted = λ z. absurd (o (sym (ap (λ (y : Answer). y .number) q) ∙ z));
       }
 
-  pub record-answered : {h : Held} → x ≡ read.Graph h → {r : RewritingAnswer} {out′ : List ℕ} → HeldAnswered call h es vs p out r out′
-      → RewritingAnswered call bs out r out′
-  record-answered {h} ok H = H .is bs (sym (A .number) ∙ number-graph ok) (A .is h ok)
+  pub record-answered : {h : Held} → x ≡ read.Graph h → {f : Form} → f ≡ formOf bs → {r : RewritingAnswer} {out′ : List ℕ}
+      → HeldAnswered call f h es vs p out r out′ → RewritingAnswered call bs out r out′
+  record-answered {h} ok e H = H .is bs e (sym (A .number) ∙ number-graph ok) (A .is h ok)
 
 -- ---- a caller
 

@@ -11,7 +11,11 @@ pub fn sequence_start(rec: &[u8], v: usize) -> usize
     ensures { λ r. ⌜ r ≡ sequenceStart (now (rec .entry)) v ⌝ }
 {
     let form = form::form_of(rec);
-    let mut at = form::bytes_at(form, record::vertex_count(rec, form), record::edge_count(rec, form));
+    let mut at = form::bytes_at(
+        form,
+        record::vertex_count(rec, form),
+        record::edge_count(rec, form),
+    );
     let mut i = 0;
     while i < v {
         at = at + record::length_at(rec, form, i);

@@ -64,12 +64,12 @@ module _ {caller : ℕ} {table table′ : Tallies} where
     cleans-paths-raises C R = raises-answer _ (C .answer) R
 
   module _ (bs : List ℕ) {out out′ : List ℕ} {r : Answer} where
-    pub reference-raises : TellsBytes (referencePathBytesResponse bs (length out) caller) out r out′ → Raises (counted caller (r .number) 0) table table′
+    pub reference-raises : TellsBytes bs (referencePathBytesResponse bs (length out) caller) out r out′ → Raises (counted caller (r .number) 0) table table′
         → Raises (countedBy (referencePathBytesCall bs (length out) caller)) table table′
     unfolding countedBy referencePathBytesCounted
     reference-raises C R = raises-answer _ (C .answer) R
 
-    pub path-raises : (start : ℕ) (edges : List ℕ) → TellsBytes (pathBasesBytesResponse bs start edges (length out) caller) out r out′
+    pub path-raises : (start : ℕ) (edges : List ℕ) → TellsBytes bs (pathBasesBytesResponse bs start edges (length out) caller) out r out′
         → Raises (counted caller (r .number) 0) table table′ → Raises (countedBy (pathBasesBytesCall bs start edges (length out) caller)) table table′
     unfolding countedBy pathBasesBytesCounted
     path-raises start edges C R = raises-answer _ (C .answer) R

@@ -57,13 +57,13 @@ module _ {bs out : List ℕ} {caller : ℕ} {out′ : List ℕ} where
       responds-first (numbers-above (cleanNonRefPathsCauses bs (length out) caller) refl) _ refl (ap (λ (a : D.Answer). a .number) (C .answer))
 
 module _ (bs : List ℕ) (caller : ℕ) {out out′ : List ℕ} {r : Answer} where
-  pub reference-path-bytes-number : TellsBytes (referencePathBytesResponse bs (length out) caller) out r out′
+  pub reference-path-bytes-number : TellsBytes bs (referencePathBytesResponse bs (length out) caller) out r out′
       → IsNumberOf (referencePathBytesCauses bs (length out) caller) (r .number)
   unfolding callerCause referencePathBytesResponse referencePathBytesCauses outputCause recordCauses layoutCauses D.answer allOf
   reference-path-bytes-number C =
       responds-first (numbers-above (referencePathBytesCauses bs (length out) caller) refl) _ refl (ap (λ (a : D.Answer). a .number) (C .answer))
 
-  pub path-bases-bytes-number : (start : ℕ) (edges : List ℕ) → TellsBytes (pathBasesBytesResponse bs start edges (length out) caller) out r out′
+  pub path-bases-bytes-number : (start : ℕ) (edges : List ℕ) → TellsBytes bs (pathBasesBytesResponse bs start edges (length out) caller) out r out′
       → IsNumberOf (pathBasesBytesCauses bs start edges (length out) caller) (r .number)
   unfolding callerCause pathBasesBytesResponse pathBasesBytesCauses outputCause recordCauses layoutCauses D.answer allOf
   path-bases-bytes-number start edges C =

@@ -35,10 +35,10 @@ CleansPathsOn bs out caller r out′ table table′ =
 
 abbrev pub TellsReferenceOn : List ℕ → List ℕ → ℕ → Answer → List ℕ → Tallies → Tallies → Type 0
 TellsReferenceOn bs out caller r out′ table table′ =
-    TellsBytes (referencePathBytesResponse bs (length out) caller) out r out′
+    TellsBytes bs (referencePathBytesResponse bs (length out) caller) out r out′
     × Raises (countedBy (referencePathBytesCall bs (length out) caller)) table table′
 
 abbrev pub TellsPathOn : List ℕ → ℕ → List ℕ → List ℕ → ℕ → Answer → List ℕ → Tallies → Tallies → Type 0
 TellsPathOn bs start edges out caller r out′ table table′ =
-    TellsBytes (pathBasesBytesResponse bs start edges (length out) caller) out r out′
+    TellsBytes bs (pathBasesBytesResponse bs start edges (length out) caller) out r out′
     × Raises (countedBy (pathBasesBytesCall bs start edges (length out) caller)) table table′

@@ -10,7 +10,12 @@ use borrow.Author.Tests.{lt-ltb, le-ltb}
 use Rattle.defs.specs.SeqGraph.{Graph, nodeCount}
 use Rattle.defs.specs.Simplify as S
 use Rattle.defs.specs.Simplify.{sequenceBytes, simplifyGraphFull, minTailSuffixLen, endNumber}
-use Rattle.defs.specs.Record.{sequenceGraph, kOf, edgesOf, encode, decode}
+use Rattle.defs.specs.Forms.{Form, sgr1, sgr2, formOf, wordSize, lengthsAt, edgeSize, limits}
+use Rattle.defs.specs.Record.{sequenceGraph, kOf, verticesOf, edgesOf, bytesOf, edgesAt, bytesAt, wholeLength, encode, decode}
+use Rattle.form.specs.declared.Form as Code
+use Rattle.form.specs.Coded.{formIs}
+use Rattle.form.proofs.FormLaws.{limits-small}
+use Rattle.record.specs.Headed.{Headed}
 use Rattle.defs.specs.Refusals.{Cause, refusalOf, sequenceOnly, recordCauses, recordRefusal}
 use Rattle.defs.specs.Calls as D
 use Rattle.defs.specs.Calls.{Response, refused, accepted, numberOf, lengthOf, fieldOf, writtenOf, respondTo, respond}
@@ -25,7 +30,7 @@ use Rattle.kmer.proofs.SizeLaws.{refused-past, made-is}
 use Rattle.pool.specs.Pool.{bytesIn}
 use Rattle.memory.specs.declared.Held.{Held}
 use Rattle.load.specs.Loaded.{Loadable, Loaded}
-use Rattle.load.proofs.LoadLaws.{laid-length}
+use Rattle.load.proofs.LoadLaws.{laid-least, laid-headed}
 use Rattle.sound.proofs.Accepted.{order-read}
 use Rattle.write_record.proofs.WriteLaws.{bytes-are, encode-length}
 use Rattle.calls.specs.Answers.{simplifyAnswerOf}
@@ -43,14 +48,42 @@ use Rattle.text.specs.Put.{TextPut}
 use Rattle.text.proofs.TextLaws.{put-as, put-most}
 use Rattle.graph_text.specs.GraphText.{endWithNumber, simplifiedIn, graphMost, Printable}
 use Rattle.graph_text.proofs.GraphLaws.{end-back}
-use Rattle.show.specs.Show.{Recorded, ShowRoom, RecordOf, GraphPut, Printing, answerText, AnswerPut, Shown}
+use Rattle.show.specs.Show.{Recorded, FewShown, SizedToShow, RecordOf, GraphPut, Printing, answerText, AnswerPut, Shown}
 
 -- ---- a record's graph
 
+-- what so short a record can hold, by its form, and how long its text can be
+module _ (n m b : ℕ) where
+  vertices-most : (f : Form) → wholeLength f n m b ≤ 65536 → n ≤ limits f .answerVertices → n ≤ 16375
+  unfolding wholeLength bytesAt edgesAt lengthsAt wordSize edgeSize limits
+  vertices-most sgr1 l h = omega arith
+  vertices-most sgr2 l h = omega arith
+
+  edges-most : (f : Form) → wholeLength f n m b ≤ 65536 → m ≤ 7278
+  unfolding wholeLength bytesAt edgesAt lengthsAt wordSize edgeSize
+  edges-most sgr1 l = omega arith
+  edges-most sgr2 l = omega arith
+
+  text-most : (f : Form) → wholeLength f n m b ≤ 65536 → n ≤ limits f .answerVertices → b ≤ limits f .bytes → 138 + (15 * n + 4 * b) + 38 * m ≤ 344000
+  unfolding wholeLength bytesAt edgesAt lengthsAt wordSize edgeSize limits
+  text-most sgr1 l h k = omega arith
+  text-most sgr2 l h k = omega arith
+
 module _ {bs : List ℕ} (R : Recorded bs) where
-  -- 32 + 9 · 7,278 bytes are more than a shown record has but 2
-  edges-most : edgesOf bs ≤ 7278
-  edges-most = omega (arith, laid-length (R .laid), R .short)
+  whole-short : wholeLength (formOf bs) (verticesOf bs) (edgesOf bs) (bytesOf bs) ≤ 65536
+  whole-short = omega (arith, R .laid .whole, R .short)
+
+  pub recorded-few : FewShown 16375 7278 bs
+  recorded-few = record {
+    vertices = vertices-most (verticesOf bs) (edgesOf bs) (bytesOf bs) (formOf bs) whole-short (R .vertices);
+    edges = edges-most (verticesOf bs) (edgesOf bs) (bytesOf bs) (formOf bs) whole-short;
+  }
+
+  pub recorded-headed : {form : Code.Form} → formIs form ≡ formOf bs → Headed form bs
+  recorded-headed is = laid-headed (R .laid) is
+
+  pub recorded-long : 32 ≤ length bs
+  recorded-long = omega (arith, laid-least (R .laid))
 
   -- its k is one
   past-none : (k : ℕ) → 2 ≤ k → k ≤ 128 → kPastLimit k ≡ false
@@ -61,51 +94,55 @@ module _ {bs : List ℕ} (R : Recorded bs) where
   recorded-size q f =
       clash (refused-past (kOf bs) (sym q ∙ f)) (past-none (kOf bs) (R .k-least) (R .k-most))
 
-  module _ {es vs text : List ℕ} (Y : ShowRoom es vs text) where
-    pub recorded-loadable : {m : MadeSize} {k : KmerSize} → m ≡ sizeOf (kOf bs) → m ≡ Size k → (k .0 ≡ kOf bs) × Loadable bs es vs
-    recorded-loadable q f = (
-      made-is (kOf bs) (sym q ∙ f),
-      record {
-        laid = R .laid;
-        es-room = omega (arith, edges-most, Y .es-room);
-        vs-room = omega (arith, R .vertices, Y .vs-room);
-      },
-    )
+  pub recorded-loadable : {v e : ℕ} {es vs : List ℕ} → FewShown v e bs → SizedToShow v e es vs → {m : MadeSize} {k : KmerSize}
+      → m ≡ sizeOf (kOf bs) → m ≡ Size k → (k .0 ≡ kOf bs) × Loadable bs es vs
+  recorded-loadable F Y q f = (
+    made-is (kOf bs) (sym q ∙ f),
+    record {
+      laid = R .laid;
+      es-room = omega (arith, F .edges, Y .es-is);
+      vs-room = omega (arith, F .vertices, Y .vs-is);
+    },
+  )
 
-    module _ {h : Held} {es′ vs′ : List ℕ} (L : Loaded bs h es′ vs′) where
-      bytes-is : bytesIn (h .n) vs′ ≡ sequenceBytes ((decode bs) .verts)
-      bytes-is = sym (bytes-are 0 (h .k .0) (h .n) (h .m) es′ vs′ bs (L .within)) ∙ ap (λ (g : Graph). sequenceBytes (g .verts)) (L .is)
+  module _ {h : Held} {es′ vs′ : List ℕ} (L : Loaded bs h es′ vs′) where
+    bytes-is : bytesIn (h .n) vs′ ≡ sequenceBytes ((decode bs) .verts)
+    bytes-is =
+        sym (bytes-are (formOf bs) 0 (h .k .0) (h .n) (h .m) es′ vs′ bs (L .within)) ∙ ap (λ (g : Graph). sequenceBytes (g .verts)) (L .is)
 
-      long-is : length bs ≡ 32 + 2 * h .n + 9 * h .m + bytesIn (h .n) vs′
-      long-is =
-          ap length (R .is) ∙ ap (λ (g : Graph). length (encode sequenceGraph 0 g)) (sym (L .is))
-          ∙ encode-length 0 (h .k .0) (h .n) (h .m) es′ vs′ bs (L .within)
+    long-is : length bs ≡ wholeLength (formOf bs) (h .n) (h .m) (bytesIn (h .n) vs′)
+    long-is =
+        ap length (R .is) ∙ ap (λ (g : Graph). length (encode (formOf bs) sequenceGraph 0 g)) (sym (L .is))
+        ∙ encode-length (formOf bs) 0 (h .k .0) (h .n) (h .m) es′ vs′ bs (L .within)
 
-      text-fits : graphMost h vs′ ≤ 344000
-      text-fits = omega (arith, long-is, R .short, L .n, R .vertices, bytes-is, R .bytes)
+    text-fits : graphMost h vs′ ≤ 344000
+    text-fits =
+        text-most (h .n) (h .m) (bytesIn (h .n) vs′) (formOf bs) (omega (arith, long-is, R .short)) (omega (arith, L .n, R .vertices))
+        (omega (arith, bytes-is, R .bytes))
 
-      pub recorded-printable : length es′ ≡ length es → length vs′ ≡ length vs → Printable h es′ vs′ bs text
-      recorded-printable a b = record {
-        n-fits = omega (arith, L .n, R .vertices);
-        m-fits = omega (arith, L .m, edges-most);
-        bytes-fit = omega (arith, bytes-is, R .bytes);
-        es-room = omega (arith, a, L .m, edges-most, Y .es-room);
-        vs-room = omega (arith, b, L .n, R .vertices, Y .vs-room);
-        within = L .within;
-        room = omega (arith, text-fits, Y .text-room);
-      }
+    pub recorded-printable : {v e : ℕ} {es vs text : List ℕ} → FewShown v e bs → SizedToShow v e es vs → 344000 ≤ length text
+        → length es′ ≡ length es → length vs′ ≡ length vs → Printable h es′ vs′ bs text
+    recorded-printable F Y room a b = record {
+      n-fits = omega (arith, L .n, recorded-few .vertices);
+      m-fits = omega (arith, L .m, recorded-few .edges);
+      bytes-fit = omega (arith, bytes-is, R .bytes, limits-small (formOf bs) .bytes);
+      es-room = omega (arith, a, L .m, F .edges, Y .es-is);
+      vs-room = omega (arith, b, L .n, F .vertices, Y .vs-is);
+      within = L .within;
+      room = omega (arith, text-fits, room);
+    }
 
-      pub recorded-put : {made : SimplifyAnswer} {text′ : List ℕ} {r : ℕ}
-          → TextPut (graphMost h vs′) (printedGraph (simplifiedIn h (made .rewrites) (made .rounds) (made .end) es′ vs′ bs)) text 0 r text′
-          → GraphPut made bs text r text′
-      recorded-put {made} W = record {
-        is = λ z Z. put-as (ap printedGraph (λ i. record {
-          graph = (L .is ∙ Z .graph) i;
-          rewrites = Z .rewrites i;
-          rounds = Z .rounds i;
-          end = (ap endWithNumber (Z .end) ∙ end-back (z .end)) i;
-        })) (put-most text-fits W);
-      }
+    pub recorded-put : {made : SimplifyAnswer} {text text′ : List ℕ} {r : ℕ}
+        → TextPut (graphMost h vs′) (printedGraph (simplifiedIn h (made .rewrites) (made .rounds) (made .end) es′ vs′ bs)) text 0 r text′
+        → GraphPut made bs text r text′
+    recorded-put {made} W = record {
+      is = λ z Z. put-as (ap printedGraph (λ i. record {
+        graph = (L .is ∙ Z .graph) i;
+        rewrites = Z .rewrites i;
+        rounds = Z .rounds i;
+        end = (ap endWithNumber (Z .end) ∙ end-back (z .end)) i;
+      })) (put-most text-fits W);
+    }
 
 -- ---- an answer
 
@@ -202,10 +239,10 @@ module _ {bs out : List ℕ} (small : Bytes bs) (room : length out ≡ 65536) {m
 
   -- the record of the simplified graph
   module _ (ok : recordRefusal sequenceOnly bs ≡ 0) where
-    again : RereadAs (z bs .graph) (simplifiedRecord bs)
+    again : RereadAs (formOf bs) (z bs .graph) (simplifiedRecord bs)
     again = simplify-reread bs small ok
 
-    within : SequenceAnswer (z bs .graph)
+    within : SequenceAnswer (formOf bs) (z bs .graph)
     within = simplify-within bs small ok
 
     size-is : kOf (simplifiedRecord bs) ≡ z bs .graph .k
@@ -214,12 +251,22 @@ module _ {bs out : List ℕ} (small : Bytes bs) (room : length out ≡ 65536) {m
 
     record-recorded : length (simplifiedRecord bs) ≤ 65536 → Recorded (simplifiedRecord bs)
     record-recorded l = record {
-      laid = answer-laid (z bs .graph) within 0 (omega arith);
-      is = ap (encode sequenceGraph 0) (sym (again .graph));
+      laid = answer-laid (formOf bs) (z bs .graph) within 0 (omega arith);
+      is = λ i. encode (sym (again .form) i) sequenceGraph 0 (sym (again .graph) i);
       k-least = omega (arith, size-is, within .k-least);
       k-most = omega (arith, size-is, within .k-most);
-      vertices = omega (arith, sym (order-read (simplifiedRecord bs)) ∙ ap nodeCount (again .graph), within .vertices);
-      bytes = omega (arith, ap (λ (g : Graph). sequenceBytes (g .verts)) (again .graph), within .bytes);
+      vertices = omega (
+        arith,
+        sym (order-read (simplifiedRecord bs)) ∙ ap nodeCount (again .graph),
+        within .vertices,
+        ap (λ (f : Form). limits f .answerVertices) (again .form),
+      );
+      bytes = omega (
+        arith,
+        ap (λ (g : Graph). sequenceBytes (g .verts)) (again .graph),
+        within .bytes,
+        ap (λ (f : Form). limits f .bytes) (again .form),
+      );
       short = l;
     }
 

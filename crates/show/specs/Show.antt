@@ -1,10 +1,11 @@
 -- A record's text. Assumes nothing.
 use mathlib.Core.Path.{_≡_}
 use mathlib.Core.List.{List, _++_}
-use Prim.Native.Nat.{ℕ, zero, suc, _≤_}
+use Prim.Native.Nat.{ℕ, zero, suc, _*_, _≤_}
 use lib.ListN.{length, take, drop}
 use Rattle.defs.specs.Simplify.{Simplified, sequenceBytes, endNumber}
-use Rattle.defs.specs.Record.{sequenceGraph, kOf, verticesOf, encode, decode}
+use Rattle.defs.specs.Forms.{formOf, limits}
+use Rattle.defs.specs.Record.{sequenceGraph, kOf, verticesOf, edgesOf, encode, decode}
 use Rattle.load.specs.Loaded.{Laid}
 use Rattle.calls.specs.declared.SimplifyAnswer.{SimplifyAnswer}
 use Rattle.text.specs.Printed.{printedGraph, printedRefusal, shown}
@@ -13,18 +14,22 @@ use Rattle.text.specs.Put.{TextPut}
 -- the record of an answer, of at most 65,536 bytes; its counts may be past the limits of input
 pub record Recorded (bs : List ℕ) : Type 0 where
   pub laid : Laid bs
-  pub is : bs ≡ encode sequenceGraph 0 (decode bs)
+  pub is : bs ≡ encode (formOf bs) sequenceGraph 0 (decode bs)
   pub k-least : 2 ≤ kOf bs
   pub k-most : kOf bs ≤ 128
-  pub vertices : verticesOf bs ≤ 10240
-  pub bytes : sequenceBytes ((decode bs) .verts) ≤ 8192
+  pub vertices : verticesOf bs ≤ limits (formOf bs) .answerVertices
+  pub bytes : sequenceBytes ((decode bs) .verts) ≤ limits (formOf bs) .bytes
   pub short : length bs ≤ 65536
 
--- room for the graph of such a record, and for every text
-pub record ShowRoom (es vs text : List ℕ) : Type 0 where
-  pub es-room : 29112 ≤ length es
-  pub vs-room : 20480 ≤ length vs
-  pub text-room : 344000 ≤ length text
+-- at most v vertices and e edges
+pub record FewShown (v e : ℕ) (bs : List ℕ) : Type 0 where
+  pub vertices : verticesOf bs ≤ v
+  pub edges : edgesOf bs ≤ e
+
+-- arrays for as many
+pub record SizedToShow (v e : ℕ) (es vs : List ℕ) : Type 0 where
+  pub es-is : length es ≡ 4 * e
+  pub vs-is : length vs ≡ 2 * v
 
 -- the record is that of the simplification z, and the answer counted what z did
 pub record RecordOf (z : Simplified) (made : SimplifyAnswer) (bs : List ℕ) : Type 0 where

@@ -1,7 +1,10 @@
 // The text of what simplification makes of a record. Nothing is asked of the caller.
 ghost use mathlib.Core.Path.{_≡_};
+ghost use Prim.Native.Nat.{_≤_};
 ghost use lib.ListN.{length};
-ghost use Rattle.show.specs.Show.{Recorded, GraphPut, Printing, AnswerPut, ShowRoom, Shown};
+ghost use Rattle.show.specs.Show.{Recorded, FewShown, GraphPut, Printing, AnswerPut, Shown};
+use arrays::FEW_EDGES;
+use arrays::FEW_VERTICES;
 use calls::SimplifyAnswer;
 use kmer::MadeSize;
 
@@ -11,20 +14,23 @@ pub const RECORD_MOST: usize = 65536;
 // Room for the text of every answer whose record is that short.
 pub const TEXT_MOST: usize = 344000;
 
-// What so short a record can hold: the vertices of any answer, and 9 bytes an edge behind the 32 of the head.
-const SHOWN_VERTICES: usize = 10240;
+// What so short a record can hold: in SGR1 as many vertices as an answer has, 10,240, in SGR2 four bytes for each behind the 36 of the head; nine bytes an
+// edge in SGR1 behind the 32 of the head.
+const SHOWN_VERTICES: usize = 16375;
 
 const SHOWN_EDGES: usize = 7278;
 
-// The text of the graph that a record holds, which may be past the limits of input, and of what was counted when it was made.
-fn put_record(
+// The text of the graph that a record holds, which may be past the limits of input, and of what was counted when it was made. Whole arrays, whose lengths are
+// known. The record is read here, and not in a function that both classes call: else the compiler would lay the frames of both into that of the
+// simplification, which leaves no room for them on a stack of 8 MiB.
+fn many_with(
     text: &mut [u8],
     made: SimplifyAnswer,
     rec: &[u8],
-    es: &mut [u32],
-    vs: &mut [u32],
+    es: &mut [u32; 4 * SHOWN_EDGES],
+    vs: &mut [u32; 2 * SHOWN_VERTICES],
 ) -> usize
-    requires { ⌜ Recorded (now rec) × ShowRoom (now es) (now vs) (now text) ⌝ }
+    requires { ⌜ Recorded (now rec) × (344000 ≤ length (now text)) ⌝ }
     ensures { λ r. ⌜ GraphPut made (now (rec .entry)) (now (text .entry)) r (now (text .exit)) ⌝ }
 {
     // The record that a call wrote has a k of 2 to 128, so the other arm is never taken.
@@ -44,15 +50,70 @@ fn put_record(
     )
 }
 
-// The text of an answer, whose record stands at the front of `out`, or of a refusal.
-fn put_answer(
+fn many(text: &mut [u8], made: SimplifyAnswer, rec: &[u8]) -> usize
+    requires { ⌜ Recorded (now rec) × (344000 ≤ length (now text)) ⌝ }
+    ensures { λ r. ⌜ GraphPut made (now (rec .entry)) (now (text .entry)) r (now (text .exit)) ⌝ }
+{
+    let mut es = [0u32; 4 * SHOWN_EDGES];
+    let mut vs = [0u32; 2 * SHOWN_VERTICES];
+    many_with(text, made, rec, &mut es, &mut vs)
+}
+
+fn few_with(
     text: &mut [u8],
     made: SimplifyAnswer,
-    out: &[u8],
-    es: &mut [u32],
-    vs: &mut [u32],
+    rec: &[u8],
+    es: &mut [u32; 4 * FEW_EDGES],
+    vs: &mut [u32; 2 * FEW_VERTICES],
 ) -> usize
-    requires { ⌜ Printing made (now out) × ShowRoom (now es) (now vs) (now text) ⌝ }
+    requires { ⌜ Recorded (now rec) × ((344000 ≤ length (now text)) × FewShown 512 512 (now rec)) ⌝ }
+    ensures { λ r. ⌜ GraphPut made (now (rec .entry)) (now (text .entry)) r (now (text .exit)) ⌝ }
+{
+    // The record that a call wrote has a k of 2 to 128, so the other arm is never taken.
+    let MadeSize::Size(k) = record::kmer_size_of(rec) else {
+        return 0;
+    };
+    let held = load::load_graph(rec, k, es, vs);
+    graph_text::put_graph(
+        text,
+        held,
+        made.rewrites,
+        made.rounds,
+        made.end,
+        es,
+        vs,
+        rec,
+    )
+}
+
+fn few(text: &mut [u8], made: SimplifyAnswer, rec: &[u8]) -> usize
+    requires { ⌜ Recorded (now rec) × ((344000 ≤ length (now text)) × FewShown 512 512 (now rec)) ⌝ }
+    ensures { λ r. ⌜ GraphPut made (now (rec .entry)) (now (text .entry)) r (now (text .exit)) ⌝ }
+{
+    let mut es = [0u32; 4 * FEW_EDGES];
+    let mut vs = [0u32; 2 * FEW_VERTICES];
+    few_with(text, made, rec, &mut es, &mut vs)
+}
+
+// In arrays of the class that the counts ask for. The long ones stand behind two tests: with one call of `many` the compiler would lay its frame into
+// this one.
+fn put_record(text: &mut [u8], made: SimplifyAnswer, rec: &[u8]) -> usize
+    requires { ⌜ Recorded (now rec) × (344000 ≤ length (now text)) ⌝ }
+    ensures { λ r. ⌜ GraphPut made (now (rec .entry)) (now (text .entry)) r (now (text .exit)) ⌝ }
+{
+    let form = form::form_of(rec);
+    if FEW_VERTICES < record::vertex_count(rec, form) {
+        return many(text, made, rec);
+    }
+    if FEW_EDGES < record::edge_count(rec, form) {
+        return many(text, made, rec);
+    }
+    few(text, made, rec)
+}
+
+// The text of an answer, whose record stands at the front of `out`, or of a refusal.
+fn put_answer(text: &mut [u8], made: SimplifyAnswer, out: &[u8]) -> usize
+    requires { ⌜ Printing made (now out) × (344000 ≤ length (now text)) ⌝ }
     ensures { λ r. ⌜ AnswerPut made (now (out .entry)) (now (text .entry)) r (now (text .exit)) ⌝ }
 {
     let number = made.number;
@@ -60,32 +121,26 @@ fn put_answer(
         return graph_text::put_refusal(text, number);
     }
     let len = made.length as usize;
-    put_record(text, made, &out[..len], es, vs)
+    put_record(text, made, &out[..len])
 }
 
 // Input of more than 65,536 bytes counts as 1, whatever it is. An answer record over 65,536 bytes does not fit `out`, and is told as 11.
-fn show_in(rec: &[u8], text: &mut [u8], out: &mut [u8], es: &mut [u32], vs: &mut [u32]) -> usize
-    requires { ⌜ (length (now out) ≡ 65536) × ShowRoom (now es) (now vs) (now text) ⌝ }
+fn show_in(rec: &[u8], text: &mut [u8], out: &mut [u8]) -> usize
+    requires { ⌜ (length (now out) ≡ 65536) × (344000 ≤ length (now text)) ⌝ }
     ensures { λ r. ⌜ Shown (now (rec .entry)) (now (text .entry)) r (now (text .exit)) ⌝ }
 {
     if RECORD_MOST < rec.len() {
         return graph_text::put_refusal(text, 1);
     }
     let made = simplify_graph::simplify_graph(rec, out, 0);
-    put_answer(text, made, out, es, vs)
+    put_answer(text, made, out)
 }
 
 // Whole arrays, whose lengths are known.
-fn show_with(
-    rec: &[u8],
-    text: &mut [u8; TEXT_MOST],
-    out: &mut [u8; RECORD_MOST],
-    es: &mut [u32; 4 * SHOWN_EDGES],
-    vs: &mut [u32; 2 * SHOWN_VERTICES],
-) -> usize
+fn show_with(rec: &[u8], text: &mut [u8; TEXT_MOST], out: &mut [u8; RECORD_MOST]) -> usize
     ensures { λ r. ⌜ Shown (now (rec .entry)) (now (text .entry)) r (now (text .exit)) ⌝ }
 {
-    show_in(rec, text, out, es, vs)
+    show_in(rec, text, out)
 }
 
 // Writes the text to the front of `text`; how long it is.
@@ -93,7 +148,5 @@ pub fn show(rec: &[u8], text: &mut [u8; TEXT_MOST]) -> usize
     ensures { λ r. ⌜ Shown (now (rec .entry)) (now (text .entry)) r (now (text .exit)) ⌝ }
 {
     let mut out = [0u8; RECORD_MOST];
-    let mut es = [0u32; 4 * SHOWN_EDGES];
-    let mut vs = [0u32; 2 * SHOWN_VERTICES];
-    show_with(rec, text, &mut out, &mut es, &mut vs)
+    show_with(rec, text, &mut out)
 }

@@ -9,6 +9,7 @@ use Rattle.defs.specs.SeqGraph.{Graph}
 use Rattle.defs.specs.Simplify as S
 use Rattle.defs.specs.Simplify.{simplifyGraphFull, minTailSuffixLen}
 use Rattle.defs.specs.Strings.{Spells}
+use Rattle.defs.specs.Forms.{formOf}
 use Rattle.defs.specs.Record.{decode}
 use Rattle.defs.specs.Refusals.{Cause, refusalOf, sequenceOnly, recordCauses, recordRefusal}
 use Rattle.defs.specs.Calls as D
@@ -19,7 +20,7 @@ use Rattle.laws.proofs.Measures.{weight}
 use Rattle.laws.proofs.Bound.{simplify-bound}
 use Rattle.laws.proofs.Whole.{simplify-spells}
 use Rattle.sound.proofs.Accepted.{accepted-good}
-use Rattle.reread.specs.Reread.{RereadAs}
+use Rattle.reread.specs.Reread.{answerLength, RereadAs}
 use Rattle.reread.proofs.Read.{Bytes}
 use Rattle.reread.proofs.Answers.{simplify-reread}
 use Rattle.calls.specs.Answers.{simplifyAnswerOf, AnswersSimplify}
@@ -60,9 +61,9 @@ module _ {bs out : List ℕ} {caller : ℕ} {r : RewritingAnswer} {a : SimplifyA
       field-most causes out result (z .rewrites) _
           (λ ok. simplify-bound minTailSuffixLen (omega arith) (decode bs) (good ok)),
     );
-    room = λ l i. room-enough causes out result 176160 (caller-record-never-11 caller sequenceOnly bs)
+    room = λ l i. room-enough causes out result (answerLength (formOf bs)) (caller-record-never-11 caller sequenceOnly bs)
         (λ ok. again ok .size) l (sym number-is ∙ i);
-    reread = holds (RereadAs (z .graph)) again;
+    reread = holds (RereadAs (formOf bs) (z .graph)) again;
   }
     where
       number-is : a .number ≡ numberOf (simplifyGraphResponse bs (length out) caller)
@@ -74,7 +75,7 @@ module _ {bs out : List ℕ} {caller : ℕ} {r : RewritingAnswer} {a : SimplifyA
       good : refusalOf causes ≡ 0 → Good (decode bs)
       good ok = accepted-good sequenceOnly bs (none-of ok)
 
-      again : refusalOf causes ≡ 0 → RereadAs (z .graph) result
+      again : refusalOf causes ≡ 0 → RereadAs (formOf bs) (z .graph) result
       again ok = simplify-reread bs small (none-of ok)
 
       holds : (P : List ℕ → Type 0) → (refusalOf causes ≡ 0 → P result) → a .number ≡ 0 → P (take (a .length) out′)

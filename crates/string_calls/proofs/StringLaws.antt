@@ -1,5 +1,5 @@
--- The promise of the string calls: the answer and the output are the definition's, and 8,192 bytes of output are room enough for every string.
--- Assumes nothing.
+-- The promise of the string calls: the answer and the output are the definition's, and as many bytes as a record may have are room enough for every
+-- string. Assumes nothing.
 use mathlib.Core.Path.{_≡_, refl, sym, ap, _∙_}
 use mathlib.Core.List.{List}
 use Prim.Native.Nat.{ℕ, _≤_}
@@ -9,6 +9,7 @@ use lib.ListN.{length}
 use Rattle.defs.specs.Lists.{given}
 use Rattle.defs.specs.Simplify.{sequenceBytes}
 use Rattle.defs.specs.Paths.{isPathOf, pathBasesBytes, referencePathBytes}
+use Rattle.defs.specs.Forms.{formOf, limits}
 use Rattle.defs.specs.Record.{decode}
 use Rattle.defs.specs.Refusals.{sequenceOnly, recordRefusal}
 use Rattle.defs.specs.Calls.{Response, refused, numberOf, referencePathBytesResponse, pathBasesBytesResponse}
@@ -38,10 +39,10 @@ module _ {x : Response} where
   unfolding numberOf
   whole room s e l z = let n : _≡_ {A = ℕ} 0 11 = sym (ap numberOf (e ∙ fits-enough room s l)) ∙ z in omega (arith, n)
 
-few : (bs : List ℕ) → recordRefusal sequenceOnly bs ≡ 0 → sequenceBytes ((decode bs) .verts) ≤ 8192
+few : (bs : List ℕ) → recordRefusal sequenceOnly bs ≡ 0 → sequenceBytes ((decode bs) .verts) ≤ limits (formOf bs) .bytes
 few bs z = (accepted-limits sequenceOnly bs z (sequence-kind bs (accepted-early sequenceOnly bs z))) .few
 
-reference-room : (bs : List ℕ) (room : ℕ) → 8192 ≤ room → numberOf (referenceResponse bs room) ≡ 11 → ⊥
+reference-room : (bs : List ℕ) (room : ℕ) → limits (formOf bs) .bytes ≤ room → numberOf (referenceResponse bs room) ≡ 11 → ⊥
 reference-room bs room l = elim (ℕ-discrete (recordRefusal sequenceOnly bs) 0) [
   | no ne ↦ other (reference-refused bs room refl ne) (λ i. omega (arith, i, record-most sequenceOnly bs))
   | yes z ↦ byOption (referencePathBytes (decode bs))
@@ -50,7 +51,7 @@ reference-room bs room l = elim (ℕ-discrete (recordRefusal sequenceOnly bs) 0)
       (omega (arith, l, few bs z, reference-most (decode bs) (accepted-good sequenceOnly bs z .0) s e)))
 ]
 
-path-room : (bs : List ℕ) (start : ℕ) (list : List ℕ) (room : ℕ) → 8192 ≤ room → numberOf (pathResponse start list bs room) ≡ 11 → ⊥
+path-room : (bs : List ℕ) (start : ℕ) (list : List ℕ) (room : ℕ) → limits (formOf bs) .bytes ≤ room → numberOf (pathResponse start list bs room) ≡ 11 → ⊥
 path-room bs start list room l = elim (ℕ-discrete (recordRefusal sequenceOnly bs) 0) [
   | no ne ↦ other (path-refused bs start list room refl ne) (λ i. omega (arith, i, record-most sequenceOnly bs))
   | yes z ↦ byOption (given (isPathOf (decode bs) start list) (pathBasesBytes (decode bs) start list))
@@ -68,18 +69,18 @@ room-to call list bs room caller f i = byOrder caller 15
     (λ l. other (response-above call list bs room caller l) (λ z. omega (arith, z)) i)
 
 -- the promise of a call, from its response and that 11 is not its number
-tells-bytes : {x : Response} {out : List ℕ} {a : Answer} {out′ : List ℕ} → Responds x out a out′ → (8192 ≤ length out → numberOf x ≡ 11 → ⊥)
-    → TellsBytes x out a out′
+tells-bytes : {bs : List ℕ} {x : Response} {out : List ℕ} {a : Answer} {out′ : List ℕ} → Responds x out a out′
+    → (limits (formOf bs) .bytes ≤ length out → numberOf x ≡ 11 → ⊥) → TellsBytes bs x out a out′
 unfolding D.answer
 tells-bytes S h = record { answer = λ i. record { number = S .number i; length = S .size i }; written = S .written; room = λ l i. h l (sym (S .number) ∙ i) }
 
 module _ (bs list : List ℕ) (caller : ℕ) {out : List ℕ} {a : Answer} {out′ : List ℕ} where
   pub reference-tells : Responds (readingResponseTo ReferencePathBytes list bs (length out) caller) out a out′
-      → TellsBytes (referencePathBytesResponse bs (length out) caller) out a out′
+      → TellsBytes bs (referencePathBytesResponse bs (length out) caller) out a out′
   unfolding readingResponseTo readingResponse
   reference-tells S = tells-bytes S (λ l. room-to ReferencePathBytes list bs (length out) caller (reference-room bs (length out) l))
 
   pub path-tells : (start : ℕ) → Responds (readingResponseTo (PathBasesBytes start) list bs (length out) caller) out a out′
-      → TellsBytes (pathBasesBytesResponse bs start list (length out) caller) out a out′
+      → TellsBytes bs (pathBasesBytesResponse bs start list (length out) caller) out a out′
   unfolding readingResponseTo readingResponse
   path-tells start S = tells-bytes S (λ l. room-to (PathBasesBytes start) list bs (length out) caller (path-room bs start list (length out) l))

@@ -7,6 +7,7 @@ use Rattle.defs.specs.Zip as Z
 use Rattle.defs.specs.Rewrites as W
 use Rattle.defs.specs.Simplify as S
 use Rattle.defs.specs.Cleanup as C
+use Rattle.defs.specs.Forms as O
 use Rattle.defs.specs.Record as R
 use Rattle.defs.specs.Refusals as F
 use Rattle.defs.specs.Calls as A
@@ -19,7 +20,9 @@ pub shown-examples : map shown inputs ≡ texts
 unfolding P.ascii P.digit P.decimalBy P.decimal P.signed P.field P.isLetter P.printedByte P.printedSequence P.surplus P.firstLine P.endName
     P.secondLine P.vertexLine P.edgeLine P.printedGraph P.printedRefusal P.printedAnswer P.inputCauses P.shown A.outputCause A.respondTo A.respond F.refusalOf
     F.otherLength F.takesKind F.wrongMark F.pastLimit F.layoutDisagrees F.badEdge F.anyBadEdge F.doubledEdge F.equalKmers F.doubled
-    F.hasCycle F.layoutCauses F.recordCauses F.recordRefusal R.le16 R.le32 R.u16At R.u32At R.recordKindNumber R.edgesAt R.bytesAt R.wholeLength
+    F.hasCycle F.layoutCauses F.recordCauses F.recordRefusal O.mark O.formOf O.wordSize O.places O.lengthsAt O.edgeSize O.limits R.le16 R.le32
+    R.u16At R.u32At R.wordBytes R.wordAt R.verticesOf R.edgesOf R.bytesOf R.lengthsOffsetOf R.edgesOffsetOf R.bytesOffsetOf R.wholeOf R.recordKindNumber
+    R.edgesAt R.bytesAt R.wholeLength
     R.flagOf R.encodeEdge R.encodeHeader R.encode R.lengthAt R.sequenceStart R.sequenceAt R.edgeStart R.flagAt R.edgeAt R.decode C.forward C.grow
     C.reached L.tabFrom L.sum L.keepIf L.anyOf L.allOf L.headOr L.concat L.keepAt L.given L.bit L.rank L.elemOf L.upFrom L.firstOf
     L.sameList L.commonPrefix₂ L.commonPrefixBy L.commonPrefix L.commonSuffix G.nodeCount G.vertexSequence G.edgesFrom G.edgesInto

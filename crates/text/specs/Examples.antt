@@ -4,6 +4,7 @@ use Prim.Native.String.{String}
 use mathlib.Core.Bool.{Bool, true, false}
 use mathlib.Core.List.{List, [], _∷_, _++_}
 use Rattle.defs.specs.SeqGraph.{Edge}
+use Rattle.defs.specs.Forms.{Form, sgr1, sgr2}
 use Rattle.defs.specs.Record.{sequenceGraph, encode}
 use Rattle.text.specs.Printed.{ascii}
 
@@ -13,8 +14,11 @@ edge u v s r = record { from = u; to = v; support = s; isRef = r; capped = false
 abbrev cappedEdge : ℕ → ℕ → ℕ → Bool → Edge
 cappedEdge u v s r = record { from = u; to = v; support = s; isRef = r; capped = true }
 
+abbrev recordOf : Form → ℕ → List (List ℕ) → List Edge → List ℕ
+recordOf f k vs es = encode f sequenceGraph 0 record { k = k; verts = vs; edges = es }
+
 abbrev graph : ℕ → List (List ℕ) → List Edge → List ℕ
-graph k vs es = encode sequenceGraph 0 record { k = k; verts = vs; edges = es }
+graph = recordOf sgr1
 
 abbrev pub inputs : List (List ℕ)
 inputs =
@@ -25,9 +29,12 @@ inputs =
     -- more edges than vertices, two of them capped
     graph 2 (ascii "ACA" ∷ ascii "CGT" ∷ ascii "GAC" ∷ ascii "TTG" ∷ [])
     (cappedEdge 0 1 4294967295 true ∷ edge 0 2 0 false ∷ cappedEdge 0 3 10 false ∷ edge 1 2 100 true ∷ edge 1 3 9 false ∷ edge 2 3 99 true ∷ []) ∷
+    -- a graph in SGR2
+    recordOf sgr2 25 (ascii "A" ∷ ascii "C" ∷ ascii "G" ∷ []) (edge 0 1 70000 true ∷ edge 1 2 3 false ∷ []) ∷
     -- a cycle; no record
     graph 10 (ascii "A" ∷ ascii "C" ∷ []) (edge 0 1 1 true ∷ edge 1 0 1 false ∷ []) ∷
     ascii "SGR1" ∷
+    ascii "SGR2" ∷
     []
 
 -- each line with its end
@@ -70,7 +77,15 @@ texts =
     "e 2 3 99 r" ∷
     []) ∷
     lines (
+    "k 25 vertices 1 edges 0 bytes 3 surplus -1" ∷
+    "rewrites 2 rounds 2 end quiet" ∷
+    "v 0 ACG" ∷
+    []) ∷
+    lines (
     "refused 7" ∷
+    []) ∷
+    lines (
+    "refused 1" ∷
     []) ∷
     lines (
     "refused 1" ∷

@@ -79,7 +79,6 @@ pub kind-put : (f : Form) (status : ℕ) (l : List ℕ) {l′ : List ℕ} → l�
     → set (set l′ 4 1) 5 status ≡ sets l 0 (mark f ++ (1 ∷ status ∷ []))
 kind-put f status l p = put-behind l (mark f) (1 ∷ status ∷ []) 0 4 p refl (omega (arith, length-mark f))
 
-
 module _ (f : Form) where
   counts-length : (k n m b : ℕ) → length (le16 k ++ wordBytes f n ++ wordBytes f m ++ le32 b) ≡ 6 + 2 * wordSize f
   counts-length k n m b =
@@ -159,7 +158,7 @@ module _ (f : Form) where
       ∙ length-append front (le32 (lengthsAt f) ++ le32 (edgesAt f n) ++ le32 (bytesAt f n m) ++ le32 (wholeLength f n m b))
       ∙ omega (arith, front-length status k n m b, four-length (lengthsAt f) (edgesAt f n) (bytesAt f n m) (wholeLength f n m b), sizes f .header-least)
 
--- ---- an edge
+  -- ---- an edge
 
   ends-of-edge : (e : Edge) → length (wordBytes f (e .from) ++ wordBytes f (e .to)) ≡ 2 * wordSize f
   ends-of-edge e = length-append (wordBytes f (e .from)) (wordBytes f (e .to)) ∙ omega (arith, length-word f (e .from), length-word f (e .to))

@@ -12,10 +12,13 @@ clean-non-ref-paths-requires c κs =
 send-record-requires : tie.Need-send-record-requires
 send-record-requires c κs =
     let k = at-clean .clean-non-ref-paths .kept .1 in
-    cleaned-sendable (start .pre) (at-clean .clean-non-ref-paths .ensures) (k .0) (k .1 .0)
+    cleaned-sendable (start .pre) (at-form-of .form-of .ensures) (at-clean .clean-non-ref-paths .ensures) (k .0) (k .1 .0)
   where
+    at-form-of : tie.After-form-of
+    at-form-of = search
+
     at-clean : tie.After-clean-non-ref-paths
-    at-clean = let c : tie.After-nexts = search in search
+    at-clean = let c = at-form-of in let c : tie.After-nexts = search in search
 
     start : tie.Start
     start = let c = at-clean in let c : tie.After-slice-known5 = search in search
@@ -47,14 +50,16 @@ same-length-8 c = search needs
 returns : tie.Need-returns
 returns c =
     let at-send : tie.After-send-record = search in
+    let at-form-of : tie.After-form-of = search in
     let at-clean : tie.After-clean-non-ref-paths = let c : tie.After-nexts = search in search in
-    cleaned-answered (at-clean .clean-non-ref-paths .ensures) (at-send .send-record .ensures)
+    cleaned-answered (at-form-of .form-of .ensures) (at-clean .clean-non-ref-paths .ensures) (at-send .send-record .ensures)
 
 pub clean-in-spec : {M : Type 1} → statement M
 clean-in-spec =
     tie.close
     (tie.spec
     clean-non-ref-paths-requires
+    (λ c κs. search needs)
     send-record-requires
     same-length
     same-length-2

@@ -16,6 +16,6 @@ use Rattle.sg.proofs.sg_path_bases_bytes.Code as code
 pub sg-path-bases-bytes-spec : {M : Type 1} → statement M
 unfolding code.routine
 sg-path-bases-bytes-spec 𝓤 H 𝓜 𝓖 𝓡 =
-    call-meets w8 w32 w8 answer-kind (λ rec start edges out c. TellsBytes (pathBasesBytesResponse rec start edges (length out) c) out)
+    call-meets w8 w32 w8 answer-kind (λ rec start edges out c. TellsBytes rec (pathBasesBytesResponse rec start edges (length out) c) out)
     TellsPathOn (λ rec start edges out c d out′ h h′ p R. (p, path-raises rec start edges p R)) 𝓤 H 𝓜 𝓖 𝓡
     code.env #self #core routine (code.unfolded 𝓤 H 𝓜 𝓡) code.calls-string-calls·path-bases-bytes code.calls-tallies·count-call (met 𝓤 H 𝓜 𝓖 𝓡)

@@ -16,6 +16,6 @@ use Rattle.sg.proofs.sg_reference_path_bytes.Code as code
 pub sg-reference-path-bytes-spec : {M : Type 1} → statement M
 unfolding code.routine
 sg-reference-path-bytes-spec 𝓤 H 𝓜 𝓖 𝓡 =
-    call-meets w8 w8 answer-kind (λ rec out c. TellsBytes (referencePathBytesResponse rec (length out) c) out) TellsReferenceOn
+    call-meets w8 w8 answer-kind (λ rec out c. TellsBytes rec (referencePathBytesResponse rec (length out) c) out) TellsReferenceOn
     (λ rec out c d out′ h h′ p R. (p, reference-raises rec p R)) 𝓤 H 𝓜 𝓖 𝓡
     code.env #self #core routine (code.unfolded 𝓤 H 𝓜 𝓡) code.calls-string-calls·reference-path-bytes code.calls-tallies·count-call (met 𝓤 H 𝓜 𝓖 𝓡)

@@ -42,6 +42,4 @@ put-answer-spec =
     (λ c. let start : tie.Start = search in sym (length-take-le _ _ (start .pre .0 .inside)))
     put-record-requires
     (λ c. search needs)
-    (λ c. search needs)
-    (λ c. search needs)
     returns-2)

@@ -1,63 +1,57 @@
 -- `show::put_record` meets its contract. Assumes nothing.
 use native.Mathlib.Omega.{arith}
-use Rattle.load.proofs.LoadLaws.{laid-length}
-use Rattle.show.proofs.ShowLaws.{recorded-size, recorded-loadable, recorded-printable, recorded-put}
+use native.Mathlib.Omega.{arith}
+use Rattle.show.proofs.ShowLaws.{recorded-headed}
 use borrow.Author.Needs.{needs}
 use Rattle.show.proofs.put_record.Statement.{statement}
 use Rattle.show.proofs.put_record.Tie as tie
 
-load-graph-requires : tie.Need-load-graph-requires
-load-graph-requires c κs =
-    let at-k : tie.After-k = search in
-    let at-kmer-size-of : tie.After-kmer-size-of = search in
-    let start : tie.Start = search in
-    recorded-loadable (start .pre .0) (start .pre .1) (at-kmer-size-of .kmer-size-of .ensures) (at-k .k .given .1)
-
-put-graph-requires : tie.Need-put-graph-requires
-put-graph-requires c κs =
-    recorded-printable
-    (start .pre .0)
-    (start .pre .1)
-    (at-load-graph .load-graph .ensures)
-    (at-load-graph .load-graph .kept .1 .1 .0)
-    (at-load-graph .load-graph .kept .1 .1 .1 .0)
+few-requires : tie.Need-few-requires
+few-requires c κs = (
+  start .pre .0,
+  (
+    start .pre .1,
+    record {
+      vertices = omega (arith, at-vertex-count .vertex-count .ensures .0, at-if1 .if1 .left);
+      edges = omega (arith, at-edge-count .edge-count .ensures .0, at-if2 .if2 .left);
+    },
+  ),
+)
   where
-    at-load-graph : tie.After-load-graph
-    at-load-graph = search
+    at-if2 : tie.Else2
+    at-if2 = search
+
+    at-edge-count : tie.After-edge-count
+    at-edge-count = let c = at-if2 in search
+
+    at-if1 : tie.Else1
+    at-if1 = let c = at-edge-count in search
+
+    at-vertex-count : tie.After-vertex-count
+    at-vertex-count = let c = at-if1 in search
 
     start : tie.Start
-    start = let c = at-load-graph in search
+    start = let c = at-vertex-count in search
 
-returns-2 : tie.Need-returns-2
-returns-2 c =
-    recorded-put (start .pre .0) (start .pre .1) (at-load-graph .load-graph .ensures) (at-put-graph .put-graph .ensures)
-  where
-    at-put-graph : tie.After-put-graph
-    at-put-graph = search
-
-    at-load-graph : tie.After-load-graph
-    at-load-graph = let c = at-put-graph in search
-
-    start : tie.Start
-    start = let c = at-load-graph in search
-
-returns : tie.Need-returns
-returns c =
-    let at-kmer-size-of : tie.After-kmer-size-of = search in
+edge-count-requires : tie.Need-edge-count-requires
+edge-count-requires c κs =
+    let at-form-of : tie.After-form-of = search in
     let start : tie.Start = search in
-    recorded-size (start .pre .0) (at-kmer-size-of .kmer-size-of .ensures) (c .enum-told .given .1)
+    recorded-headed (start .pre .0) (at-form-of .form-of .ensures)
 
 pub put-record-spec : {M : Type 1} → statement M
 put-record-spec =
     tie.close
     (tie.spec
-    (λ c κs. let start : tie.Start = search in omega (arith, laid-length (start .pre .0 .laid)))
+    (λ c κs. search needs)
+    (λ c κs. let start : tie.Start = search in recorded-headed (start .pre .0) (c .form-of .ensures))
+    (λ c κs. search needs)
     (λ c. search needs)
     (λ c. search needs)
-    returns
-    load-graph-requires
-    put-graph-requires
+    edge-count-requires
+    (λ c κs. search needs)
     (λ c. search needs)
     (λ c. search needs)
+    few-requires
     (λ c. search needs)
-    returns-2)
+    (λ c. search needs))

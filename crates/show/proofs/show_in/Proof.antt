@@ -10,7 +10,7 @@ returns c =
     let at-put-refusal : tie.After-put-refusal = search in
     let at-if1 : tie.Then1 = search in
     let start : tie.Start = search in
-    long-shown _ (at-if1 .if1 .taken) (start .pre .1 .text-room) (at-put-refusal .put-refusal .ensures)
+    long-shown _ (at-if1 .if1 .taken) (start .pre .1) (at-put-refusal .put-refusal .ensures)
 
 put-answer-requires : tie.Need-put-answer-requires
 put-answer-requires c κs = (
@@ -36,7 +36,7 @@ returns-2 c =
     (at-simplify-graph .simplify-graph .ensures)
     (at-simplify-graph .simplify-graph .kept .1 .0)
     (at-if1 .if1 .left)
-    (start .pre .1 .text-room)
+    (start .pre .1)
     (at-put-answer .put-answer .ensures)
   where
     at-put-answer : tie.After-put-answer
@@ -63,8 +63,6 @@ show-in-spec =
     returns
     (λ c κs. search needs)
     put-answer-requires
-    (λ c. search needs)
-    (λ c. search needs)
     (λ c. search needs)
     (λ c. search needs)
     returns-2)
