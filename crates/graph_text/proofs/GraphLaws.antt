@@ -1,7 +1,7 @@
 -- The lines of a held graph make its text. Assumes nothing.
 use mathlib.Core.Path.{_≡_, refl, sym, ap, _∙_, subst}
 use mathlib.Core.Bool.{Bool, true, false, cond}
-use mathlib.Core.List.{List, [], map}
+use mathlib.Core.List.{List, [], _++_, map}
 use Prim.Native.Nat.{ℕ, _+_, _*_, _-_, _≤_, _<_}
 use native.Mathlib.Omega.{arith}
 use lib.IntN.{ℤ}
@@ -23,7 +23,7 @@ use Rattle.text.specs.Printed.{ascii, field, signed, surplus, printedSequence, 
 use Rattle.text.specs.Printed.{printedGraph, printedRefusal}
 use Rattle.text.specs.Put.{TextPut}
 use Rattle.text.proofs.TextLaws.{put-then, put-as, put-most, Lines, lines-long, lines-at}
-use Rattle.graph_text.specs.GraphText.{endWithNumber, simplifiedIn, sizeIn, VertexFits, verticesMost, graphMost, VerticesFit, Printable}
+use Rattle.graph_text.specs.GraphText.{endWithNumber, simplifiedIn, sizeIn, VertexFits, verticesMost, graphMost, VerticesFit, Printable, LinesPut}
 
 -- ---- lines
 
@@ -130,11 +130,11 @@ module _ {h : Held} {es vs pool text : List ℕ} (P : Printable h es vs pool tex
   first-is q = λ i. firstLine (h .k .0) (sym (length-tab (h .n) (seqIn vs pool)) i) (sym (length-tab (h .m) (edgeIn es)) i)
       ((q ∙ sym (bytes-are sgr1 0 (h .k .0) (h .n) (h .m) es vs pool (P .within))) i)
 
-  pub graph-put : (rewrites rounds end : ℕ) {b r₁ r₂ r₃ r₄ : ℕ} {t₁ t₂ t₃ t₄ : List ℕ} → b ≡ bytesIn (h .n) vs
-      → TextPut 87 (firstLine (h .k .0) (h .n) (h .m) b) text 0 r₁ t₁ → TextPut 51 (secondLine rewrites rounds (endWithNumber end)) t₁ r₁ r₂ t₂
-      → TextPut (verticesMost (h .n) vs) (concat (tab (h .n) (λ (v : ℕ). vertexLine v (seqIn vs pool v)))) t₂ r₂ r₃ t₃
+  pub lines-put : {at r₃ r₄ : ℕ} {t₃ t₄ : List ℕ} → TextPut (verticesMost (h .n) vs) (concat (tab (h .n) (λ (v : ℕ). vertexLine v (seqIn vs pool v)))) text at r₃ t₃
       → TextPut (38 * h .m) (concat (tab (h .m) (λ (i : ℕ). edgeLine (edgeIn es i)))) t₃ r₃ r₄ t₄
-      → TextPut (graphMost h vs) (printedGraph (simplifiedIn h rewrites rounds end es vs pool)) text 0 r₄ t₄
+      → LinesPut h es vs pool text at r₄ t₄
   unfolding printedGraph nodeCount
-  graph-put rewrites rounds end q p₁ p₂ p₃ p₄ = put-most (omega arith)
-      (put-then (put-then (put-then (put-as (first-is q) p₁) p₂) (put-as vertices-are p₃)) (put-as edges-are p₄))
+  lines-put p₃ p₄ = record {
+    is = λ rewrites rounds end q p. put-most (omega arith)
+        (put-then (put-then (put-as (λ i. first-is q i ++ secondLine rewrites rounds (endWithNumber end)) p) (put-as vertices-are p₃)) (put-as edges-are p₄));
+  }

@@ -1,6 +1,7 @@
 -- The text of a held graph, and the room that it needs. Assumes nothing.
 use mathlib.Core.Bool.{cond}
-use mathlib.Core.List.{List}
+use mathlib.Core.Path.{_≡_}
+use mathlib.Core.List.{List, _++_}
 use Prim.Native.Nat.{ℕ, _+_, _*_, _≤_, _<_}
 use lib.Dec.{eqb}
 use lib.ListN.{length, getD}
@@ -9,6 +10,8 @@ use Rattle.store.specs.Store.{Within}
 use Rattle.pool.specs.Pool.{bytesIn}
 use Rattle.memory.specs.Memory.{graphOf}
 use Rattle.memory.specs.declared.Held.{Held}
+use Rattle.text.specs.Printed.{firstLine, secondLine, printedGraph}
+use Rattle.text.specs.Put.{TextPut}
 
 -- the end that a number stands for: 1 quiet, 2 repeated, 3 full
 unfoldable pub endWithNumber : ℕ → End
@@ -45,6 +48,13 @@ pub record EdgeLinesFit (m : ℕ) (es text : List ℕ) (at : ℕ) : Type 0 where
   pub es-room : 4 * m ≤ length es
   pub room : at + 38 * m ≤ length text
 
+-- counts that fit 16 bits, and room for the first two lines
+pub record HeadFits (h : Held) (b : ℕ) (text : List ℕ) : Type 0 where
+  pub n-fits : h .n < 65536
+  pub m-fits : h .m < 65536
+  pub bytes-fit : b < 4294967296
+  pub room : 138 ≤ length text
+
 -- a held graph whose counts fit 16 bits, and room for its text
 pub record Printable (h : Held) (es vs p text : List ℕ) : Type 0 where
   pub n-fits : h .n < 65536
@@ -54,3 +64,9 @@ pub record Printable (h : Held) (es vs p text : List ℕ) : Type 0 where
   pub vs-room : 2 * h .n ≤ length vs
   pub within : Within (length p) (h .n) vs
   pub room : graphMost h vs ≤ length text
+
+-- the lines of its vertices and edges; behind the first two lines they are the text of the graph
+pub record LinesPut (h : Held) (es vs p text : List ℕ) (at r : ℕ) (text′ : List ℕ) : Type 0 where
+  pub is : (rewrites rounds end : ℕ) {b : ℕ} {text₀ : List ℕ} → b ≡ bytesIn (h .n) vs
+      → TextPut 138 (firstLine (h .k .0) (h .n) (h .m) b ++ secondLine rewrites rounds (endWithNumber end)) text₀ 0 at text
+      → TextPut (graphMost h vs) (printedGraph (simplifiedIn h rewrites rounds end es vs p)) text₀ 0 r text′

@@ -1,12 +1,13 @@
 // The lines of a printed graph, from the slices.
 ghost use mathlib.Core.Bool.{cond};
+ghost use mathlib.Core.List.{_++_};
 ghost use Prim.Native.Nat.{_+_, _*_, _<_, _≤_};
 ghost use lib.ListN.{length};
 ghost use Rattle.defs.specs.Lists.{concat, tab};
 ghost use Rattle.store.specs.Store.{edgeIn, seqIn};
-ghost use Rattle.text.specs.Printed.{ascii, firstLine, endName, secondLine, vertexLine, edgeLine, printedGraph, printedRefusal};
+ghost use Rattle.text.specs.Printed.{ascii, firstLine, endName, secondLine, vertexLine, edgeLine, printedRefusal};
 ghost use Rattle.text.specs.Put.{TextPut};
-ghost use Rattle.graph_text.specs.GraphText.{endWithNumber, simplifiedIn, sizeIn, VertexFits, verticesMost, graphMost, VerticesFit, EdgeLinesFit, Printable};
+ghost use Rattle.graph_text.specs.GraphText.{endWithNumber, sizeIn, VertexFits, verticesMost, VerticesFit, EdgeLinesFit, HeadFits, Printable, LinesPut};
 use kmer::KmerSize;
 use memory::Held;
 
@@ -122,28 +123,31 @@ fn put_edges(text: &mut [u8], at: usize, es: &[u32], m: usize) -> usize
     to
 }
 
-// The whole text, at the front.
-pub fn put_graph(
+// The first two lines, of a held graph with b bytes and what was counted when it was made.
+pub fn put_head(
     text: &mut [u8],
     held: Held,
+    b: usize,
     rewrites: u32,
     rounds: u32,
     end: u32,
-    es: &[u32],
-    vs: &[u32],
-    p: &[u8],
 ) -> usize
-    requires { ⌜ Printable held (now es) (now vs) (now p) (now text) ⌝ }
-    ensures { λ r. ⌜ TextPut (graphMost held (now (vs .entry)))
-        (printedGraph (simplifiedIn held rewrites rounds end (now (es .entry)) (now (vs .entry)) (now (p .entry)))) (now (text .entry)) 0 r
+    requires { ⌜ HeadFits held b (now text) ⌝ }
+    ensures { λ r. ⌜ TextPut 138 (firstLine (held .k .0) (held .n) (held .m) b ++ secondLine rewrites rounds (endWithNumber end)) (now (text .entry)) 0 r
         (now (text .exit)) ⌝ }
+{
+    let to = put_first_line(text, held.k, held.n, held.m, b);
+    put_second_line(text, to, rewrites, rounds, end)
+}
+
+// The lines of its vertices and edges, behind those.
+pub fn put_lines(text: &mut [u8], at: usize, held: Held, es: &[u32], vs: &[u32], p: &[u8]) -> usize
+    requires { ⌜ Printable held (now es) (now vs) (now p) (now text) × (at ≤ 138) ⌝ }
+    ensures { λ r. ⌜ LinesPut held (now (es .entry)) (now (vs .entry)) (now (p .entry)) (now (text .entry)) at r (now (text .exit)) ⌝ }
 {
     let n = held.n;
     let m = held.m;
-    let bytes = write_record::sequence_bytes(vs, n);
-    let mut to = put_first_line(text, held.k, n, m, bytes);
-    to = put_second_line(text, to, rewrites, rounds, end);
-    to = put_vertices(text, to, vs, p, n);
+    let to = put_vertices(text, at, vs, p, n);
     put_edges(text, to, es, m)
 }
 

@@ -43,10 +43,10 @@ use Rattle.reread.proofs.Read.{Bytes}
 use Rattle.reread.proofs.Graphs.{answer-laid}
 use Rattle.reread.proofs.Answers.{simplify-within, simplify-reread}
 use Rattle.simplify_graph.specs.Simplifies.{Simplifies}
-use Rattle.text.specs.Printed.{printedGraph, printedRefusal, printedAnswer, inputCauses, shown}
+use Rattle.text.specs.Printed.{firstLine, secondLine, printedGraph, printedRefusal, printedAnswer, inputCauses, shown}
 use Rattle.text.specs.Put.{TextPut}
 use Rattle.text.proofs.TextLaws.{put-as, put-most}
-use Rattle.graph_text.specs.GraphText.{endWithNumber, simplifiedIn, graphMost, Printable}
+use Rattle.graph_text.specs.GraphText.{endWithNumber, graphMost, HeadFits, Printable, LinesPut}
 use Rattle.graph_text.proofs.GraphLaws.{end-back}
 use Rattle.show.specs.Show.{Recorded, FewShown, SizedToShow, RecordOf, GraphPut, Printing, answerText, AnswerPut, Shown}
 
@@ -132,16 +132,31 @@ module _ {bs : List ℕ} (R : Recorded bs) where
       room = omega (arith, text-fits, room);
     }
 
-    pub recorded-put : {made : SimplifyAnswer} {text text′ : List ℕ} {r : ℕ}
-        → TextPut (graphMost h vs′) (printedGraph (simplifiedIn h (made .rewrites) (made .rounds) (made .end) es′ vs′ bs)) text 0 r text′
-        → GraphPut made bs text r text′
-    recorded-put {made} W = record {
+    pub recorded-head : {b : ℕ} {text : List ℕ} → b ≡ bytesIn (h .n) vs′ → 344000 ≤ length text → HeadFits h b text
+    recorded-head q room = record {
+      n-fits = omega (arith, L .n, recorded-few .vertices);
+      m-fits = omega (arith, L .m, recorded-few .edges);
+      bytes-fit = omega (arith, q, bytes-is, R .bytes, limits-small (formOf bs) .bytes);
+      room = omega (arith, room);
+    }
+
+    pub recorded-countable : {v e : ℕ} {es vs : List ℕ} → FewShown v e bs → SizedToShow v e es vs → length vs′ ≡ length vs
+        → (2 * h .n ≤ length vs′) × (bytesIn (h .n) vs′ < 4294967296)
+    recorded-countable F Y a = (
+      omega (arith, a, L .n, F .vertices, Y .vs-is),
+      omega (arith, bytes-is, R .bytes, limits-small (formOf bs) .bytes),
+    )
+
+    pub recorded-put : {made : SimplifyAnswer} {text text₁ text′ : List ℕ} {b at r : ℕ} → b ≡ bytesIn (h .n) vs′
+        → TextPut 138 (firstLine (h .k .0) (h .n) (h .m) b ++ secondLine (made .rewrites) (made .rounds) (endWithNumber (made .end))) text 0 at text₁
+        → LinesPut h es′ vs′ bs text₁ at r text′ → GraphPut made bs text r text′
+    recorded-put {made} q W P = record {
       is = λ z Z. put-as (ap printedGraph (λ i. record {
         graph = (L .is ∙ Z .graph) i;
         rewrites = Z .rewrites i;
         rounds = Z .rounds i;
         end = (ap endWithNumber (Z .end) ∙ end-back (z .end)) i;
-      })) (put-most text-fits W);
+      })) (put-most text-fits (P .is (made .rewrites) (made .rounds) (made .end) q W));
     }
 
 -- ---- an answer

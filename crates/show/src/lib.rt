@@ -21,8 +21,8 @@ const SHOWN_VERTICES: usize = 16375;
 const SHOWN_EDGES: usize = 7278;
 
 // The text of the graph that a record holds, which may be past the limits of input, and of what was counted when it was made. Whole arrays, whose lengths are
-// known. The record is read here, and not in a function that both classes call: else the compiler would lay the frames of both into that of the
-// simplification, which leaves no room for them on a stack of 8 MiB.
+// known. The lines are put from here, and not by a function that both classes call: were there fewer calls here, the compiler would lay the arrays into the frame
+// that is there while the graph is simplified, and they would not fit beside it on a stack of 8 MiB.
 fn many_with(
     text: &mut [u8],
     made: SimplifyAnswer,
@@ -38,16 +38,9 @@ fn many_with(
         return 0;
     };
     let held = load::load_graph(rec, k, es, vs);
-    graph_text::put_graph(
-        text,
-        held,
-        made.rewrites,
-        made.rounds,
-        made.end,
-        es,
-        vs,
-        rec,
-    )
+    let b = write_record::sequence_bytes(vs, held.n);
+    let to = graph_text::put_head(text, held, b, made.rewrites, made.rounds, made.end);
+    graph_text::put_lines(text, to, held, es, vs, rec)
 }
 
 fn many(text: &mut [u8], made: SimplifyAnswer, rec: &[u8]) -> usize
@@ -74,16 +67,9 @@ fn few_with(
         return 0;
     };
     let held = load::load_graph(rec, k, es, vs);
-    graph_text::put_graph(
-        text,
-        held,
-        made.rewrites,
-        made.rounds,
-        made.end,
-        es,
-        vs,
-        rec,
-    )
+    let b = write_record::sequence_bytes(vs, held.n);
+    let to = graph_text::put_head(text, held, b, made.rewrites, made.rounds, made.end);
+    graph_text::put_lines(text, to, held, es, vs, rec)
 }
 
 fn few(text: &mut [u8], made: SimplifyAnswer, rec: &[u8]) -> usize
@@ -95,8 +81,7 @@ fn few(text: &mut [u8], made: SimplifyAnswer, rec: &[u8]) -> usize
     few_with(text, made, rec, &mut es, &mut vs)
 }
 
-// In arrays of the class that the counts ask for. The long ones stand behind two tests: with one call of `many` the compiler would lay its frame into
-// this one.
+// In arrays of the class that the counts ask for. The long ones stand behind two tests, for the same reason.
 fn put_record(text: &mut [u8], made: SimplifyAnswer, rec: &[u8]) -> usize
     requires { ⌜ Recorded (now rec) × (344000 ≤ length (now text)) ⌝ }
     ensures { λ r. ⌜ GraphPut made (now (rec .entry)) (now (text .entry)) r (now (text .exit)) ⌝ }
