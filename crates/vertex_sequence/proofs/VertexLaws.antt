@@ -8,12 +8,17 @@ use native.Mathlib.Decide.{ℕ-discrete}
 use lib.ListN.{length, take, drop}
 use lib.Dec.{eqb}
 use borrow.Author.Tests.{eq-eqb, ne-eqb, le-leb, lt-leb}
+use Rattle.defs.specs.Forms.{formOf}
 use Rattle.defs.specs.SeqGraph.{vertexSequence}
 use Rattle.defs.specs.Record.{kindOf, kOf, verticesOf, lengthAt, sequenceStart, decode}
 use Rattle.defs.specs.Refusals.{bothKinds, refusalOf, layoutCauses, recordRefusal, doubledEdge, equalKmers, doubled, hasCycle}
 use Rattle.defs.specs.Calls.{vertexSequenceCauses, vertexSequenceNumber, vertexSequencePart}
 use Rattle.laws.proofs.Walks.{byTest}
 use Rattle.laws.proofs.ListLaws.{byOrder}
+use Rattle.form.specs.declared.Form.{Form}
+use Rattle.form.specs.Coded.{formIs}
+use Rattle.form.proofs.FormLaws.{limits-small}
+use Rattle.record.specs.Headed.{Headed, LengthInside}
 use Rattle.record.specs.Kinds.{takesOf}
 use Rattle.record.specs.declared.Takes.the-variants.{BothKinds}
 use Rattle.kmer.specs.declared.KmerSize.{KmerSize}
@@ -22,7 +27,7 @@ use Rattle.record.specs.declared.Layout.{Layout}
 use Rattle.record.specs.declared.Layout.the-variants.{Formed, Refused}
 use Rattle.record.proofs.Accepted.{well-formed, formed-none, formed-size, refused-number, refused-some}
 use Rattle.record.proofs.Fields.{sequenceAt-is}
-use Rattle.record.proofs.Sequences.{vertex-is, sequence-inside, length-is, bytes-most}
+use Rattle.record.proofs.Sequences.{vertex-is, sequence-inside, length-least, length-most, formed-headed, formed-length}
 use Rattle.store.specs.Store.{edgesIn, seqsIn}
 use Rattle.index.specs.Index.{Indexed, Indexable}
 use Rattle.cycle.specs.Peel.{HasCycle}
@@ -32,9 +37,10 @@ use Rattle.load.proofs.LoadLaws.{formed-laid}
 use Rattle.sound.proofs.Accepted.{refused-early, refused-6, refused-7, accepted, accepted-layout}
 use Rattle.sequence.specs.Part.{Part}
 use Rattle.read_kmers.specs.Kmers.{Doubles}
-use Rattle.arrays.specs.Sized.{FewToRead, SizedToMark}
+use Rattle.accept.specs.Accept.{RoomFor, RoomToMark}
+use Rattle.arrays.specs.Sized.{FewToRead}
 use Rattle.calls.proofs.CauseLaws.{behind-refused, behind-present, behind-absent}
-use Rattle.vertex_sequence.specs.Checks.{Checkable, Checks}
+use Rattle.vertex_sequence.specs.Checks.{Checkable, Checks, LoadedToCheck}
 use Rattle.vertex_sequence.specs.Handed.{Handed, Placed}
 
 -- ---- the checks behind the layout
@@ -77,66 +83,82 @@ module _ (bs : List ℕ) {r : Layout} (e : r ≡ layoutOf (refusalOf (layoutCaus
     unfolding takesOf
     layout-none = formed-none bothKinds bs e ok
 
-    formed : WellFormed bs
-    formed = well-formed bothKinds bs layout-none
-
-    pub long-enough : 32 ≤ length bs
-    long-enough = omega (arith, length-is bs formed)
-
     -- in arrays for a vertices and b edges
-    module _ {a b : ℕ} (F : FewToRead a b bs) where
-      pub number-loadable : {es vs : List ℕ} → length es ≡ 4 * b → length vs ≡ 2 * a → (k .0 ≡ kOf bs) × Loadable bs es vs
-      number-loadable p q = (
-        formed-size (takesOf BothKinds) bs e ok,
-        record { laid = formed-laid formed; es-room = omega (arith, F .edges formed); vs-room = omega (arith, F .vertices formed) },
-      )
+    pub number-loadable : {a b : ℕ} → FewToRead a b bs → {es vs : List ℕ} → length es ≡ 4 * b → length vs ≡ 2 * a
+        → (k .0 ≡ kOf bs) × Loadable bs es vs
+    number-loadable F p q =
+        let formed = well-formed bothKinds bs layout-none in (
+          formed-size (takesOf BothKinds) bs e ok,
+          record { laid = formed-laid formed; es-room = omega (arith, F .edges formed); vs-room = omega (arith, F .vertices formed) },
+        )
 
-      module _ {h : Held} {es vs : List ℕ} (L : Loaded bs h es vs) {heads nexts : List ℕ} where
-        pub number-indexable : length es ≡ 4 * b → length heads ≡ 2 * a → length nexts ≡ 2 * b → Indexable (h .m) (h .n) es heads nexts
-        number-indexable p q s = record {
-          room = omega (arith, L .m, F .edges formed);
-          heads-room = omega (arith, L .n, F .vertices formed);
-          nexts-room = omega (arith, L .m, F .edges formed);
-          small = omega (arith, L .m, formed .edges);
-          ends = L .ends;
-        }
+    pub loaded-to-check : {h : Held} {es vs heads nexts order scratch place : List ℕ} → Loaded bs h es vs
+        → RoomToMark bs es vs heads nexts order scratch place → LoadedToCheck bs h es vs heads nexts order scratch place
+    loaded-to-check L R = record { none = layout-none; loaded = L; room = R }
 
-        pub number-checkable : {order scratch place : List ℕ} → Indexed (h .m) (h .n) es heads nexts
-            → SizedToMark a b es vs heads nexts order scratch place → Checkable (h .m) (h .n) es vs bs heads nexts order scratch place
-        number-checkable I Z =
-            let few = F .vertices formed in
-            record {
-              indexed = I;
-              markable = record { room = omega (arith, L .n, few, Z .reading .mp-is); small = omega (arith, L .n, formed .vertices) };
-              sortable = record {
-                order-room = omega (arith, L .n, few, Z .reading .nodes-is);
-                scratch-room = omega (arith, L .n, few, Z .reading .mp-is);
-                small = omega (arith, L .n, formed .vertices);
-                keys = λ v c. record { room = omega (arith, L .n, few, Z .reading .vs-is); inside = L .within .at v c };
-              };
-              peelable = record {
-                degrees-room = omega (arith, L .n, few, Z .reading .mp-is);
-                queue-room = omega (arith, L .n, few, Z .marks-is);
-                small = omega (arith, L .n, formed .vertices);
-              };
-              few = omega (arith, L .m, formed .edges);
-            }
+module _ {bs : List ℕ} {h : Held} {es vs heads nexts order scratch place : List ℕ} (H : LoadedToCheck bs h es vs heads nexts order scratch place) where
+  formed : WellFormed bs
+  formed = well-formed bothKinds bs (H .none)
 
-    module _ {h : Held} {es vs : List ℕ} (L : Loaded bs h es vs) where
-      number-is : {kmers : Bool} {n : ℕ} → kmers ≡ eqb (kindOf bs) 0 → Checks kmers (h .m) (h .n) es vs bs n → n
-          ≡ cond (doubled bs) 6 (cond (hasCycle (decode bs)) 7 0)
-      unfolding doubled
-      number-is q C = C .is (h .k .0) ∙ (λ i. cond (doubledEdge ((L .is i) .edges) || (q i && equalKmers ((L .is i) .verts))) 6 (cond (hasCycle (L .is i)) 7 0))
+  room : RoomFor bs es vs heads nexts order scratch
+  room = H .room .reading .room formed
 
-      by-tests : cond (doubled bs) 6 (cond (hasCycle (decode bs)) 7 0) ≡ recordRefusal bothKinds bs
-      by-tests = byTest (doubled bs)
-          (λ d. rw d (sym (refused-6 bothKinds bs layout-none d)))
-          (λ d. byTest (hasCycle (decode bs))
-          (λ c. rw (d, c) (sym (refused-7 bothKinds bs layout-none d c)))
-          (λ c. rw (d, c) (sym (accepted bothKinds bs layout-none d c))))
+  n-small : h .n < 4294967296
+  n-small = omega (arith, H .loaded .n, formed .vertices, limits-small (formOf bs) .vertices)
 
-      pub number-late : {kmers : Bool} {n : ℕ} → kmers ≡ eqb (kindOf bs) 0 → Checks kmers (h .m) (h .n) es vs bs n → n ≡ recordRefusal bothKinds bs
-      number-late q C = number-is q C ∙ by-tests
+  m-small : h .m < 4294967296
+  m-small = omega (arith, H .loaded .m, formed .edges, limits-small (formOf bs) .edges)
+
+  -- its kind can be read
+  pub loaded-long : 32 ≤ length bs
+  loaded-long = omega (arith, length-least bs formed)
+
+  pub loaded-indexable : Indexable (h .m) (h .n) es heads nexts
+  loaded-indexable = record {
+    room = omega (arith, H .loaded .m, room .es-room);
+    heads-room = omega (arith, H .loaded .n, room .heads-room);
+    nexts-room = omega (arith, H .loaded .m, room .nexts-room);
+    small = m-small;
+    ends = H .loaded .ends;
+  }
+
+  pub loaded-checkable : {heads′ nexts′ : List ℕ} → Indexed (h .m) (h .n) es heads′ nexts′
+      → Checkable (h .m) (h .n) es vs bs heads′ nexts′ order scratch place
+  loaded-checkable I =
+      let n = H .loaded .n in
+      record {
+        indexed = I;
+        markable = record { room = omega (arith, n, room .mp-room); small = n-small };
+        sortable = record {
+          order-room = omega (arith, n, room .nodes-room);
+          scratch-room = omega (arith, n, room .mp-room);
+          small = n-small;
+          keys = λ v c. record { room = omega (arith, n, room .vs-room); inside = H .loaded .within .at v c };
+        };
+        peelable = record {
+          degrees-room = omega (arith, n, room .mp-room);
+          queue-room = omega (arith, n, H .room .marks-room formed);
+          small = n-small;
+        };
+        few = m-small;
+      }
+
+  number-is : {kmers : Bool} {n : ℕ} → kmers ≡ eqb (kindOf bs) 0 → Checks kmers (h .m) (h .n) es vs bs n → n
+      ≡ cond (doubled bs) 6 (cond (hasCycle (decode bs)) 7 0)
+  unfolding doubled
+  number-is q C =
+      let is = H .loaded .is in
+      C .is (h .k .0) ∙ (λ i. cond (doubledEdge ((is i) .edges) || (q i && equalKmers ((is i) .verts))) 6 (cond (hasCycle (is i)) 7 0))
+
+  by-tests : cond (doubled bs) 6 (cond (hasCycle (decode bs)) 7 0) ≡ recordRefusal bothKinds bs
+  by-tests = byTest (doubled bs)
+      (λ d. rw d (sym (refused-6 bothKinds bs (H .none) d)))
+      (λ d. byTest (hasCycle (decode bs))
+      (λ c. rw (d, c) (sym (refused-7 bothKinds bs (H .none) d c)))
+      (λ c. rw (d, c) (sym (accepted bothKinds bs (H .none) d c))))
+
+  pub number-late : {kmers : Bool} {n : ℕ} → kmers ≡ eqb (kindOf bs) 0 → Checks kmers (h .m) (h .n) es vs bs n → n ≡ recordRefusal bothKinds bs
+  number-late q C = number-is q C ∙ by-tests
 
 -- ---- the vertex
 
@@ -158,8 +180,8 @@ module _ (bs : List ℕ) (v : ℕ) where
   pub record-zero : {r : ℕ} → r ≡ recordRefusal bothKinds bs → r ≡ 0 → recordRefusal bothKinds bs ≡ 0
   record-zero e z = sym e ∙ z
 
-  pub record-long : recordRefusal bothKinds bs ≡ 0 → 32 ≤ length bs
-  record-long z = omega (arith, length-is bs (accepted-layout bothKinds bs z))
+  pub record-headed : recordRefusal bothKinds bs ≡ 0 → {form : Form} → formIs form ≡ formOf bs → Headed form bs
+  record-headed z = formed-headed (accepted-layout bothKinds bs z)
 
   pub vertex-known : vertexSequenceNumber bs v ≡ 0 → WellFormed bs × (v < verticesOf bs)
   vertex-known z = elim (ℕ-discrete (recordRefusal bothKinds bs) 0) [
@@ -191,6 +213,9 @@ module _ (bs : List ℕ) (v : ℕ) where
     pub placed-none : (told ≡ 0 → ⊥) → Placed bs v told record { offset = 0; length = 0 }
     placed-none o = record { number = e; offset = rw (ne-eqb told 0 o) refl; size = rw (ne-eqb told 0 o) refl; part = part-none e o }
 
+    pub placed-inside : told ≡ 0 → {form : Form} → formIs form ≡ formOf bs → LengthInside form bs v
+    placed-inside z is = let k = known z in formed-length (k .0) is v (k .1)
+
     pub placed-part : (z : told ≡ 0) {at len : ℕ} → at ≡ sequenceStart bs v → len ≡ lengthAt bs v → Placed bs v told record { offset = at; length = len }
     placed-part z {at} {len} a b = record {
       number = e;
@@ -202,4 +227,4 @@ module _ (bs : List ℕ) (v : ℕ) where
     pub placed-small : (z : told ≡ 0) → sequenceStart bs v + lengthAt bs v < 4294967296
     placed-small z =
         let W = (known z) .0 in
-        omega (arith, sequence-inside bs v ((known z) .1) W, length-is bs W, W .vertices, W .edges, bytes-most bs W)
+        omega (arith, sequence-inside bs v ((known z) .1) W, length-most bs W)

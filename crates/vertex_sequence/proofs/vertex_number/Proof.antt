@@ -1,12 +1,9 @@
 -- `vertex_sequence::vertex_number` meets its contract. Assumes nothing.
 use native.Mathlib.Omega.{arith}
-use Rattle.vertex_sequence.proofs.VertexLaws.{vertex-refused, record-zero, record-long, vertex-9, vertex-0}
+use Rattle.vertex_sequence.proofs.VertexLaws.{vertex-refused, record-zero, record-headed, vertex-9, vertex-0}
 use borrow.Author.Needs.{needs}
 use Rattle.vertex_sequence.proofs.vertex_number.Statement.{statement}
 use Rattle.vertex_sequence.proofs.vertex_number.Tie as tie
-
-checked-record-requires : tie.Need-checked-record-requires
-checked-record-requires c κs = search needs
 
 returns : tie.Need-returns
 returns c =
@@ -15,11 +12,13 @@ returns c =
 
 vertex-count-requires : tie.Need-vertex-count-requires
 vertex-count-requires c κs =
+    let at-if1 : tie.Else1 = search in
     let at-checked-record : tie.After-checked-record = search in
     let start : tie.Start = search in
-    record-long _
+    record-headed _
     (start .args .v)
-    (record-zero _ (start .args .v) (at-checked-record .checked-record .ensures) (c .if1 .left))
+    (record-zero _ (start .args .v) (at-checked-record .checked-record .ensures) (at-if1 .if1 .left))
+    (c .form-of .ensures)
 
 returns-2 : tie.Need-returns-2
 returns-2 c =
@@ -59,4 +58,11 @@ returns-3 c =
 
 pub vertex-number-spec : {M : Type 1} → statement M
 vertex-number-spec =
-    tie.close (tie.spec checked-record-requires returns vertex-count-requires returns-2 returns-3)
+    tie.close
+    (tie.spec
+    (λ c κs. search needs)
+    returns
+    (λ c κs. search needs)
+    vertex-count-requires
+    returns-2
+    returns-3)
