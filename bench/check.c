@@ -1,6 +1,6 @@
 /*
  * How long a record's checks take (refusals 1 to 7, by the call for a vertex's sequence), against reading its bytes once: records at the limits
- * of both kinds, and 2^20 bytes that are no record. Times are medians; a sum of the bytes stands for reading.
+ * of both kinds and both forms, and 2^20 bytes that are no record. Times are medians; a sum of the bytes stands for reading.
  */
 #define _GNU_SOURCE
 #include "../include/seq_graph.h"
@@ -9,28 +9,31 @@
 #include <stdlib.h>
 #include <time.h>
 
-enum { RUNS = 101, VERTICES = 2048, EDGES = 4096, K = 128, ROOM = 1 << 20 };
+enum { RUNS = 101, K = 128, VERTICES = 32768, GARBAGE = 1 << 20 };
 
-static uint8_t rec[ROOM];
+/* The longest record has k-mers at SGR2's limits. */
+static uint8_t rec[36 + 4 * VERTICES + 13 * 2 * VERTICES + K * VERTICES];
 static volatile unsigned long sink;
 
-/* 2,048 vertices of this many bytes, each different from the others; each leads to the next two. */
-static size_t at_the_limits(unsigned kind, unsigned each) {
-    const unsigned v = VERTICES, e = 2 * VERTICES - 3;
-    uint8_t *bytes = rec + HEADER + 2 * v + 9 * e;
-    put_header(rec, kind, K, v, e, v * each);
+/* As many vertices as the form admits, of this many bytes, each different from the others; each leads to the next two. */
+static size_t at_the_limits(const form *f, unsigned kind, unsigned each) {
+    const unsigned v = f->vertices, e = 2 * v - 3;
+    uint8_t *bytes = rec + bytes_at(f, v, e);
+    put_header(f, rec, kind, K, v, e, v * each);
     for (unsigned i = 0; i < v; i++) {
-        put(rec + HEADER + 2 * i, 2, each);
+        put_length(f, rec, i, each);
         memset(bytes + each * i, 'A', each);
         put(bytes + each * i + each - 2, 2, i);
     }
-    for (unsigned i = 0; i < e; i++) put_edge(rec, v, i, (edge){i / 2, i / 2 + 1 + i % 2, 1, 1});
-    return HEADER + 2 * v + 9 * e + v * each;
+    for (unsigned i = 0; i < e; i++) put_edge(f, rec, v, i, (edge){i / 2, i / 2 + 1 + i % 2, 1, 1});
+    return bytes_at(f, v, e) + v * each;
 }
 
-static size_t random_bytes(void) {
-    for (size_t i = 0; i < ROOM; i++) rec[i] = (uint8_t)rand();
-    return ROOM;
+/* No record, behind this mark. */
+static size_t garbage(const form *f) {
+    for (size_t i = 0; i < GARBAGE; i++) rec[i] = (uint8_t)rand();
+    memcpy(rec, f->mark, 4);
+    return GARBAGE;
 }
 
 static int by_size(const void *a, const void *b) {
@@ -63,13 +66,17 @@ static void show(const char *name, size_t length) {
         once[i] = microseconds() - middle;
     }
     double c = median(check), o = median(once);
-    printf("%-36s %9zu %7u %10.1f %10.1f %8.1f\n", name, length, number, c, o, c / o);
+    printf("%-45s %9zu %7u %10.1f %10.1f %8.1f\n", name, length, number, c, o, c / o);
 }
 
+/* The call takes under 3 MiB of stack; a program's first thread usually has 8. */
 int main(void) {
-    printf("%-36s %9s %7s %10s %10s %8s\n", "record", "bytes", "number", "check us", "read us", "ratio");
-    show("k-mers, 2,048 of 128, 4,093 edges", at_the_limits(KMERS, K));
-    show("sequences, 2,048 of 4, 4,093 edges", at_the_limits(SEQUENCES, 4));
-    show("no record", random_bytes());
+    printf("%-45s %9s %7s %10s %10s %8s\n", "record", "bytes", "number", "check us", "read us", "ratio");
+    show("SGR1: k-mers, 2,048 of 128, 4,093 edges", at_the_limits(&SGR1, KMERS, K));
+    show("SGR1: sequences, 2,048 of 4, 4,093 edges", at_the_limits(&SGR1, SEQUENCES, 4));
+    show("SGR2: k-mers, 32,768 of 128, 65,533 edges", at_the_limits(&SGR2, KMERS, K));
+    show("SGR2: sequences, 32,768 of 4, 65,533 edges", at_the_limits(&SGR2, SEQUENCES, 4));
+    show("no record, begins SGR1", garbage(&SGR1));
+    show("no record, begins SGR2", garbage(&SGR2));
     return 0;
 }

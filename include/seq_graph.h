@@ -1,17 +1,34 @@
 /*
  * The sequence graph's calls, from libsg.a (`rt staticlib sg` writes target/staticlib/libsg.a).
  *
- * A record is read from `record` and `length`. A call that makes a record or a string writes it to `out`, of which `room` bytes
- * are lent: the first `length` bytes of the answer are written and no others; a refused call writes none. With 176,160 bytes of
- * room no call is refused with 11; with 49,184 sg_from_assembly_graph and sg_clean_non_ref_paths are not, and with 8,192 the two
- * that write a string. Nothing is asked of the bytes, and every call returns.
+ * A record is read from `record` and `length`. It has one of two forms, SGR1 or SGR2, named by its first four bytes; SGR2 has wider
+ * fields and larger limits (docs/FORMAT.md has both, byte by byte). Every call takes both, and the record that a call writes has the form
+ * of the one handed in. A record that begins SGR2 is judged as SGR2, every other one as SGR1.
+ *
+ * A call that makes a record or a string writes it to `out`, of which `room` bytes are lent: the first `length` bytes of the answer are
+ * written and no others; a refused call writes none. Nothing is asked of the bytes, and every call returns. No call is refused with 11 that
+ * has so many bytes of room:
+ *
+ *                                                                          SGR1         SGR2
+ *    sg_simplify_graph, sg_cleanup_seq_graph                            176,160    4,194,340
+ *    sg_from_assembly_graph, sg_clean_non_ref_paths                      49,184    1,114,148
+ *    sg_reference_path_bytes, sg_path_bases_bytes                         8,192      131,072
  *
  * A record that a call has written can be handed in again: it is read as the graph that was written. One of sg_from_assembly_graph
  * or sg_clean_non_ref_paths is accepted. One of sg_simplify_graph or sg_cleanup_seq_graph is accepted too, or refused with 3, if it
- * has over 2,048 vertices or over 4,096 edges.
+ * has more vertices or edges than its form admits. The limits:
+ *
+ *                                                                          SGR1         SGR2
+ *    vertices                                                             2,048       32,768
+ *    edges                                                                4,096       65,536
+ *    sequence bytes of a sequence graph, and of what is converted         8,192      131,072
+ *    vertices of an answer                                               10,240      163,840
+ *    edges of an answer                                                  16,384      262,144
+ *
+ * In both k is 2 to 128, and an answer has no more sequence bytes than a record handed in may have.
  *
  * An edge's flag is 1 for a reference edge, and 2 more for one whose support was capped: a sum of supports in it passed 2^32 - 1. A
- * capped edge stays capped through every call (docs/FORMAT.md).
+ * capped edge stays capped through every call.
  *
  * Every call but sg_vertex_sequence names its caller, 0 to 15, and is counted in the table that is lent to it: sixteen tallies, one
  * for each caller, 192 bytes. A new table is all zeros. A call raises counts of its own caller and leaves every field of the other
@@ -22,18 +39,30 @@
  * read nor each other. A call keeps nothing, and two may run at once on different memory. During a call nothing else may read or
  * write its table: callers on several threads need a table each, or a lock around every call on a table that they share.
  *
- * No call allocates. Each has its arrays on the stack, small ones for a small record: of at most 1,024 bytes, or of small counts; the
- * first two below have medium ones as well. The README has the exact rule ("Link the library"); it holds of bytes that are no record too,
- * and a call refused with 18 counts as one on a small record. Tested: a call takes at most so many bytes of stack:
+ * No call allocates. Each has its arrays on the stack, as long as the class of its record needs. The class goes by the record's length
+ * and by the counts in its header: V vertices, E edges, B sequence bytes, where the record's own form has them (SGR1: V at 8 and E at 10
+ * in two bytes, B at 12 in four; SGR2: V at 8, E at 12, B at 16 in four each). Bytes that are no record go by the same rule, and a call
+ * refused with 18 counts as one on a small record. The first class that fits is the record's; B / 4 is rounded down, and no sum wraps:
  *
- *                                                                   small      medium     any other
- *    sg_simplify_graph, sg_cleanup_seq_graph                      131,072     294,912     1,572,864
- *    sg_from_assembly_graph                                        49,152                   262,144
- *    sg_clean_non_ref_paths, sg_reference_path_bytes,
- *    sg_path_bases_bytes, sg_vertex_sequence                       32,768                   196,608
+ *    sg_simplify_graph, sg_cleanup_seq_graph                                             bytes of stack, at most
+ *       small    at most 1,024 bytes; or V + B < 1,024 and E + B / 4 <= 256                              131,072
+ *       medium   V + B < 2,048 and E + B / 4 <= 1,024                                                    294,912
+ *       large    does not begin SGR2; or V + B <= 10,240 and E + B / 4 <= 6,144                        1,572,864
+ *       huge     at most 65,536 bytes; or V + B < 65,536 and E + B / 4 <= 16,384                       7,864,320
+ *       vast     every other record                                                                   23,068,672
  *
- * A thread needs some more for itself; the test gives it 16,384 bytes. So a thread of 256 KiB is enough for each call on a small record,
- * and one of 2 MiB for each call.
+ *    sg_from_assembly_graph (first column), and sg_clean_non_ref_paths, sg_reference_path_bytes, sg_path_bases_bytes,
+ *    sg_vertex_sequence (second)                                                         bytes of stack, at most
+ *       small    at most 1,024 bytes; or V <= 512 and E <= 512                              49,152        32,768
+ *       large    does not begin SGR2; or V <= 2,048 and E <= 4,096                         262,144       196,608
+ *       vast     every other record                                                      4,194,304     2,621,440
+ *
+ * So much is tested. A thread needs some more for itself; the test gives it 16,384 bytes. So for each call
+ *
+ *    a thread of 256 KiB is enough on every small record,
+ *    one of 2 MiB on every record that does not begin SGR2, and on SGR2 records within the limits of SGR1,
+ *    one of 8 MiB on every record of at most 65,536 bytes,
+ *    one of 32 MiB on every record.
  *
  * Below the stack there must be a guard page, one that faults when it is touched. Threads have one unless it was turned off
  * (pthread_attr_setguardsize); a stack of one's own (pthread_attr_setstack) has none unless one is made (mprotect). With it, a call on too
@@ -42,14 +71,14 @@
  *
  * `number` is 0, or why the call was refused; all other fields of the answer are 0 then:
  *
- *    1  under 32 bytes, or not the length it states
+ *    1  under 32 bytes, of a record that begins SGR2 under 36; or not the length it states
  *    2  mark, kind for this call, or status
- *    3  a count or k past a limit
+ *    3  a count or k past a limit of the record's form
  *    4  offsets, whole length, lengths or byte count disagree
  *    5  an edge end not below the count of vertices, or a flag above 3
  *    6  two edges with the same ends, or in a k-mer graph two equal k-mers
  *    7  a cycle, a self edge included
- *    8  conversion would give over 8,192 bytes
+ *    8  conversion would give over 8,192 bytes, of an SGR2 record over 131,072
  *    9  the start or the vertex wanted is not below the count of vertices, or the list of edges is no path
  *   10  there is no reference path
  *   11  the output is shorter than the result

@@ -9,11 +9,14 @@ import graphs
 from model import (
     CALLERS, NO_COUNTS, Tally, answer, encode_graph, finish, from_assembly_graph, outcome_of, vertex_sequence,
 )
-from sgr1 import (
-    CALLS, FROM_ASSEMBLY_GRAPH, MAX_U32, PATH_BASES_BYTES, SEQUENCE, VERTEX_SEQUENCE, Refused, encode, read_record,
+from records import (
+    CALLS, FROM_ASSEMBLY_GRAPH, MAX_U32, PATH_BASES_BYTES, SEQUENCE, VERTEX_SEQUENCE, Refused, encode, edges_in, form_of,
+    read_record, sequences_in,
 )
 
 LABEL = 7
+# Who judges the cases behind a label: the model and the Rust, or the model alone.
+MODEL_AND_RUST, MODEL_ALONE = 0, 1
 NO_OVERLAP = 15
 SEQUENCE_CALLS = [c for c in CALLS if c not in (VERTEX_SEQUENCE, FROM_ASSEMBLY_GRAPH)]
 # Callers above 15: the next ones; some whose low bits are a caller's; ends of ranges; some at which twelve bytes for
@@ -36,8 +39,8 @@ def frame(case):
     return struct.pack("<I", len(body)) + body
 
 
-def label_frame(text):
-    body = struct.pack("<I", LABEL) + text.encode()
+def label_frame(text, judges):
+    body = struct.pack("<2I", LABEL, judges) + text.encode()
     return struct.pack("<I", len(body)) + body
 
 
@@ -83,7 +86,7 @@ def converted_unasked(record):
         graph = from_assembly_graph(read_record(VERTEX_SEQUENCE, record))
     except Refused as refused:
         return refused.number
-    return encode_graph(graph, 0), (0, 0, 0), 0
+    return encode_graph(form_of(record), graph, 0), (0, 0, 0), 0
 
 
 def cases_of(rng, call, record, start=0, numbers=(), all_rooms=False):
@@ -103,23 +106,35 @@ def cases_of(rng, call, record, start=0, numbers=(), all_rooms=False):
 # Inputs of a graph's record
 
 
-def sequence_record(rng, graph):
-    return encode(SEQUENCE, rng.randrange(3), rng.choice([2, 10, 25, 128]), *graph)
+def sequence_record(rng, form, graph):
+    return encode(form, SEQUENCE, rng.randrange(3), rng.choice([2, 10, 25, 128]), *graph)
+
+
+def walk_from(rng, graph, start, often):
+    """The list of a path from this vertex, which goes on so often."""
+    followers = {}
+    for a, b, _, _ in graph[1]:
+        followers.setdefault(a, []).append(b)
+    numbers, v = [], start
+    while v in followers and rng.random() < often:
+        w = rng.choice(followers[v])
+        numbers += [v, w]
+        v = w
+    return numbers
 
 
 def random_walk(rng, graph):
     """A start and the list of a path from it."""
-    sequences, edges = graph
-    followers = {}
-    for a, b, _, _ in edges:
-        followers.setdefault(a, []).append(b)
-    start = v = rng.randrange(len(sequences)) if sequences else 0
-    numbers = []
-    while v in followers and rng.random() < 0.85:
-        w = rng.choice(followers[v])
-        numbers += [v, w]
-        v = w
-    return start, numbers
+    start = rng.randrange(len(graph[0])) if graph[0] else 0
+    return start, walk_from(rng, graph, start, 0.85)
+
+
+def whole_walk(rng, record):
+    """Start and list of a path through the record's graph, from one end to another."""
+    graph = sequences_in(record), edges_in(record)
+    inner = {x[1] for x in graph[1]}
+    start = rng.choice([x[0] for x in graph[1] if x[0] not in inner])
+    return start, walk_from(rng, graph, start, 1)
 
 
 def spoiled_walk(rng, graph):
@@ -146,9 +161,9 @@ def vertex_for(rng, graph):
     return rng.choice([rng.randrange(last) if last else 0, last, max(0, last - 1), MAX_U32, last + 65536])
 
 
-def cases_of_graph(rng, graph, calls=CALLS, all_rooms=False):
+def cases_of_graph(rng, form, graph, calls=CALLS, all_rooms=False):
     """Every call that takes a sequence graph, with arguments that fit and that do not."""
-    record = sequence_record(rng, graph)
+    record = sequence_record(rng, form, graph)
     for call in calls:
         if call == VERTEX_SEQUENCE:
             yield from cases_of(rng, call, record, vertex_for(rng, graph))
@@ -159,9 +174,9 @@ def cases_of_graph(rng, graph, calls=CALLS, all_rooms=False):
             yield from cases_of(rng, call, record, all_rooms=all_rooms)
 
 
-def cases_of_kmers(rng, k, graph, all_rooms=False):
+def cases_of_kmers(rng, form, k, graph, all_rooms=False):
     """Conversion and the sequence call; the other calls on what conversion makes, or would make if it did not ask 15."""
-    record = graphs.kmer_record(k, graph)
+    record = graphs.kmer_record(form, k, graph)
     yield from cases_of(rng, VERTEX_SEQUENCE, record, vertex_for(rng, graph))
     yield from cases_of(rng, FROM_ASSEMBLY_GRAPH, record, all_rooms=all_rooms)
     outcome = converted_unasked(record)

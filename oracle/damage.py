@@ -1,10 +1,11 @@
 """Records with faults: each field, each byte and each length of a good one, and several faults at once."""
-import struct
+from records import FORMS, KMER, MAX_K, MAX_U32, MIN_K, SEQUENCE, SGR1, SGR2, counts_of, edges_in, form_of, layout
 
-from sgr1 import HEADER, KMER, MAX_BYTES, MAX_EDGES, MAX_K, MAX_VERTICES, MIN_K, SEQUENCE, layout
 
-HEADER_FIELDS = [(0, 4), (4, 1), (5, 1), (6, 2), (8, 2), (10, 2), (12, 4), (16, 4), (20, 4), (24, 4), (28, 4)]
-WHOLE = 28
+def header_fields(form):
+    """(place, size) of each field of the header."""
+    sizes = [4, 1, 1, 2, form.word.size, form.word.size, 4, 4, 4, 4, 4]
+    return [(sum(sizes[:i]), size) for i, size in enumerate(sizes)]
 
 
 def with_number(record, at, size, value):
@@ -12,17 +13,31 @@ def with_number(record, at, size, value):
 
 
 def with_whole_length(record):
-    """The same bytes, stating their own length."""
-    return with_number(record, WHOLE, 4, len(record)) if len(record) >= HEADER else record
+    """The same bytes, stating their own length, if they are long enough to state one."""
+    header = form_of(record).header.size
+    return with_number(record, header - 4, 4, len(record)) if len(record) >= header else record
+
+
+def limits_of(form):
+    return [form.max_vertices, form.max_edges, form.max_bytes]
+
+
+def field_values(form, value):
+    """Near this value, past a limit, the last; in SGR2 also at limits, and such that four times as much wraps."""
+    values = {0, 1, MIN_K - 1, MAX_K, MAX_K + 1, value - 1, value + 1, value + 65536, -1}
+    values |= {limit + 1 for limit in limits_of(form)}
+    if form == SGR2:
+        values |= {value - 4, value + 4, *limits_of(SGR1), *limits_of(SGR2)}
+        values |= {value + 2**30, value + 2**31, 2**30 - form.header.size // 4}
+    return values
 
 
 def damaged_fields(record):
     """Each header field: its neighbours, the ends of its range and the limits."""
-    limits = [0, 1, MIN_K - 1, MAX_K, MAX_K + 1, MAX_VERTICES + 1, MAX_EDGES + 1, MAX_BYTES + 1]
-    for at, size in HEADER_FIELDS:
+    form = form_of(record)
+    for at, size in header_fields(form):
         value = int.from_bytes(record[at : at + size], "little")
-        near = {value - 1, value + 1, value + 65536, 256**size - 1, *limits}
-        for other in sorted({n % 256**size for n in near} - {value}):
+        for other in sorted({n % 256**size for n in field_values(form, value)} - {value}):
             yield with_number(record, at, size, other)
 
 
@@ -35,7 +50,7 @@ def damaged_bytes(record):
 def damaged_lengths(record):
     for n in range(len(record)):
         yield record[:n]
-        if n >= HEADER:
+        if n >= form_of(record).header.size:
             yield with_whole_length(record[:n])
     for more in (b"\0", b"A", record):
         yield record + more
@@ -50,17 +65,18 @@ def damaged(record):
 
 def with_flags(record):
     """Each of the record's edges with each flag that is taken and with some that are not."""
-    v, e = struct.unpack_from("<HH", record, 8)
-    for edge in range(e):
+    form = form_of(record)
+    _, edges_at, _, _ = layout(form, *counts_of(record))
+    for edge in range(1, 1 + len(edges_in(record))):
         for flag in (0, 1, 2, 3, 4, 5, 6, 7, 8, 127, 128, 129, 130, 131, 254, 255):
-            yield with_number(record, HEADER + 2 * v + 9 * edge + 8, 1, flag)
+            yield with_number(record, edges_at + form.edge.size * edge - 1, 1, flag)
 
 
 class Draft:
     """A record field by field, so that it can be wrong in one of them and right in the others."""
 
-    def __init__(self, kind, k, graph):
-        self.mark, self.kind, self.status, self.k = b"SGR1", kind, 0, k
+    def __init__(self, form, kind, k, graph):
+        self.form, self.mark, self.kind, self.status, self.k = form, form.mark, kind, 0, k
         self.lengths = [len(s) for s in graph[0]]
         self.edges = [list(e) for e in graph[1]]
         self.data = b"".join(graph[0])
@@ -69,21 +85,92 @@ class Draft:
     def settle(self):
         """Counts, offsets and whole length as the contents have them."""
         self.counts = [len(self.lengths), len(self.edges), len(self.data)]
-        *self.offsets, self.whole = layout(*self.counts)
+        *self.offsets, self.whole = layout(self.form, *self.counts)
 
     def record(self):
         v, e, b = self.counts
-        numbers = [self.kind, self.status, self.k, v, e, b, *self.offsets, self.whole]
-        head = struct.pack("<4sBBHHHIIIII", self.mark, *numbers)
-        lengths = struct.pack("<%dH" % len(self.lengths), *self.lengths)
-        return head + lengths + b"".join(struct.pack("<HHIB", *e) for e in self.edges) + self.data
+        head = self.form.header.pack(self.mark, self.kind, self.status, self.k, v, e, b, *self.offsets, self.whole)
+        lengths = b"".join(self.form.word.pack(n) for n in self.lengths)
+        return head + lengths + b"".join(self.form.edge.pack(*e) for e in self.edges) + self.data
+
+
+# Records that are taken for another form, or that only look right.
+
+
+def marks_near(form):
+    """The other form's mark, and marks of which one letter is another."""
+    near = {other.mark for other in FORMS}
+    for at in range(4):
+        for letter in (form.mark[at] - 1, form.mark[at] + 1, form.mark[at] ^ 32, 0):
+            near.add(form.mark[:at] + bytes([letter]) + form.mark[at + 1 :])
+    return sorted(near - {form.mark})
+
+
+def with_other_mark(record):
+    """The same bytes behind other marks, as they are and stating their length where the mark's form has it."""
+    for mark in marks_near(form_of(record)):
+        yield mark + record[4:]
+        yield with_whole_length(mark + record[4:])
+
+
+def cut_headers(record):
+    """A header cut in each place; where SGR1 would have the whole length, it is the length."""
+    for n in range(SGR2.header.size + 1):
+        cut = record[:n]
+        yield cut
+        if n >= SGR1.header.size:
+            yield with_number(cut, SGR1.header.size - 4, 4, n)
+
+
+def other_offsets(draft):
+    """Offsets by the sizes of either form and behind the header of either: one of the four is right."""
+    for sizes in FORMS:
+        at, edges_at, bytes_at, _ = layout(sizes, *draft.counts)
+        for start in (SGR1.header.size, SGR2.header.size):
+            draft.offsets = [n - at + start for n in (at, edges_at, bytes_at)]
+            yield draft.record()
+
+
+def wrapping_counts(form):
+    """K-mer records shorter than their counts ask for, unless sums wrap: the count of bytes makes up for the rest."""
+    most = form.max_vertices, form.max_edges
+    for v, e in ((1, 0), (9, 0), (0, 1), (0, 4), (7, 5), (most[0], 0), (0, most[1]), most):
+        lengths_at, edges_at, bytes_at, _ = layout(form, v, e, 0)
+        for length in (lengths_at, lengths_at + 1, lengths_at + 4):
+            if length < bytes_at:
+                head = [v, e, 2**32 + length - bytes_at, lengths_at, edges_at, bytes_at, length]
+                yield form.header.pack(form.mark, KMER, 0, 2, *head).ljust(length, b"\2")
+
+
+def wrapping_lengths(draft):
+    """Lengths whose sum is the count of bytes only if it wraps at the size of a length."""
+    n, turn = len(draft.data), 256**draft.form.word.size
+    for lengths in ([turn - 1, n + 1], [n + 1, turn - 1], [turn // 2, turn // 2 + n], [turn // 2 + n, 0, turn // 2]):
+        draft.lengths = lengths
+        draft.settle()
+        yield draft.record()
+
+
+def form_faults(draft):
+    """All of these faults of one draft's record."""
+    good = draft.record()
+    yield from with_other_mark(good)
+    yield from cut_headers(good)
+    yield from other_offsets(draft)
+    yield from wrapping_counts(draft.form)
+    yield from wrapping_lengths(draft)
 
 
 # Faults in the contents; counts and offsets follow them.
 
 
+def wide(d, *values):
+    """These values are drawn in SGR2 alone, whose fields have four bytes."""
+    return values if d.form == SGR2 else ()
+
+
 def double_edge(rng, d):
-    if d.edges and d.counts[1] < MAX_EDGES:
+    if d.edges and d.counts[1] < d.form.max_edges:
         a, b, _, _ = rng.choice(d.edges)
         d.edges.insert(rng.randint(0, len(d.edges)), [a, b, rng.randrange(9), rng.randint(0, 1)])
 
@@ -103,7 +190,7 @@ def back_edge(rng, d):
 def edge_end(rng, d):
     if d.edges:
         v = len(d.lengths)
-        rng.choice(d.edges)[rng.randint(0, 1)] = rng.choice([v, v + 1, 65535])
+        rng.choice(d.edges)[rng.randint(0, 1)] = rng.choice([v, v + 1, 65535, *wide(d, v + 65535, MAX_U32)])
 
 
 def edge_flag(rng, d):
@@ -133,7 +220,7 @@ CONTENT_FAULTS = [double_edge, self_edge, back_edge, edge_end, edge_flag, equal_
 
 def mark(rng, d):
     at = rng.randrange(4)
-    d.mark = d.mark[:at] + bytes([d.mark[at] ^ rng.choice([1, 32, 128])]) + d.mark[at + 1 :]
+    d.mark = d.mark[:at] + bytes([d.mark[at] ^ rng.choice([1, 32, 128, *wide(d, 3)])]) + d.mark[at + 1 :]
 
 
 def kind(rng, d):
@@ -150,17 +237,17 @@ def k(rng, d):
 
 def count(rng, d):
     at = rng.randrange(3)
-    limit = (MAX_VERTICES, MAX_EDGES, MAX_BYTES)[at]
-    d.counts[at] = rng.choice([d.counts[at] + 1, max(0, d.counts[at] - 1), limit, limit + 1, 65535])
+    n, limit = d.counts[at], limits_of(d.form)[at]
+    d.counts[at] = rng.choice([n + 1, max(0, n - 1), limit, limit + 1, 65535, *wide(d, n + 2**30, n + 2**31, MAX_U32)])
 
 
 def offset(rng, d):
     at = rng.randrange(3)
-    d.offsets[at] = (d.offsets[at] + rng.choice([1, -1, 2**31, 9])) % 2**32
+    d.offsets[at] = (d.offsets[at] + rng.choice([1, -1, 2**31, 9, *wide(d, 4, -4, 65536)])) % 2**32
 
 
 def whole(rng, d):
-    d.whole = (d.whole + rng.choice([1, -1, 2**31])) % 2**32
+    d.whole = (d.whole + rng.choice([1, -1, 2**31, *wide(d, 4, -4)])) % 2**32
 
 
 FIELD_FAULTS = [mark, kind, status, k, count, offset, whole]

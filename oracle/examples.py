@@ -1,5 +1,5 @@
 """Graphs by hand: document 01's nine examples, and the smallest ones for each rule."""
-from sgr1 import MAX_U32
+from records import MAX_U32
 
 BUBBLE = [(0, 1, 5, 1), (1, 3, 5, 1), (0, 2, 2, 0), (2, 3, 2, 0)]
 BUBBLE_OF_5 = [(a, b, 5, r) for a, b, _, r in BUBBLE]

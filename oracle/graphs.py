@@ -4,7 +4,7 @@ Every function takes a random.Random and gives the same graph for the same seed.
 """
 import itertools
 
-from sgr1 import KMER, MAX_U32, encode
+from records import KMER, MAX_U32, encode
 
 SUPPORTS = [0, 1, 1, 2, 3, 5, 9, 1000]
 HIGH_SUPPORTS = [MAX_U32, MAX_U32 - 1, 2**31, 2**31 - 1, 1, 0]
@@ -85,6 +85,16 @@ def random_graph(rng, vertices):
     rng.shuffle(pairs)
     sequences = [word(rng, rng.choice([0, 1, 1]), longest, letters) for _ in range(vertices)]
     return renumbered(rng, sequences, flagged(rng, vertices, pairs))
+
+
+def dense(rng, vertices, edges, letters, longest):
+    """So many edges among so many vertices, along rising numbers, then renumbered."""
+    pairs = set()
+    while len(pairs) < edges:
+        a, b = sorted(rng.sample(range(vertices), 2))
+        pairs.add((a, b))
+    sequences = [word(rng, 1, longest, letters) for _ in range(vertices)]
+    return renumbered(rng, sequences, flagged(rng, vertices, sorted(pairs)))
 
 
 def chain(rng, vertices):
@@ -203,15 +213,42 @@ def haplotypes(rng, length, count):
     for _ in range(count):
         s = bytearray(reference)
         for _ in range(rng.randint(1, 3)):
+            # a short one may have lost all that lies between its ends
+            if len(s) < 3:
+                break
             at, size = rng.randrange(1, len(s) - 1), rng.randint(0, 2)
             s[at : at + rng.randint(0, 2)] = word(rng, size, size)
         found.append(bytes(s))
     return found
 
 
+def complement(s):
+    """The other strand, read in its own direction."""
+    return s.translate(bytes.maketrans(b"ACGT", b"TGCA"))[::-1]
+
+
+def structural_haplotypes(rng, length, count):
+    """A reference and relatives of it with changes of few bytes, in each a long piece dropped, added or turned round."""
+    reference = word(rng, length, length)
+    found = [reference]
+    for _ in range(count):
+        s = bytearray(reference)
+        for _ in range(rng.randint(1, 1 + length // 500)):
+            at, size = rng.randrange(1, len(s) - 1), rng.randint(0, 2)
+            s[at : at + rng.randint(0, 2)] = word(rng, size, size)
+        at, size = rng.randrange(1, len(s) // 2), rng.randint(50, length // 4)
+        piece = bytes(s[at : at + size])
+        s[at : at + size] = rng.choice([b"", piece + word(rng, size, size), complement(piece)])
+        found.append(bytes(s))
+    return found
+
+
 def kmer_graph(rng, k, length, count):
     """The k-mers of related haplotypes, with the first one's edges as the reference."""
-    found = haplotypes(rng, length, count)
+    return kmers_of(rng, k, haplotypes(rng, length, count))
+
+
+def kmers_of(rng, k, found):
     number, edges = {}, {}
     for i, s in enumerate(found):
         kmers = [s[at : at + k] for at in range(len(s) - k + 1)]
@@ -255,6 +292,22 @@ def overlapping_kmers(rng, k, count, cycles=0.1):
     return renumbered(rng, found, edges)
 
 
+def rising_kmers(rng, vertices, edges):
+    """So many k-mers of two bytes and so many edges; the bytes rise along the edges, so that they close no cycle."""
+    every = [(a, b) for a in range(256) for b in range(256)]
+    rising = [x for x in every if x[0] < x[1]]
+    found = rng.sample(rising, min(vertices, len(rising)))
+    number = {x: v for v, x in enumerate(found)}
+    pairs = set()
+    while len(pairs) < edges:
+        a, b = rng.choice(found)
+        behind = (b, rng.randint(b, 255))
+        if behind in number:
+            pairs.add((number[a, b], number[behind]))
+    found += rng.sample([x for x in every if x[0] >= x[1]], vertices - len(found))
+    return renumbered(rng, [bytes(x) for x in found], flagged(rng, vertices, sorted(pairs)))
+
+
 def scattered_kmers(rng, k, vertices):
     """Random k-mers with edges that need not overlap."""
     found = sorted({word(rng, k, k, b"AC" if k > 4 else bytes(range(256))) for _ in range(vertices)})
@@ -272,5 +325,5 @@ def with_marks(rng, graph):
     return graph[0], edges
 
 
-def kmer_record(k, graph):
-    return encode(KMER, 0, k, *graph)
+def kmer_record(form, k, graph):
+    return encode(form, KMER, 0, k, *graph)

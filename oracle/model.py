@@ -5,9 +5,9 @@ is its rank among the keys and nothing is ever renumbered. `answer` is the whole
 """
 from collections import namedtuple
 
-from sgr1 import (
-    CLEANUP_SEQ_GRAPH, CLEAN_NON_REF_PATHS, FROM_ASSEMBLY_GRAPH, MAX_BYTES, MAX_U32, REFERENCE_PATH_BYTES,
-    SEQUENCE, SIMPLIFY_GRAPH, VERTEX_SEQUENCE, Refused, encode, read_record, require, sequences_of,
+from records import (
+    CLEANUP_SEQ_GRAPH, CLEAN_NON_REF_PATHS, FROM_ASSEMBLY_GRAPH, MAX_U32, REFERENCE_PATH_BYTES, SEQUENCE,
+    SIMPLIFY_GRAPH, VERTEX_SEQUENCE, Refused, encode, read_record, require, sequences_in,
 )
 
 QUIET, REPEATED, FULL = 1, 2, 3
@@ -144,8 +144,8 @@ class Graph:
         return list(self.seq.values()), [(a, b, support, flag & 1) for a, b, support, flag in self.edge_list()]
 
 
-def encode_graph(g, status):
-    return encode(SEQUENCE, status, g.k, list(g.seq.values()), g.edge_list())
+def encode_graph(form, g, status):
+    return encode(form, SEQUENCE, status, g.k, list(g.seq.values()), g.edge_list())
 
 
 # Zip
@@ -458,9 +458,9 @@ def has_incoming(record):
 
 def from_assembly_graph(record):
     """Number 8; reading the record has come first, with 1 to 7 and, in the call, 15."""
-    kmers = sequences_of(record)
+    kmers = sequences_in(record.data)
     kept = [s[-1:] if inner else s for s, inner in zip(kmers, has_incoming(record))]
-    require(sum(map(len, kept)) <= MAX_BYTES, 8)
+    require(sum(map(len, kept)) <= record.form.max_bytes, 8)
     return Graph(record.k, kept, sorted(record.edges, key=lambda x: (kmers[x[0]], kmers[x[1]])))
 
 
@@ -489,20 +489,20 @@ def path_bases(g, start, numbers):
 
 
 def made(call, data, start, numbers):
-    """Output, result fields and rewrites for the tally, of a call with room enough."""
+    """Output, result fields and rewrites for the tally, of a call with room enough. A graph keeps the record's form."""
     record = read_record(call, data)
     if call == FROM_ASSEMBLY_GRAPH:
-        return encode_graph(from_assembly_graph(record), 0), (0, 0, 0), 0
-    g = Graph(record.k, sequences_of(record), record.edges)
+        return encode_graph(record.form, from_assembly_graph(record), 0), (0, 0, 0), 0
+    g = Graph(record.k, sequences_in(data), record.edges)
     if call == SIMPLIFY_GRAPH:
         done, rounds, end = simplify(g)
-        return encode_graph(g, 0), (sum(done), rounds, end), sum(done)
+        return encode_graph(record.form, g, 0), (sum(done), rounds, end), sum(done)
     if call == CLEANUP_SEQ_GRAPH:
         status, rewrites = cleanup(g)
-        return encode_graph(g, status), (status, 0, 0), rewrites
+        return encode_graph(record.form, g, status), (status, 0, 0), rewrites
     if call == CLEAN_NON_REF_PATHS:
         clean_non_ref_paths(g)
-        return encode_graph(g, 0), (0, 0, 0), 0
+        return encode_graph(record.form, g, 0), (0, 0, 0), 0
     if call == REFERENCE_PATH_BYTES:
         return reference_path(g), (0, 0, 0), 0
     return path_bases(g, start, numbers), (0, 0, 0), 0

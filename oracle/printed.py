@@ -1,8 +1,6 @@
 """The text that sgshow writes, as documents 01 ("Printed graph") and 02 (change 2) state it, from the model's answer."""
-import struct
-
 from model import outcome_of
-from sgr1 import HEADER, SIMPLIFY_GRAPH, layout
+from records import SIMPLIFY_GRAPH, edges_in, form_of, sequences_in
 
 MOST = 65536
 END = {1: "quiet", 2: "repeated", 3: "full"}
@@ -20,13 +18,9 @@ def sequence(s):
 
 def graph_lines(record):
     """k, counts and the lines of an answer's record, whose limits are wider than those of a record handed in."""
-    k, v, e, b = struct.unpack_from("<HHHI", record, 6)
-    _, edges_at, bytes_at, _ = layout(v, e, b)
-    lines, at = [], bytes_at
-    for i, n in enumerate(struct.unpack_from("<%dH" % v, record, HEADER)):
-        lines.append("v %d %s" % (i, sequence(record[at : at + n])))
-        at += n
-    for source, target, support, flag in struct.iter_unpack("<HHIB", record[edges_at:bytes_at]):
+    _, _, _, k, v, e, b, *_ = form_of(record).header.unpack_from(record)
+    lines = ["v %d %s" % (i, sequence(s)) for i, s in enumerate(sequences_in(record))]
+    for source, target, support, flag in edges_in(record):
         lines.append("e %d %d %d %s" % (source, target, support, PRINTED_FLAGS[flag]))
     return "k %d vertices %d edges %d bytes %d surplus %d" % (k, v, e, b, e - v), lines
 

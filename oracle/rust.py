@@ -5,7 +5,9 @@ import struct
 import subprocess
 import sys
 
-from sgr1 import CLEANUP_SEQ_GRAPH, CLEAN_NON_REF_PATHS, FROM_ASSEMBLY_GRAPH, SIMPLIFY_GRAPH, VERTEX_SEQUENCE, without_marks
+from records import (
+    CLEANUP_SEQ_GRAPH, CLEAN_NON_REF_PATHS, FROM_ASSEMBLY_GRAPH, SIMPLIFY_GRAPH, VERTEX_SEQUENCE, without_marks,
+)
 
 HERE = os.path.dirname(os.path.abspath(__file__))
 ANSWERED, NO_REFERENCE_PATH, NO_ROOM = 0, 10, 11

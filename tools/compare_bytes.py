@@ -13,7 +13,7 @@ ROOT = os.path.dirname(os.path.dirname(os.path.abspath(__file__)))
 sys.path.insert(0, os.path.join(ROOT, "oracle"))
 sys.dont_write_bytecode = True
 
-import sgr1  # noqa: E402
+import records  # noqa: E402
 
 
 def run(command, data):
@@ -24,7 +24,7 @@ def main():
     data = bytes(range(256))
     cargo = ["cargo", "run", "--quiet", "--release", "--offline", "--manifest-path", "oracle/Cargo.toml", "--bin", "prefix_bytes"]
     wanted = run(cargo, data).rstrip(b"\n")
-    shown = run(["target/bin/sgshow"], sgr1.encode(sgr1.SEQUENCE, 0, 10, [data], []))
+    shown = run(["target/bin/sgshow"], records.encode(records.SGR1, records.SEQUENCE, 0, 10, [data], []))
     if b"v 0 " + wanted not in shown.split(b"\n"):
         sys.exit("sgshow wrote\n%r\nand prefix_bytes\n%r" % (shown, wanted))
     print("prefix_bytes: 256 bytes, no difference")

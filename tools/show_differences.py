@@ -18,23 +18,29 @@ sys.dont_write_bytecode = True
 import examples  # noqa: E402
 import limits  # noqa: E402
 import model  # noqa: E402
-import sgr1  # noqa: E402
+import records  # noqa: E402
 import rust  # noqa: E402
+from records import FORMS, SGR1, SGR2  # noqa: E402
 
 SECONDS = 5
 PANIC = 101
 
-Input = namedtuple("Input", "name call k graph start numbers expected number")
+# forms: those in which the record is refused with the number.
+Input = namedtuple("Input", "name forms call k graph start numbers expected number")
 
 
-def given(name, call, graph, expected, number, k=10, start=0, numbers=()):
-    return Input(name, call, k, graph, start, numbers, expected, number)
+def given(name, call, graph, expected, number, k=10, start=0, numbers=(), forms=FORMS):
+    return Input(name, forms, call, k, graph, start, numbers, expected, number)
 
 
-CONVERT, SIMPLIFY = sgr1.FROM_ASSEMBLY_GRAPH, sgr1.SIMPLIFY_GRAPH
-CLEAN, REFERENCE, PATH = sgr1.CLEAN_NON_REF_PATHS, sgr1.REFERENCE_PATH_BYTES, sgr1.PATH_BASES_BYTES
+def lone_kmers(count):
+    return limits.kmers(count, 128), []
+
+
+CONVERT, SIMPLIFY = records.FROM_ASSEMBLY_GRAPH, records.SIMPLIFY_GRAPH
+CLEAN, REFERENCE, PATH = records.CLEAN_NON_REF_PATHS, records.REFERENCE_PATH_BYTES, records.PATH_BASES_BYTES
 LOOP = [(0, 1, 1, 1), (1, 1, 1, 1), (0, 2, 1, 1)]
-LONG_KMERS = [bytes([65 + i // 8, 65 + i % 8]) + b"A" * 126 for i in range(65)]
+EDGES_OF_SGR2 = limits.kmers_of_edges(65537, limits.shared_bytes(SGR2))
 
 INPUTS = [
     given("doubled edge", CLEAN, ([b"A", b"C"], [(0, 1, 1, 0), (0, 1, 2, 0)]), "A C; 0>1 3 -", 6),
@@ -52,10 +58,16 @@ INPUTS = [
     given("no such vertex", PATH, ([b"A"], []), "panics", 9, numbers=(0, 1)),
     given("no such start", PATH, ([b"A"], []), "panics", 9, start=1),
     given("k 129", CONVERT, ([b"A" * 129], []), "129 bytes in 1 vertices, 0 edges", 3, k=129),
-    given("2,049 vertices", CLEAN, limits.many_vertices(2049), "A A; 0>1 1 r", 3),
-    given("8,193 bytes", CLEAN, limits.many_bytes(8193), "8193 bytes in 3 vertices, 2 edges", 3),
-    given("4,097 edges", CLEAN, limits.dense_before_reference(4097), "A A A; 1>2 1 r; 0>2 1 -", 3),
-    given("8,320 converted bytes", CONVERT, (LONG_KMERS, []), "8320 bytes in 65 vertices, 0 edges", 8, k=128),
+    given("2,049 vertices", CLEAN, limits.many_vertices(2049), "A A; 0>1 1 r", 3, forms=[SGR1]),
+    given("8,193 bytes", CLEAN, limits.many_bytes(8193), "8193 bytes in 3 vertices, 2 edges", 3, forms=[SGR1]),
+    given("4,097 edges", CLEAN, limits.dense_before_reference(4097), "A A A; 1>2 1 r; 0>2 1 -", 3, forms=[SGR1]),
+    given("8,320 converted bytes", CONVERT, lone_kmers(65), "8320 bytes in 65 vertices, 0 edges", 8, 128, forms=[SGR1]),
+    given("32,769 vertices", CLEAN, limits.many_vertices(32769), "A A; 0>1 1 r", 3, forms=[SGR2]),
+    given("131,073 bytes", CLEAN, limits.many_bytes(131073), "131073 bytes in 3 vertices, 2 edges", 3, forms=[SGR2]),
+    given("65,537 edges", CONVERT, EDGES_OF_SGR2, "4144 bytes in 2064 vertices, 65537 edges", 3, 3, forms=[SGR2]),
+    given(
+        "131,200 converted bytes", CONVERT, lone_kmers(1025), "131200 bytes in 1025 vertices, 0 edges", 8, 128, forms=[SGR2]
+    ),
 ]
 
 
@@ -63,20 +75,17 @@ INPUTS = [
 SETTLING = [(8, 9, True), (8, 10, False)]
 
 
-def record_of(x):
-    return sgr1.encode(sgr1.KMER if x.call == CONVERT else sgr1.SEQUENCE, 0, x.k, *x.graph)
+def record_of(form, x):
+    return records.encode(form, records.KMER if x.call == CONVERT else records.SEQUENCE, 0, x.k, *x.graph)
 
 
 def show_graph(data):
     """As read, without checks: a graph that the Rust made of a refused record."""
-    v, e = struct.unpack_from("<HH", data, 8)
-    lengths = struct.unpack_from("<%dH" % v, data, sgr1.HEADER)
-    _, edges_at, bytes_at, whole = sgr1.layout(v, e, sum(lengths))
-    if whole > 150:
-        return "%d bytes in %d vertices, %d edges" % (whole - bytes_at, v, e)
-    sequences = [data[at : at + n].decode() for at, n in sgr1.parts_of(lengths, bytes_at)]
-    found = struct.iter_unpack("<HHIB", data[edges_at:bytes_at])
-    edges = ["%d>%d %d %s" % (a, b, s, "r" if f else "-") for a, b, s, f in found]
+    v, e, b = records.counts_of(data)
+    if len(data) > 150:
+        return "%d bytes in %d vertices, %d edges" % (b, v, e)
+    sequences = [s.decode() for s in records.sequences_in(data)]
+    edges = ["%d>%d %d %s" % (a, b, s, "r" if f else "-") for a, b, s, f in records.edges_in(data)]
     return "; ".join([" ".join(sequences), *edges]) if edges else " ".join(sequences) + ";"
 
 
@@ -86,20 +95,20 @@ def ask(driver, call, record, start=0, numbers=()):
     return subprocess.run([driver], input=struct.pack("<I", len(body)) + body, capture_output=True, timeout=SECONDS)
 
 
-def ask_rust(driver, x):
+def ask_rust(driver, form, x):
     try:
-        done = ask(driver, x.call, record_of(x), x.start, x.numbers)
+        done = ask(driver, x.call, record_of(form, x), x.start, x.numbers)
     except subprocess.TimeoutExpired:
         return "does not end"
     if done.returncode:
         return "panics" if done.returncode == PANIC else "status %d" % done.returncode
     made = done.stdout[20:]
-    return show_graph(made) if made[:4] == b"SGR1" else made.decode()
+    return show_graph(made) if made[:4] == form.mark else made.decode()
 
 
 def show_settling(driver, graph, expected):
     """Simplification of a graph of which the Rust ends before the edges settle; whether all is as written."""
-    record = sgr1.encode(sgr1.SEQUENCE, 0, 10, *graph)
+    record = records.encode(SGR1, records.SEQUENCE, 0, 10, *graph)
     made = ask(driver, rust.UNCHANGED_SIMPLIFY_GRAPH, record).stdout
     rounds, end = struct.unpack_from("<2I", made, 12)
     here = model.answer(SIMPLIFY, record, 0, (), 10**6, 0, model.NO_COUNTS)
@@ -107,7 +116,8 @@ def show_settling(driver, graph, expected):
     as_written = (rounds, here.fields[1], same) == expected and end == here.fields[2] == model.REPEATED
     note = "" if as_written else "  NOT AS WRITTEN"
     told = "%d rounds, the Rust %d, %s" % (here.fields[1], rounds, "the same record" if same else "another record")
-    print("%-28s call %d  repeated: %s%s" % ("settling, %d vertices" % len(graph[0]), SIMPLIFY, told, note))
+    name = "settling, %d vertices" % len(graph[0])
+    print("%-28s SGR1  call %d  repeated: %s%s" % (name, SIMPLIFY, told, note))
     return as_written
 
 
@@ -115,13 +125,14 @@ def main():
     rust.build()
     driver = os.path.join(rust.target_folder(), "release", "oracle")
     wrong = 0
-    for x in INPUTS:
-        got = ask_rust(driver, x)
-        number = model.answer(x.call, record_of(x), x.start, x.numbers, 10**6, 0, model.NO_COUNTS).number
+    for form, x in [(form, x) for x in INPUTS for form in x.forms]:
+        got = ask_rust(driver, form, x)
+        number = model.answer(x.call, record_of(form, x), x.start, x.numbers, 10**6, 0, model.NO_COUNTS).number
         as_written = got == x.expected and number == x.number
         wrong += not as_written
         note = "" if as_written else "  NOT AS WRITTEN"
-        print("%-28s call %d  refused %2d  the Rust: %s%s" % (x.name, x.call, number, got, note))
+        mark = form.mark.decode()
+        print("%-28s %s  call %d  refused %2d  the Rust: %s%s" % (x.name, mark, x.call, number, got, note))
     for graph, expected in zip(examples.SETTLING, SETTLING, strict=True):
         wrong += not show_settling(driver, graph, expected)
     sys.exit(1 if wrong else 0)

@@ -17,10 +17,12 @@ sys.dont_write_bytecode = True
 import damage  # noqa: E402
 import examples  # noqa: E402
 import graphs  # noqa: E402
+import records  # noqa: E402
 import sgr  # noqa: E402
-import sgr1  # noqa: E402
+from records import FORMS, SGR1, SGR2, encode  # noqa: E402
 
-CASE_1 = sgr1.encode(sgr1.SEQUENCE, 0, 10, *examples.NINE[0])
+CASE_1 = encode(SGR1, records.SEQUENCE, 0, 10, *examples.NINE[0])
+CASE_1_AS_SGR2 = encode(SGR2, records.SEQUENCE, 0, 10, *examples.NINE[0])
 
 # Document 01, "Printed graph".
 PRINTED_1 = b"""k 10 vertices 4 edges 4 bytes 8 surplus 0
@@ -55,10 +57,30 @@ WRONG_TEXTS = [
     (b"k 2\nv A\\x4\n", "line 2: A\\x4 is no sequence: letters, \\xhh for any other byte, or a dot"),
     (b"k 2\nv ..\n", "line 2: .. is no sequence: letters, \\xhh for any other byte, or a dot"),
     (b"k 2\nv 1 A\n", "line 2: vertex 0 has the number 1"),
-    (b"k 2\nv " + b"A" * 65536, "line 2: a sequence of 65536 bytes is too long: its field ends at 65535"),
-    (b"k 2\n" + b"v A\n" * 65536, "65536 vertices are too many: their field ends at 65535"),
-    (b"k 2\n" + b"e 0 0 0 -\n" * 65536, "65536 edges are too many: their field ends at 65535"),
+    (b"k 2\ne 0 4294967296 5 -\n", "line 2: 4294967296 is no number from 0 to 4294967295"),
+    (b"form SGR3\n", "line 1: SGR3 is no form: SGR1 or SGR2"),
+    (b"form sgr1\n", "line 1: sgr1 is no form: SGR1 or SGR2"),
+    (b"form SGR1\nform SGR2\n", "line 2: a second form"),
+    (b"form SGR1\nk 2\nv " + b"A" * 65536, "a sequence of 65536 bytes is too long: its field ends at 65535"),
+    (b"form SGR1\nk 2\n" + b"v A\n" * 65536, "65536 vertices are too many: their field ends at 65535"),
+    (b"form SGR1\nk 2\n" + b"e 0 0 0 -\n" * 65536, "65536 edges are too many: their field ends at 65535"),
+    (b"form SGR1\nk 2\ne 0 65536 0 -\n", "an edge has an end 65536: its field ends at 65535"),
     (b"k 2 vertices 2 edges 0 bytes 1 surplus -2\nv 0 A\n", "the counts behind k are not those of the graph"),
+]
+
+# Texts that say no form, and the one that is chosen: SGR1 up to its limits and fields.
+CHOSEN = [
+    (b"k 2\n" + b"v A\n" * 2048, SGR1),
+    (b"k 2\n" + b"v A\n" * 2049, SGR2),
+    (b"k 2\n" + b"e 0 0 0 -\n" * 4096, SGR1),
+    (b"k 2\n" + b"e 0 0 0 -\n" * 4097, SGR2),
+    (b"k 2\nv " + b"A" * 8192, SGR1),
+    (b"k 2\nv " + b"A" * 8193, SGR2),
+    (b"kind 0\nk 2\nv " + b"A" * 65535, SGR1),
+    (b"kind 0\nk 2\nv " + b"A" * 65536, SGR2),
+    (b"k 2\ne 0 65535 0 -\n", SGR1),
+    (b"k 2\ne 0 65536 0 -\n", SGR2),
+    (b"k 2\n" + b"v A\n" * 70000, SGR2),
 ]
 
 UNSHOWN = [
@@ -106,8 +128,8 @@ def check_record(data):
 def refusal(data):
     """The model's number for the record: 0 if it is sound."""
     try:
-        sgr1.read_record(sgr1.VERTEX_SEQUENCE, data)
-    except sgr1.Refused as refused:
+        records.read_record(records.VERTEX_SEQUENCE, data)
+    except records.Refused as refused:
         return refused.number
     return 0
 
@@ -126,19 +148,23 @@ def random_record(rng):
         (rng.randrange(ends), rng.randrange(ends), rng.choice([0, 1, rng.randrange(2**32), 2**32 - 1]), rng.randrange(top))
         for _ in range(rng.randrange(12))
     ]
-    return sgr1.encode(rng.randrange(top), rng.randrange(top), rng.randrange(65536), sequences, edges)
+    return encode(rng.choice(FORMS), rng.randrange(top), rng.randrange(top), rng.randrange(65536), sequences, edges)
 
 
 def random_records(rng):
     for _ in range(400):
+        form, k = rng.choice(FORMS), rng.randint(2, 12)
         yield random_record(rng)
-        yield sgr1.encode(sgr1.SEQUENCE, rng.randrange(3), rng.randint(2, 128), *graphs.random_graph(rng, rng.randint(0, 24)))
-        k = rng.randint(2, 12)
-        yield sgr1.encode(sgr1.KMER, 0, k, *graphs.kmer_graph(rng, k, rng.randint(k + 4, 50), rng.randint(1, 3)))
+        graph = graphs.random_graph(rng, rng.randint(0, 24))
+        yield encode(form, records.SEQUENCE, rng.randrange(3), rng.randint(2, 128), *graph)
+        yield encode(form, records.KMER, 0, k, *graphs.kmer_graph(rng, k, rng.randint(k + 4, 50), rng.randint(1, 3)))
 
 
 def damaged_records(rng):
-    yield from damage.damaged(CASE_1)
+    for form in FORMS:
+        draft = damage.Draft(form, records.SEQUENCE, 10, examples.NINE[0])
+        yield from damage.damaged(draft.record())
+        yield from damage.form_faults(draft)
     for _ in range(400):
         data = bytearray(random_record(rng))
         for _ in range(rng.randint(1, 4)):
@@ -160,7 +186,10 @@ def check_texts():
     every_flag = b"k 2\nv A\nv C\n" + b"".join(b"e 0 1 5 %s\n" % flag for flag in (b"-", b"r", b"-c", b"rc", b"4", b"2"))
     assert [edge[3] for edge in sgr.graph_of_text(every_flag).edges] == [0, 1, 2, 3, 4, 2]
     printed = sgr.graph_of_text(PRINTED_1)
-    assert sgr.record_of_graph(printed) == sgr1.encode(sgr1.SEQUENCE, 0, 10, *SIMPLIFIED_1)
+    assert sgr.record_of_graph(printed) == encode(SGR1, records.SEQUENCE, 0, 10, *SIMPLIFIED_1)
+    for text, form in CHOSEN:
+        graph = sgr.graph_of_text(text)
+        assert sgr.record_of_graph(graph) == encode(form, *graph[1:]), (text[:80], form.mark)
     # what sgshow printed is taken, all but its refusals
     for path in glob.glob(os.path.join(ROOT, "tests", "sgshow", "*.out")):
         text = contents(path)
@@ -169,15 +198,15 @@ def check_texts():
 
 def check_pictures():
     for command, graph, message in UNSHOWN:
-        assert told(sgr.SHOW[command], sgr.Graph(1, 0, 10, *graph)) == message, message
-    kmers = sgr.Graph(0, 0, 3, [b"ACG", b"CGT", b"GGG"], [(0, 1, 5, 1), (0, 2, 2, 0)])
+        assert told(sgr.SHOW[command], sgr.Graph(SGR1, 1, 0, 10, *graph)) == message, message
+    kmers = sgr.Graph(SGR1, 0, 0, 3, [b"ACG", b"CGT", b"GGG"], [(0, 1, 5, 1), (0, 2, 2, 0)])
     assert [line.split("\t")[5] for line in sgr.gfa_of(kmers)[-2:]] == ["2M", "*"]
-    flags = sgr.Graph(1, 0, 10, [b"A", b"C"], [(0, 1, 5, flag) for flag in range(4)])
+    flags = sgr.Graph(SGR1, 1, 0, 10, [b"A", b"C"], [(0, 1, 5, flag) for flag in range(4)])
     assert [line.split("\t")[-2:] for line in sgr.gfa_of(flags)[-4:]] == [["rf:i:%d" % r, "cp:i:%d" % c] for c in (0, 1) for r in (0, 1)]
     red = ", color=red, penwidth=2"
     wanted = ['    0 -> 1 [label="5%s"%s];' % (c, r) for c in ("", " c") for r in ("", red)]
     assert sgr.dot_of(flags)[-5:-1] == wanted, sgr.dot_of(flags)
-    odd = sgr.Graph(1, 0, 10, [b"", b'"\\', b"A" * 20 + b"C" * 13], [])
+    odd = sgr.Graph(SGR1, 1, 0, 10, [b"", b'"\\', b"A" * 20 + b"C" * 13], [])
     labels = [line.split("label=")[1] for line in sgr.dot_of(odd)[3:-1]]
     assert labels == ['"0 ."];', '"1 \\\\x22\\\\x5c"];', '"2 AAAAAAAAAAAA..CCCCCCCCCCCC (33)"];'], labels
     assert sgr.gfa_of(odd._replace(sequences=[b""]))[1] == "S\t0\t*\tLN:i:0"
@@ -197,7 +226,14 @@ def check_command(folder):
     assert call("make", "-", "-", given=stored["text"]) == (0, CASE_1, b"")
     for name, text in stored.items():
         assert call(name, record) == call(name, "-", given=CASE_1) == (0, text, b""), name
-    for data in (b"", CASE_1[:40], CASE_1[:31], b"SGR2" + CASE_1[4:], CASE_1 + b"A", bytes(100)):
+    # the form that is asked for goes before the one in the text, and comes back in text and GFA
+    assert call("make", "--form", "sgr2", "-", "-", given=stored["text"]) == (0, CASE_1_AS_SGR2, b"")
+    assert call("make", "--form", "sgr1", "-", "-", given=stored["text"].replace(b"SGR1", b"SGR2")) == (0, CASE_1, b"")
+    assert call("make", "-", "-", given=stored["text"].replace(b"SGR1", b"SGR2")) == (0, CASE_1_AS_SGR2, b"")
+    for name, text in stored.items():
+        assert call(name, "-", given=CASE_1_AS_SGR2) == (0, text.replace(b"SGR1", b"SGR2"), b""), name
+    cut = [b"", CASE_1[:40], CASE_1[:31], CASE_1_AS_SGR2[:35]]
+    for data in (*cut, b"SGR2" + CASE_1[4:], b"SGR3" + CASE_1[4:], CASE_1 + b"A", bytes(100)):
         for name in stored:
             check_failed(call(name, "-", given=data), b"sgr.py: standard input: ")
     check_failed(call("make", "-", bad, given=b"k ten\n"), b"sgr.py: standard input: line 1: ")
@@ -205,7 +241,10 @@ def check_command(folder):
     check_failed(call("text", bad), b"sgr.py: " + bad.encode())
     check_failed(call("make", record, bad), b"sgr.py: " + record.encode())
     check_failed(call("make", os.path.join(ROOT, "tests/sgr/case-1.text"), folder), b"sgr.py: " + folder.encode())
-    for words in ([], ["text"], ["make", "-"], ["show", "-"], ["text", "-", "-"]):
+    for words in (
+        [], ["text"], ["make", "-"], ["show", "-"], ["text", "-", "-"], ["make", "--form", "sgr3", "-", "-"],
+        ["make", "--form", "sgr2"], ["make", "--form", "sgr2", "-"], ["text", "--form", "sgr2", "-"],
+    ):
         assert call(*words)[:2] == (2, b""), words
     assert call("--help")[0] == 0
 

@@ -2,8 +2,10 @@
 use crate::record::le32;
 use std::io::{self, ErrorKind, Read};
 
-/// The number of a frame that names the cases after it; its text stands where a record would.
+/// The number of a frame that names the cases after it: behind it who judges them, then its text.
 pub const LABEL: u32 = 7;
+/// Who judges: the model and the Rust, or the model alone.
+pub const MODEL_ALONE: u32 = 1;
 const WORDS: usize = 18;
 
 #[derive(Debug, Clone, Copy, Default, PartialEq, Eq)]
@@ -25,6 +27,7 @@ pub struct Answer {
     pub output: Vec<u8>,
 }
 
+#[derive(Clone)]
 pub struct Case {
     pub call: u32,
     pub start: u32,

@@ -1,5 +1,5 @@
 //! What the Rust makes of a record that the model accepts, for each call that has a counterpart.
-use crate::record::{assembly_graph, seq_graph, supported_assembly_graph, write};
+use crate::record::{assembly_graph, seq_graph, supported_assembly_graph, write, Form};
 use crate::seq_graph::{SeqEdge, SeqGraph, SeqGraphCleanupStatus};
 use crate::seq_graph_simplify::{simplify_graph_full, traced_simplify_graph_full};
 use crate::unchanged_seq_graph_simplify::traced_simplify_graph_full as unchanged_traced_simplify_graph_full;
@@ -44,12 +44,21 @@ pub fn run(call: u32, record: &[u8], start: u32, list: &[u32]) -> Made {
     match call {
         FROM_ASSEMBLY_GRAPH => converted(record),
         CHECK_KMERS => Made { status: checked(record), ..Made::of(vec![]) },
-        _ => run_on(call, &seq_graph(record), start, list),
+        _ => run_on(call, Form::of(record), &seq_graph(record), start, list),
     }
 }
 
 pub fn converted(kmer_record: &[u8]) -> Made {
-    Made::of(write(&SeqGraph::from_assembly_graph(&assembly_graph(kmer_record)), 0))
+    written(Form::of(kmer_record), &converted_graph(kmer_record))
+}
+
+pub fn converted_graph(kmer_record: &[u8]) -> SeqGraph {
+    SeqGraph::from_assembly_graph(&assembly_graph(kmer_record))
+}
+
+/// The graph as a call's answer of this form.
+pub fn written(form: Form, graph: &SeqGraph) -> Made {
+    Made::of(write(form, graph, 0))
 }
 
 /// The number of what the Rust's `validate_basic_invariants` finds: it asks each edge for the overlap, then for a cycle.
@@ -62,16 +71,16 @@ pub fn checked(kmer_record: &[u8]) -> u32 {
     }
 }
 
-/// The calls that take a sequence graph.
-pub fn run_on(call: u32, graph: &SeqGraph, start: u32, list: &[u32]) -> Made {
+/// The calls that take a sequence graph; the answer has this form.
+pub fn run_on(call: u32, form: Form, graph: &SeqGraph, start: u32, list: &[u32]) -> Made {
     match call {
-        SIMPLIFY_GRAPH => simplified(graph.clone()),
-        UNCHANGED_SIMPLIFY_GRAPH => unchanged_simplified(graph.clone()),
-        CLEANUP_SEQ_GRAPH => cleaned(graph.clone()),
+        SIMPLIFY_GRAPH => simplified(form, graph.clone()),
+        UNCHANGED_SIMPLIFY_GRAPH => unchanged_simplified(form, graph.clone()),
+        CLEANUP_SEQ_GRAPH => cleaned(form, graph.clone()),
         CLEAN_NON_REF_PATHS => {
             let mut graph = graph.clone();
             graph.clean_non_ref_paths();
-            Made::of(write(&graph, 0))
+            written(form, &graph)
         }
         REFERENCE_PATH_BYTES => Made { bytes: graph.reference_path_bytes(), ..Made::default() },
         PATH_BASES_BYTES => {
@@ -82,33 +91,32 @@ pub fn run_on(call: u32, graph: &SeqGraph, start: u32, list: &[u32]) -> Made {
     }
 }
 
-fn cleaned(mut graph: SeqGraph) -> Made {
+fn cleaned(form: Form, mut graph: SeqGraph) -> Made {
     let status = match graph.cleanup_seq_graph() {
         SeqGraphCleanupStatus::JustAssembledReference => 1,
         SeqGraphCleanupStatus::AssembledSomeVariation => 2,
     };
-    Made { status, ..Made::of(write(&graph, status as u8)) }
+    Made { status, ..Made::of(write(form, &graph, status as u8)) }
 }
 
 /// Rounds and end come from the Rust's own snapshots of a second run on a copy. Where the Rust as it stands does not end
 /// repeated, the edges in the signature must make no difference.
-fn simplified(mut graph: SeqGraph) -> Made {
+fn simplified(form: Form, mut graph: SeqGraph) -> Made {
     let (mut copy, unchanged) = (graph.clone(), graph.clone());
     simplify_graph_full(&mut graph);
     let mut watch = Watch { with_edges: true, ..Watch::default() };
     traced_simplify_graph_full(&mut copy, |stage, g| watch.see(stage, g));
-    let bytes = write(&graph, 0);
-    assert!(bytes == write(&copy, 0), "the traced run made another graph");
-    let made = Made { rounds: watch.rounds, end: watch.end(), ..Made::of(bytes) };
-    let before = unchanged_simplified(unchanged);
+    let made = Made { rounds: watch.rounds, end: watch.end(), ..written(form, &graph) };
+    assert!(made.bytes == written(form, &copy).bytes, "the traced run made another graph");
+    let before = unchanged_simplified(form, unchanged);
     assert!(before.end == REPEATED || before == made, "edges in the signature changed what did not repeat");
     made
 }
 
-fn unchanged_simplified(mut graph: SeqGraph) -> Made {
+fn unchanged_simplified(form: Form, mut graph: SeqGraph) -> Made {
     let mut watch = Watch::default();
     unchanged_traced_simplify_graph_full(&mut graph, |stage, g| watch.see(stage, g));
-    Made { rounds: watch.rounds, end: watch.end(), ..Made::of(write(&graph, 0)) }
+    Made { rounds: watch.rounds, end: watch.end(), ..written(form, &graph) }
 }
 
 #[derive(Default, PartialEq)]

@@ -2,11 +2,38 @@
 // Which parts of this file are in use is that list's choice.
 #![allow(dead_code)]
 use crate::case::{Answer, Case, Tally};
+use crate::oracle::{CLEANUP_SEQ_GRAPH, SIMPLIFY_GRAPH};
+use crate::record::{counts, Form, SGR1};
 use std::array::from_fn;
+use std::thread;
 
 /// What the lent output holds before a call, also behind its end, where nothing may be written.
 pub const FILL: u8 = 0xA5;
 const GUARD: usize = 64;
+
+/// The stacks that the library must do with: for a record of SGR1's size, of at most `MIDDLE_LENGTH` bytes, for any.
+pub const SMALL_STACK: usize = 2 << 20;
+const MIDDLE_STACK: usize = 8 << 20;
+const WHOLE_STACK: usize = 32 << 20;
+const MIDDLE_LENGTH: usize = 65_536;
+/// A record as short as this is of SGR1's size, whatever it says.
+const SHORT: usize = 1024;
+
+/// The stack that a call on this record must do with. Only a call that rewrites has room for all of the bytes.
+pub fn stack_for(call: u32, record: &[u8]) -> usize {
+    if Form::of(record) == SGR1 || record.len() <= SHORT {
+        return SMALL_STACK;
+    }
+    let c = counts(record);
+    let rewrites = call == SIMPLIFY_GRAPH || call == CLEANUP_SEQ_GRAPH;
+    if c.vertices <= 2048 && c.edges <= 4096 && (c.bytes <= 8192 || !rewrites) {
+        SMALL_STACK
+    } else if record.len() <= MIDDLE_LENGTH {
+        MIDDLE_STACK
+    } else {
+        WHOLE_STACK
+    }
+}
 
 pub type Table = [Tally; 16];
 
@@ -146,8 +173,22 @@ fn answer(number: u32, length: u32, fields: [u32; 3]) -> Answer {
     Answer { number, length, fields, ..Answer::default() }
 }
 
+/// The library's answer, on no more stack than the record asks for. None: the call is not linked.
+///
+/// The thread that calls this has `SMALL_STACK`.
+pub fn run_on_stack(case: &Case) -> Option<Result<Answer, String>> {
+    let stack = stack_for(case.call, &case.record);
+    if stack == SMALL_STACK {
+        return run(case);
+    }
+    thread::scope(|scope| {
+        let worker = thread::Builder::new().stack_size(stack).spawn_scoped(scope, || run(case));
+        worker.expect("a thread").join().expect("a call that comes back")
+    })
+}
+
 /// The library's answer, its output read from the lent bytes. None: the call is not linked.
-pub fn run(case: &Case) -> Option<Result<Answer, String>> {
+fn run(case: &Case) -> Option<Result<Answer, String>> {
     let record = case.record.clone();
     let list = case.list.clone();
     let mut lent = vec![FILL; case.room + GUARD];

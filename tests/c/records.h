@@ -1,4 +1,4 @@
-/* Records for the tests, written field by field. */
+/* Records for the tests, in both forms, written field by field. */
 #ifndef RECORDS_H
 #define RECORDS_H
 
@@ -6,7 +6,21 @@
 #include <stdint.h>
 #include <string.h>
 
-enum { KMERS = 0, SEQUENCES = 1, HEADER = 32 };
+enum { KMERS = 0, SEQUENCES = 1 };
+
+/*
+ * What differs between the forms: the mark; the bytes of the header, behind which the lengths stand; the bytes of a word, which
+ * is a count of vertices or edges, a length or an end of an edge; the most vertices, edges and sequence bytes of a record handed
+ * in.
+ */
+typedef struct {
+    const char *mark;
+    unsigned header, word;
+    unsigned vertices, edges, bytes;
+} form;
+
+static const form SGR1 = {"SGR1", 32, 2, 2048, 4096, 8192};
+static const form SGR2 = {"SGR2", 36, 4, 32768, 65536, 131072};
 
 typedef struct {
     unsigned from, to, support, flag;
@@ -16,42 +30,57 @@ static inline void put(uint8_t *at, unsigned bytes, uint32_t value) {
     for (unsigned i = 0; i < bytes; i++) at[i] = (uint8_t)(value >> (8 * i));
 }
 
-static inline void put_header(uint8_t *rec, unsigned kind, unsigned k, unsigned v, unsigned e, unsigned b) {
-    unsigned edges_at = HEADER + 2 * v, bytes_at = edges_at + 9 * e;
-    memcpy(rec, "SGR1", 4);
+/* An edge: two words, support in four bytes, flag in one. */
+static inline unsigned edge_size(const form *f) { return 2 * f->word + 5; }
+
+static inline unsigned edges_at(const form *f, unsigned v) { return f->header + f->word * v; }
+
+static inline unsigned bytes_at(const form *f, unsigned v, unsigned e) { return edges_at(f, v) + edge_size(f) * e; }
+
+/* Where the header has the count of sequence bytes: behind two counts. */
+static inline unsigned byte_count_at(const form *f) { return 8 + 2 * f->word; }
+
+/* Where the header has the whole length, its last field. */
+static inline unsigned whole_at(const form *f) { return f->header - 4; }
+
+static inline void put_header(const form *f, uint8_t *rec, unsigned kind, unsigned k, unsigned v, unsigned e,
+                              unsigned b) {
+    const uint32_t behind_counts[] = {b, f->header, edges_at(f, v), bytes_at(f, v, e), bytes_at(f, v, e) + b};
+    memcpy(rec, f->mark, 4);
     put(rec + 4, 1, kind);
     put(rec + 5, 1, 0);
     put(rec + 6, 2, k);
-    put(rec + 8, 2, v);
-    put(rec + 10, 2, e);
-    put(rec + 12, 4, b);
-    put(rec + 16, 4, HEADER);
-    put(rec + 20, 4, edges_at);
-    put(rec + 24, 4, bytes_at);
-    put(rec + 28, 4, bytes_at + b);
+    put(rec + 8, f->word, v);
+    put(rec + 8 + f->word, f->word, e);
+    for (unsigned i = 0; i < 5; i++) put(rec + byte_count_at(f) + 4 * i, 4, behind_counts[i]);
 }
 
-static inline void put_edge(uint8_t *rec, unsigned v, unsigned i, edge x) {
-    uint8_t *at = rec + HEADER + 2 * v + 9 * i;
-    put(at, 2, x.from);
-    put(at + 2, 2, x.to);
-    put(at + 4, 4, x.support);
-    put(at + 8, 1, x.flag);
+static inline void put_length(const form *f, uint8_t *rec, unsigned i, unsigned length) {
+    put(rec + edges_at(f, i), f->word, length);
+}
+
+static inline void put_edge(const form *f, uint8_t *rec, unsigned v, unsigned i, edge x) {
+    uint8_t *at = rec + bytes_at(f, v, i);
+    put(at, f->word, x.from);
+    put(at + f->word, f->word, x.to);
+    put(at + 2 * f->word, 4, x.support);
+    put(at + 2 * f->word + 4, 1, x.flag);
 }
 
 /* Writes the record of a graph to rec, which has room, and gives its length. */
-static inline size_t write_record(uint8_t *rec, unsigned kind, unsigned k, unsigned v, const char *const *sequences, unsigned e, const edge *edges) {
-    uint8_t *bytes = rec + HEADER + 2 * v + 9 * e;
+static inline size_t write_record(const form *f, uint8_t *rec, unsigned kind, unsigned k, unsigned v,
+                                  const char *const *sequences, unsigned e, const edge *edges) {
+    uint8_t *bytes = rec + bytes_at(f, v, e);
     unsigned b = 0;
     for (unsigned i = 0; i < v; i++) {
         unsigned n = (unsigned)strlen(sequences[i]);
-        put(rec + HEADER + 2 * i, 2, n);
+        put_length(f, rec, i, n);
         memcpy(bytes + b, sequences[i], n);
         b += n;
     }
-    put_header(rec, kind, k, v, e, b);
-    for (unsigned i = 0; i < e; i++) put_edge(rec, v, i, edges[i]);
-    return HEADER + 2 * v + 9 * e + b;
+    put_header(f, rec, kind, k, v, e, b);
+    for (unsigned i = 0; i < e; i++) put_edge(f, rec, v, i, edges[i]);
+    return bytes_at(f, v, e) + b;
 }
 
 #endif

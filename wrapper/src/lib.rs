@@ -1,18 +1,30 @@
 //! The sequence graph's calls from Rust, over libsg.a. Every function is safe and takes any bytes.
 //!
+//! A record has one of two forms, SGR1 or SGR2, which has wider fields and larger limits (docs/FORMAT.md). Every call
+//! takes both, and writes the form that it was handed. `Form::of` tells a record's form, and a form the room that is
+//! enough.
+//!
 //! A call that makes a record or a string writes it to the start of `out` and tells its length. A refused call
 //! leaves `out` as it was. Every call but `vertex_sequence` has a caller, 0 to 15, and is counted in that caller's
 //! tally in the table lent to it; the other fifteen tallies stay as they were.
 //!
-//! No call allocates: each has its arrays on the stack. A thread of `std::thread` is enough for each of them, with its
-//! 2 MiB and the guard page below; 256 KiB are, where every record is small: of at most 1,024 bytes, or of small
-//! counts. include/seq_graph.h has the sizes, and README.md which counts are small.
+//! The library allocates nothing: a call has its arrays on the stack. A thread of `std::thread`, with its 2 MiB and the
+//! guard page below, is enough for every SGR1 record, and for an SGR2 record within the limits of SGR1; 256 KiB are,
+//! where every record is small. A larger SGR2 record, by its length and the counts in its header, can need up to
+//! 32 MiB: the call is then made on a thread of its own, which ends with it. What the call borrows is lent on, and
+//! nothing is copied. If the system gives no thread, the answer is `Refusal::NoThread`. include/seq_graph.h has the
+//! sizes and the exact rule.
 mod ffi;
+mod form;
 mod refusal;
+mod stack;
 mod tallies;
 
+pub use form::Form;
 pub use refusal::Refusal;
 pub use tallies::{Caller, Tallies, Tally};
+
+use stack::{with_stack_for, Work};
 
 /// How a simplification came to its end.
 #[derive(Debug, Clone, Copy, PartialEq, Eq)]
@@ -70,8 +82,10 @@ pub struct Cleaned {
 /// A vertex's sequence in a record of either kind: the part of the record that holds it.
 pub fn vertex_sequence(record: &[u8], vertex: u32) -> Result<&[u8], Refusal> {
     let mut number = 0;
-    // The pointer and the length are those of a slice; the call asks nothing more.
-    let place = unsafe { ffi::sg_vertex_sequence(record.as_ptr(), record.len(), vertex, &mut number) };
+    let place = with_stack_for(record, Work::Read, || {
+        // The pointer and the length are those of a slice; the call asks nothing more.
+        unsafe { ffi::sg_vertex_sequence(record.as_ptr(), record.len(), vertex, &mut number) }
+    })?;
     let (at, length) = (place.offset as usize, place.length as usize);
     answered(number, &record[at..at + length])
 }
@@ -84,9 +98,11 @@ pub fn from_assembly_graph(
     caller: Caller,
     table: &mut Tallies,
 ) -> Result<usize, Refusal> {
-    let (r, o, room) = (record.as_ptr(), out.as_mut_ptr(), out.len());
-    // The pointers and lengths are those of two slices and a table that do not overlap; the call asks nothing more.
-    let a = unsafe { ffi::sg_from_assembly_graph(r, record.len(), o, room, caller.number(), table) };
+    let a = with_stack_for(record, Work::Read, || {
+        let (r, o, room) = (record.as_ptr(), out.as_mut_ptr(), out.len());
+        // The pointers and lengths are those of two slices and a table that do not overlap; the call asks nothing more.
+        unsafe { ffi::sg_from_assembly_graph(r, record.len(), o, room, caller.number(), table) }
+    })?;
     answered(a.number, a.length as usize)
 }
 
@@ -97,9 +113,11 @@ pub fn simplify_graph(
     caller: Caller,
     table: &mut Tallies,
 ) -> Result<Simplified, Refusal> {
-    let (r, o, room) = (record.as_ptr(), out.as_mut_ptr(), out.len());
-    // As above.
-    let a = unsafe { ffi::sg_simplify_graph(r, record.len(), o, room, caller.number(), table) };
+    let a = with_stack_for(record, Work::Rewrite, || {
+        let (r, o, room) = (record.as_ptr(), out.as_mut_ptr(), out.len());
+        // As above.
+        unsafe { ffi::sg_simplify_graph(r, record.len(), o, room, caller.number(), table) }
+    })?;
     answered(a.number, ())?;
     let end = End::of(a.end).ok_or(Refusal::UnknownEnd(a.end))?;
     Ok(Simplified { length: a.length as usize, rewrites: a.rewrites, rounds: a.rounds, end })
@@ -112,9 +130,11 @@ pub fn cleanup_seq_graph(
     caller: Caller,
     table: &mut Tallies,
 ) -> Result<Cleaned, Refusal> {
-    let (r, o, room) = (record.as_ptr(), out.as_mut_ptr(), out.len());
-    // As above.
-    let a = unsafe { ffi::sg_cleanup_seq_graph(r, record.len(), o, room, caller.number(), table) };
+    let a = with_stack_for(record, Work::Rewrite, || {
+        let (r, o, room) = (record.as_ptr(), out.as_mut_ptr(), out.len());
+        // As above.
+        unsafe { ffi::sg_cleanup_seq_graph(r, record.len(), o, room, caller.number(), table) }
+    })?;
     answered(a.number, ())?;
     let status = Status::of(a.status).ok_or(Refusal::UnknownStatus(a.status))?;
     Ok(Cleaned { length: a.length as usize, status })
@@ -128,9 +148,11 @@ pub fn clean_non_ref_paths(
     caller: Caller,
     table: &mut Tallies,
 ) -> Result<usize, Refusal> {
-    let (r, o, room) = (record.as_ptr(), out.as_mut_ptr(), out.len());
-    // As above.
-    let a = unsafe { ffi::sg_clean_non_ref_paths(r, record.len(), o, room, caller.number(), table) };
+    let a = with_stack_for(record, Work::Read, || {
+        let (r, o, room) = (record.as_ptr(), out.as_mut_ptr(), out.len());
+        // As above.
+        unsafe { ffi::sg_clean_non_ref_paths(r, record.len(), o, room, caller.number(), table) }
+    })?;
     answered(a.number, a.length as usize)
 }
 
@@ -141,9 +163,11 @@ pub fn reference_path_bytes(
     caller: Caller,
     table: &mut Tallies,
 ) -> Result<usize, Refusal> {
-    let (r, o, room) = (record.as_ptr(), out.as_mut_ptr(), out.len());
-    // As above.
-    let a = unsafe { ffi::sg_reference_path_bytes(r, record.len(), o, room, caller.number(), table) };
+    let a = with_stack_for(record, Work::Read, || {
+        let (r, o, room) = (record.as_ptr(), out.as_mut_ptr(), out.len());
+        // As above.
+        unsafe { ffi::sg_reference_path_bytes(r, record.len(), o, room, caller.number(), table) }
+    })?;
     answered(a.number, a.length as usize)
 }
 
@@ -156,12 +180,12 @@ pub fn path_bases_bytes(
     caller: Caller,
     table: &mut Tallies,
 ) -> Result<usize, Refusal> {
-    let (r, o, room) = (record.as_ptr(), out.as_mut_ptr(), out.len());
-    let (e, count) = (edges.as_ptr(), edges.len());
-    // As above, with a third slice.
-    let a = unsafe {
-        ffi::sg_path_bases_bytes(r, record.len(), start, e, count, o, room, caller.number(), table)
-    };
+    let a = with_stack_for(record, Work::Read, || {
+        let (r, o, room) = (record.as_ptr(), out.as_mut_ptr(), out.len());
+        let (e, count) = (edges.as_ptr(), edges.len());
+        // As above, with a third slice.
+        unsafe { ffi::sg_path_bases_bytes(r, record.len(), start, e, count, o, room, caller.number(), table) }
+    })?;
     answered(a.number, a.length as usize)
 }
 

@@ -1,7 +1,8 @@
 use std::error::Error;
 use std::fmt;
 
-/// Why there is no answer: a refusal of docs/METHOD.md, section 9, or a number that this crate does not know.
+/// Why there is no answer: a refusal of docs/METHOD.md, section 9, a number that this crate does not know, or that
+/// there is no thread.
 #[derive(Debug, Clone, Copy, PartialEq, Eq)]
 pub enum Refusal {
     Length,
@@ -25,18 +26,21 @@ pub enum Refusal {
     UnknownEnd(u32),
     /// Accepted, with a status of cleanup that this crate does not know.
     UnknownStatus(u32),
+    /// The call was not made: its record needs a thread with a larger stack, and the system gave none. Nothing was
+    /// written and nothing counted; the same call may succeed later.
+    NoThread,
 }
 
 /// Each refusal with its number and its cause. A call asks in the order 18, 1 to 6, 15, 7 to 11.
 const KNOWN: [(Refusal, u32, &str); 13] = [
-    (Refusal::Length, 1, "under 32 bytes, or not the length it states"),
+    (Refusal::Length, 1, "under 32 bytes, of SGR2 under 36, or not the length it states"),
     (Refusal::Mark, 2, "mark, kind for this call, or status"),
-    (Refusal::Limit, 3, "a count or k past a limit"),
+    (Refusal::Limit, 3, "a count or k past a limit of the record's form"),
     (Refusal::Layout, 4, "offsets, whole length, lengths or byte count disagree"),
     (Refusal::Edge, 5, "an edge end not below the count of vertices, or a flag above 3"),
     (Refusal::Doubled, 6, "two edges with the same ends, or in a k-mer graph two equal k-mers"),
     (Refusal::Cycle, 7, "a cycle, a self edge included"),
-    (Refusal::Bytes, 8, "conversion would give over 8,192 bytes"),
+    (Refusal::Bytes, 8, "conversion would give over 8,192 bytes, of SGR2 over 131,072"),
     (Refusal::NotThere, 9, "the start or the vertex wanted is not there, or the list of edges is no path"),
     (Refusal::NoReference, 10, "there is no reference path"),
     (Refusal::Room, 11, "the output is shorter than the result"),
@@ -54,7 +58,7 @@ impl Refusal {
         Some(known.unwrap_or(Refusal::UnknownNumber(number)))
     }
 
-    /// The number that the call told: 0 where it accepted.
+    /// The number that the call told: 0 where it accepted, or was not made.
     pub fn number(self) -> u32 {
         match self {
             Refusal::UnknownNumber(number) => number,
@@ -69,6 +73,7 @@ impl fmt::Display for Refusal {
             Refusal::UnknownNumber(n) => write!(f, "the unknown refusal {n}"),
             Refusal::UnknownEnd(n) => write!(f, "the unknown end {n}"),
             Refusal::UnknownStatus(n) => write!(f, "the unknown status {n}"),
+            Refusal::NoThread => f.write_str("no thread could be had with stack enough for this record"),
             known => f.write_str(KNOWN.iter().find(|k| k.0 == *known).map_or("", |k| k.2)),
         }
     }

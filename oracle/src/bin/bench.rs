@@ -9,23 +9,27 @@
 //! to record: its graph is built from the record, by its own functions, and written.
 //!
 //! Of the regions that grow, a second table has the time for each vertex.
+//!
+//! All of it runs on a thread whose stack is enough for our calls on every record.
 use oracle::case::{read_frame, words, Answer, Case, Tally};
 use oracle::oracle::{CLEANUP_SEQ_GRAPH, FROM_ASSEMBLY_GRAPH, SIMPLIFY_GRAPH};
 use oracle::ours::{self, Tables};
-use oracle::record::{assembly_graph, seq_graph, write};
+use oracle::record::{assembly_graph, counts, seq_graph, write, Form};
 use oracle::seq_graph::{SeqGraph, SeqGraphCleanupStatus};
 use oracle::seq_graph_simplify::simplify_graph_full;
 use std::env::args;
 use std::io::{self, BufReader};
+use std::thread;
 use std::time::{Duration, Instant};
 
 const WORDS: usize = 3;
-/// The marks of a record.
+/// The marks of a record; one that has both has their sum.
 const SLOW: u32 = 1;
 const GROWING: u32 = 2;
-/// Where a record has the count of its vertices.
-const VERTICES_AT: usize = 8;
-const ROOM: usize = 1 << 18;
+/// Enough for every answer.
+const ROOM: usize = 4_194_340;
+/// Our calls take up to 32 MiB; the rest is for what stands above them.
+const STACK: usize = 40 << 20;
 /// Runs go on until this time has passed, but for at least so many and at most so many; a long one is not repeated.
 const ENOUGH: Duration = Duration::from_millis(1500);
 const LEAST: usize = 5;
@@ -40,8 +44,8 @@ struct Record {
 }
 
 impl Record {
-    fn vertices(&self) -> u32 {
-        u16::from_le_bytes([self.bytes[VERTICES_AT], self.bytes[VERTICES_AT + 1]]).into()
+    fn has(&self, mark: u32) -> bool {
+        self.mark & mark != 0
     }
 
     fn what(&self) -> &'static str {
@@ -121,14 +125,15 @@ fn work(call: u32, graph: &mut SeqGraph) -> u8 {
     }
 }
 
-/// The Rust from record to record.
+/// The Rust from record to record, in the same form.
 fn rust_record(record: &Record) -> Vec<u8> {
+    let form = Form::of(&record.bytes);
     if record.call == FROM_ASSEMBLY_GRAPH {
-        return write(&SeqGraph::from_assembly_graph(&assembly_graph(&record.bytes)), 0);
+        return write(form, &SeqGraph::from_assembly_graph(&assembly_graph(&record.bytes)), 0);
     }
     let mut graph = seq_graph(&record.bytes);
     let status = work(record.call, &mut graph);
-    write(&graph, status)
+    write(form, &graph, status)
 }
 
 /// The Rust's time and the record it makes. `whole`: its graph is built and written in the time.
@@ -151,7 +156,7 @@ fn time_rust(record: &Record, whole: bool) -> ((f64, usize), Vec<u8>) {
             time
         })
     };
-    (time, write(&last.expect("a run"), status))
+    (time, write(Form::of(&record.bytes), &last.expect("a run"), status))
 }
 
 fn print_head(whole: bool) {
@@ -168,60 +173,79 @@ fn print_head(whole: bool) {
     println!("{:<46} {ours:>9} runs {rust:>11} runs   ratio rewrites rounds", "record");
 }
 
-/// A region of the row that grows, with the seconds that both took.
+/// A region of the row that grows, with the seconds that both took, the Rust only if it was run.
 struct Grown {
     record: Record,
     ours: f64,
-    rust: f64,
+    rust: Option<f64>,
+}
+
+impl Grown {
+    /// A time for each vertex, in ns.
+    fn per_vertex(&self, time: f64) -> f64 {
+        1e9 * time / counts(&self.record.bytes).vertices as f64
+    }
+}
+
+/// The number with so many places, or a dash.
+fn or_dash(number: Option<f64>, places: usize) -> String {
+    number.map_or("-".to_string(), |n| format!("{n:.places$}"))
 }
 
 /// The time for each vertex. `growth` is ours against that of the smallest region, in the same call: 1 if the time grows as
-/// the vertices do, 2 from 500 to 1,000 and 4 to 2,000 if it grows as their square.
+/// the vertices do, 2 from 500 to 1,000 and 60 to 30,000 if it grows as their square.
 fn print_grown(rows: &[Grown]) {
-    let per_vertex = |time: f64, row: &Grown| 1e9 * time / f64::from(row.record.vertices());
     println!("\ntime for each vertex of a region that grows, in ns\n");
     println!("{:<46} {:>9} {:>11} {:>7} {:>7}", "record", "ours", "Rust", "ratio", "growth");
     for row in rows {
         let first = rows.iter().find(|r| r.record.call == row.record.call).expect("the row itself");
-        let (ours, rust) = (per_vertex(row.ours, row), per_vertex(row.rust, row));
-        let (ratio, growth) = (row.rust / row.ours, ours / per_vertex(first.ours, first));
+        let ours = row.per_vertex(row.ours);
+        let rust = or_dash(row.rust.map(|time| row.per_vertex(time)), 1);
+        let ratio = or_dash(row.rust.map(|time| time / row.ours), 1);
+        let growth = ours / first.per_vertex(first.ours);
         let name = format!("{} {}", row.record.what(), row.record.name);
-        println!("{name:<46} {ours:>9.1} {rust:>11.1} {ratio:>7.1} {growth:>7.2}");
+        println!("{name:<46} {ours:>9.1} {rust:>11} {ratio:>7} {growth:>7.2}");
     }
 }
 
 /// Times both on a record, and prints its line; the seconds of both, the Rust's only if it was run.
 fn print_line(record: &Record, quick: bool, whole: bool) -> (f64, Option<f64>) {
     let (mine, answer, bytes) = time_ours(record);
-    let theirs = (!quick || record.mark != SLOW).then(|| {
+    let theirs = (!quick || !record.has(SLOW)).then(|| {
         let (time, made) = time_rust(record, whole);
         assert!(made == bytes, "{}: the answers differ", record.name);
         time
     });
-    let (rust, ratio) = match theirs {
-        Some((time, runs)) => {
-            (format!("{:>11.3} {runs:>4}", 1000.0 * time), format!("{:>7.1}", time / mine.0))
-        }
-        None => (format!("{:>11} {:>4}", "-", "-"), format!("{:>7}", "-")),
-    };
+    let seconds = theirs.map(|t| t.0);
+    let rust = or_dash(seconds.map(|time| 1000.0 * time), 3);
+    let rust_runs = theirs.map_or("-".to_string(), |t| t.1.to_string());
+    let ratio = or_dash(seconds.map(|time| time / mine.0), 1);
     let rounds = if record.call == SIMPLIFY_GRAPH { answer.fields[1].to_string() } else { "-".to_string() };
     let (what, ms, runs, rewrites) = (record.what(), 1000.0 * mine.0, mine.1, answer.tally.rewrites);
-    println!("{what} {:<37} {ms:>9.3} {runs:>4} {rust} {ratio} {rewrites:>8} {rounds:>6}", record.name);
-    (mine.0, theirs.map(|t| t.0))
+    println!(
+        "{what} {:<37} {ms:>9.3} {runs:>4} {rust:>11} {rust_runs:>4} {ratio:>7} {rewrites:>8} {rounds:>6}",
+        record.name
+    );
+    (mine.0, seconds)
 }
 
-fn main() -> io::Result<()> {
+fn print_tables() -> io::Result<()> {
     let option = |name: &str| args().any(|a| a == name);
     let (quick, whole) = (option("quick"), option("whole"));
     let (mut input, mut grown) = (BufReader::new(io::stdin().lock()), vec![]);
     print_head(whole);
     while let Some(frame) = read_frame(&mut input)? {
         let record = parse(&frame);
-        let times = print_line(&record, quick, whole);
-        if let (GROWING, (ours, Some(rust))) = (record.mark, times) {
+        let (ours, rust) = print_line(&record, quick, whole);
+        if record.has(GROWING) {
             grown.push(Grown { record, ours, rust });
         }
     }
     print_grown(&grown);
     Ok(())
+}
+
+fn main() -> io::Result<()> {
+    let printing = thread::Builder::new().stack_size(STACK).spawn(print_tables)?;
+    printing.join().expect("the tables")
 }
