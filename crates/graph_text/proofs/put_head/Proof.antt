@@ -1,6 +1,5 @@
 -- `graph_text::put_head` meets its contract. Assumes nothing.
 use native.Mathlib.Omega.{arith}
-use native.Mathlib.Omega.{arith}
 use Rattle.text.proofs.TextLaws.{put-then}
 use borrow.Author.Needs.{needs}
 use Rattle.graph_text.proofs.put_head.Statement.{statement}

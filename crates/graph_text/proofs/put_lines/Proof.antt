@@ -1,6 +1,5 @@
 -- `graph_text::put_lines` meets its contract. Assumes nothing.
 use native.Mathlib.Omega.{arith}
-use native.Mathlib.Omega.{arith}
 use Rattle.graph_text.proofs.GraphLaws.{lines-put}
 use borrow.Author.Needs.{needs}
 use Rattle.graph_text.proofs.put_lines.Statement.{statement}

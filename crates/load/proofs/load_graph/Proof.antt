@@ -1,6 +1,5 @@
 -- `load::load_graph` meets its contract. Assumes nothing.
 use native.Mathlib.Omega.{arith}
-use native.Mathlib.Omega.{arith}
 use mathlib.Core.Path.{refl}
 use Rattle.defs.specs.Forms.{formOf}
 use Rattle.record.proofs.Fields.{bytes-at-read}

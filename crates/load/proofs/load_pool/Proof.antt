@@ -1,6 +1,5 @@
 -- `load::load_pool` meets its contract. Assumes nothing.
 use native.Mathlib.Omega.{arith}
-use native.Mathlib.Omega.{arith}
 use mathlib.Core.Path.{refl}
 use Rattle.record.proofs.Fields.{bytes-at-read}
 use Rattle.load.proofs.LoadLaws.{laid-headed, laid-length, laid-least, pooled}

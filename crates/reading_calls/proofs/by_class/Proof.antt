@@ -1,6 +1,5 @@
 -- `reading_calls::by_class` meets its contract. Assumes nothing.
 use native.Mathlib.Omega.{arith}
-use native.Mathlib.Omega.{arith}
 use Rattle.arrays.proofs.SizedLaws.{short-to-read, counted-to-read, long-headed}
 use borrow.Author.Needs.{needs}
 use Rattle.reading_calls.proofs.by_class.Statement.{statement}

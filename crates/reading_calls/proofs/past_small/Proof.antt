@@ -1,6 +1,5 @@
 -- `reading_calls::past_small` meets its contract. Assumes nothing.
 use native.Mathlib.Omega.{arith}
-use native.Mathlib.Omega.{arith}
 use mathlib.Core.Path.{sym, _∙_}
 use Rattle.form.proofs.FormLaws.{is-1}
 use Rattle.arrays.proofs.SizedLaws.{first-to-read, counted-to-read}

@@ -1,6 +1,5 @@
 -- `record::bad_edge` meets its contract. Assumes nothing.
 use native.Mathlib.Omega.{arith}
-use native.Mathlib.Omega.{arith}
 use mathlib.Core.Path.{_∙_, ap, sym}
 use lib.Dec.{ltb}
 use Rattle.record.proofs.Tests.{from-past, to-past, ends-below}

@@ -1,6 +1,5 @@
 -- `record::byte_count` meets its contract. Assumes nothing.
 use native.Mathlib.Omega.{arith}
-use native.Mathlib.Omega.{arith}
 use mathlib.Core.Path.{_∙_}
 use Rattle.record.proofs.Fields.{header-inside, words-inside, header-same, bytes-read}
 use Rattle.form.specs.Coded.{formIs}

@@ -1,6 +1,5 @@
 -- `record::count_past_limit` meets its contract. Assumes nothing.
 use native.Mathlib.Omega.{arith}
-use native.Mathlib.Omega.{arith}
 use mathlib.Core.Path.{_∙_, ap, sym}
 use lib.Dec.{ltb}
 use Rattle.defs.specs.Forms.{limits}

@@ -1,6 +1,5 @@
 -- `record::edge_count` meets its contract. Assumes nothing.
 use native.Mathlib.Omega.{arith}
-use native.Mathlib.Omega.{arith}
 use mathlib.Core.Path.{_∙_}
 use Rattle.record.proofs.Fields.{words-inside, edges-read}
 use borrow.Author.Needs.{needs}

@@ -1,6 +1,5 @@
 -- `record::edge_flag_at` meets its contract. Assumes nothing.
 use native.Mathlib.Omega.{arith}
-use native.Mathlib.Omega.{arith}
 use mathlib.Core.Path.{_∙_}
 use Rattle.record.proofs.Fields.{edge-parts-inside, flag-read}
 use borrow.Author.Needs.{needs}

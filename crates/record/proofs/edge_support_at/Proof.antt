@@ -1,6 +1,5 @@
 -- `record::edge_support_at` meets its contract. Assumes nothing.
 use native.Mathlib.Omega.{arith}
-use native.Mathlib.Omega.{arith}
 use mathlib.Core.Path.{_∙_}
 use Rattle.record.proofs.Fields.{edge-parts-inside, support-read}
 use borrow.Author.Needs.{needs}

@@ -1,6 +1,5 @@
 -- `record::has_mark` meets its contract. Assumes nothing.
 use native.Mathlib.Omega.{arith}
-use native.Mathlib.Omega.{arith}
 use mathlib.Core.Path.{_∙_, sym, ap}
 use lib.ListN.{take}
 use Rattle.defs.specs.Lists.{sameList}

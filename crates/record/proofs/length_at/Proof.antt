@@ -1,6 +1,5 @@
 -- `record::length_at` meets its contract. Assumes nothing.
 use native.Mathlib.Omega.{arith}
-use native.Mathlib.Omega.{arith}
 use mathlib.Core.Path.{_∙_}
 use Rattle.record.proofs.Fields.{length-part-inside, length-read}
 use borrow.Author.Needs.{needs}

@@ -1,6 +1,5 @@
 -- `record::offsets_disagree` meets its contract. Assumes nothing.
 use native.Mathlib.Omega.{arith}
-use native.Mathlib.Omega.{arith}
 use mathlib.Core.Path.{_∙_, ap, sym}
 use Rattle.defs.specs.Forms.{formOf}
 use Rattle.defs.specs.Record.{verticesOf, edgesOf, bytesAt}

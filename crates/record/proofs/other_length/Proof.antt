@@ -1,6 +1,5 @@
 -- `record::other_length` meets its contract. Assumes nothing.
 use native.Mathlib.Omega.{arith}
-use native.Mathlib.Omega.{arith}
 use mathlib.Core.Path.{_∙_, sym, ap}
 use Rattle.record.proofs.Fields.{header-same, stated-read}
 use Rattle.record.proofs.Tests.{short, stated}

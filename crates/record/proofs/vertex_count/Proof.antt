@@ -1,6 +1,5 @@
 -- `record::vertex_count` meets its contract. Assumes nothing.
 use native.Mathlib.Omega.{arith}
-use native.Mathlib.Omega.{arith}
 use mathlib.Core.Path.{_∙_}
 use Rattle.record.proofs.Fields.{words-inside, vertices-read}
 use borrow.Author.Needs.{needs}

@@ -1,6 +1,5 @@
 -- `rewriting_calls::by_class` meets its contract. Assumes nothing.
 use native.Mathlib.Omega.{arith}
-use native.Mathlib.Omega.{arith}
 use Rattle.arrays.proofs.SizedLaws.{short-to-rewrite, counted-to-rewrite, long-headed, counts-read}
 use borrow.Author.Needs.{needs}
 use Rattle.rewriting_calls.proofs.by_class.Statement.{statement}

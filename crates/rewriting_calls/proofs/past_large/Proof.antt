@@ -1,6 +1,5 @@
 -- `rewriting_calls::past_large` meets its contract. Assumes nothing.
 use native.Mathlib.Omega.{arith}
-use native.Mathlib.Omega.{arith}
 use mathlib.Core.Path.{sym, _∙_}
 use Rattle.form.proofs.FormLaws.{is-1, is-2}
 use Rattle.arrays.proofs.SizedLaws.{first-to-rewrite, short-to-rewrite, counted-to-rewrite}

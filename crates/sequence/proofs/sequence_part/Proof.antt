@@ -1,6 +1,5 @@
 -- `sequence::sequence_part` meets its contract. Assumes nothing.
 use native.Mathlib.Omega.{arith}
-use native.Mathlib.Omega.{arith}
 use Prim.Native.Nat.{_+_}
 use mathlib.Core.Path.{ap}
 use Rattle.record.proofs.Sequences.{sequence-inside, formed-length}

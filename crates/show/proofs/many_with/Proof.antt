@@ -1,6 +1,5 @@
 -- `show::many_with` meets its contract. Assumes nothing.
 use native.Mathlib.Omega.{arith}
-use native.Mathlib.Omega.{arith}
 use Rattle.show.proofs.ShowLaws.{
   recorded-few,
   recorded-long,

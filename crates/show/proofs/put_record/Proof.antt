@@ -1,6 +1,5 @@
 -- `show::put_record` meets its contract. Assumes nothing.
 use native.Mathlib.Omega.{arith}
-use native.Mathlib.Omega.{arith}
 use Rattle.show.proofs.ShowLaws.{recorded-headed}
 use borrow.Author.Needs.{needs}
 use Rattle.show.proofs.put_record.Statement.{statement}

@@ -1,6 +1,5 @@
 -- `write_record::put_header` meets its contract. Assumes nothing.
 use native.Mathlib.Omega.{arith}
-use native.Mathlib.Omega.{arith}
 use mathlib.Core.Path.{refl}
 use Rattle.form.specs.Coded.{formIs}
 use Rattle.form.proofs.FormLaws.{sizes, between}

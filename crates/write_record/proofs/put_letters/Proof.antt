@@ -1,6 +1,5 @@
 -- `write_record::put_letters` meets its contract. Assumes nothing.
 use native.Mathlib.Omega.{arith}
-use native.Mathlib.Omega.{arith}
 use lib.ListN.{length-set}
 use Rattle.write_record.proofs.WriteLaws.{letters-put}
 use borrow.Author.Needs.{needs}

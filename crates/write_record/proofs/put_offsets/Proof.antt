@@ -1,6 +1,5 @@
 -- `write_record::put_offsets` meets its contract. Assumes nothing.
 use native.Mathlib.Omega.{arith}
-use native.Mathlib.Omega.{arith}
 use Rattle.form.specs.Coded.{formIs}
 use Rattle.form.proofs.FormLaws.{sizes}
 use Rattle.write_record.proofs.WriteLaws.{offsets-put}

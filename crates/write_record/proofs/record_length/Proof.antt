@@ -1,6 +1,5 @@
 -- `write_record::record_length` meets its contract. Assumes nothing.
 use native.Mathlib.Omega.{arith}
-use native.Mathlib.Omega.{arith}
 use Rattle.form.specs.Coded.{formIs}
 use Rattle.form.proofs.FormLaws.{between}
 use Rattle.pool.specs.Pool.{bytesIn}

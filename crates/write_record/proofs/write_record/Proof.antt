@@ -1,6 +1,5 @@
 -- `write_record::write_record` meets its contract. Assumes nothing.
 use native.Mathlib.Omega.{arith}
-use native.Mathlib.Omega.{arith}
 use mathlib.Core.Path.{refl}
 use Rattle.form.specs.Coded.{formIs, wordLimit}
 use Rattle.form.proofs.FormLaws.{between}
