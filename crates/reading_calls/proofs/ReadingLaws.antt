@@ -150,7 +150,8 @@ module _ {h : Held} {es vs p heads nexts nodes mp tried : List ℕ} (Q : Answera
             );
       }
 
-pub cleaned-answered : {p : List ℕ} {f : Form} → f ≡ formOf p → {h : Held} {es vs : List ℕ} {c : Held} {es′ vs′ out out′ : List ℕ} {s : Answer} → Reduced cleanNonRefPaths h es vs c es′ vs′
+pub cleaned-answered : {p : List ℕ} {f : Form} → f ≡ formOf p → {h : Held} {es vs : List ℕ} {c : Held} {es′ vs′ out out′ : List ℕ} {s : Answer}
+    → Reduced cleanNonRefPaths h es vs c es′ vs′
     → Responds (fits (length out) (encode f sequenceGraph 0 (graphOf c es′ vs′ p))) out s out′
     → GraphAnswered cleaningResponse h es vs p out s out′
 unfolding cleaningResponse recordRefusal
