@@ -1,0 +1,208 @@
+//! What is said while files are worked on, and behind the last: a line for each refusal, progress, a summary, JSON.
+use crate::args::{Asked, Output};
+use crate::json::object;
+use crate::outcome::{Fact, Made, Problem, Value};
+use std::collections::BTreeMap;
+use std::ffi::OsStr;
+use std::io::{self, IsTerminal, Write};
+use std::os::unix::ffi::OsStrExt;
+use std::time::{Duration, Instant};
+
+const BAR: usize = 30;
+/// The bar is drawn anew so often.
+const STEP: Duration = Duration::from_millis(100);
+
+/// The name as it is, so that it can be taken from the line; what would break the line is escaped.
+fn put_name(out: &mut Vec<u8>, name: &OsStr) {
+    if name == "-" {
+        out.extend(b"standard input");
+        return;
+    }
+    for &b in name.as_bytes() {
+        if b.is_ascii_control() {
+            out.extend(format!("\\x{b:02x}").bytes());
+        } else {
+            out.push(b);
+        }
+    }
+}
+
+fn put_facts(out: &mut Vec<u8>, facts: &[Fact]) {
+    for (i, fact) in facts.iter().enumerate() {
+        let (comma, name) = (if i == 0 { "" } else { ", " }, fact.name);
+        let text = match &fact.value {
+            Value::Number(n) => format!("{comma}{name} {n}"),
+            Value::Word(word) => format!("{comma}{name} {word}"),
+            Value::Numbers(all) => format!("{comma}{name} {all:?}"),
+        };
+        out.extend(text.bytes());
+    }
+}
+
+/// A line of what was accepted.
+fn accepted_line(input: &OsStr, facts: &[Fact]) -> Vec<u8> {
+    let mut line = Vec::new();
+    put_name(&mut line, input);
+    line.extend(b": ");
+    put_facts(&mut line, facts);
+    line.push(b'\n');
+    line
+}
+
+/// A line of what was not.
+fn problem_line(input: &OsStr, problem: &Problem) -> Vec<u8> {
+    let mut line = Vec::new();
+    let of = match problem {
+        Problem::Failed { name: Some(name), .. } => name,
+        _ => input,
+    };
+    put_name(&mut line, of);
+    line.extend(b": ");
+    match problem {
+        Problem::Refused { refusal, facts, detail } => {
+            put_facts(&mut line, facts);
+            let comma = if facts.is_empty() { "" } else { ", " };
+            let detail = detail.as_ref().map(|d| format!(" ({d})")).unwrap_or_default();
+            line.extend(format!("{comma}refused {}: {refusal}{detail}", refusal.number()).bytes());
+        }
+        Problem::Unfit(why) | Problem::Failed { why, .. } => line.extend(why.bytes()),
+        Problem::Closed => line.extend(b"closed"),
+    }
+    line.push(b'\n');
+    line
+}
+
+pub struct Report<'a> {
+    asked: &'a Asked,
+    began: Instant,
+    drawn: Option<Instant>,
+    has_bar: bool,
+    accepted: usize,
+    /// By number; 0 for what this program refused.
+    refused: BTreeMap<u32, usize>,
+    failed: usize,
+    /// The exit status so far.
+    pub status: u8,
+}
+
+impl Report<'_> {
+    pub fn of(asked: &Asked) -> Report<'_> {
+        let has_bar = asked.inputs.len() > 1 && !asked.quiet && io::stderr().is_terminal();
+        let (began, refused) = (Instant::now(), BTreeMap::new());
+        Report { asked, began, drawn: None, has_bar, accepted: 0, refused, failed: 0, status: 0 }
+    }
+
+    /// Says what became of an input. An error if nobody reads standard output any more.
+    pub fn tell(
+        &mut self,
+        input: &OsStr,
+        output: &Output,
+        outcome: &Result<Made, Problem>,
+    ) -> io::Result<()> {
+        self.count(outcome);
+        match outcome {
+            Err(Problem::Closed) => Ok(()),
+            _ if self.asked.json => {
+                let facts = outcome.as_ref().map(|made| made.facts.as_slice());
+                self.say(object(input, output, facts).as_bytes())
+            }
+            Err(problem) => self.tell_problem(input, problem),
+            Ok(made) => self.tell_accepted(input, made),
+        }
+    }
+
+    fn count(&mut self, outcome: &Result<Made, Problem>) {
+        match outcome {
+            Ok(_) => self.accepted += 1,
+            Err(Problem::Refused { refusal, .. }) => *self.refused.entry(refusal.number()).or_default() += 1,
+            Err(Problem::Unfit(_)) => *self.refused.entry(0).or_default() += 1,
+            Err(_) => self.failed += 1,
+        }
+        self.status = self.status.max(outcome.as_ref().err().map_or(0, Problem::status));
+    }
+
+    /// What a report says is what was asked for; of what a command made a line is enough, and of many files none.
+    fn tell_accepted(&mut self, input: &OsStr, made: &Made) -> io::Result<()> {
+        let is_single = self.asked.inputs.len() == 1 && !self.asked.quiet;
+        match (self.asked.command.task.is_report(), made.bytes.is_empty()) {
+            (true, true) => return self.say(&accepted_line(input, &made.facts)),
+            (true, false) => return self.say(&made.bytes),
+            (false, _) if is_single && !made.facts.is_empty() => {
+                self.note(&accepted_line(input, &made.facts))
+            }
+            _ => {}
+        }
+        Ok(())
+    }
+
+    fn tell_problem(&mut self, input: &OsStr, problem: &Problem) -> io::Result<()> {
+        let line = problem_line(input, problem);
+        if self.asked.command.task.is_report() && matches!(problem, Problem::Refused { .. }) {
+            return self.say(&line);
+        }
+        self.note(&[b"sg: ", line.as_slice()].concat());
+        Ok(())
+    }
+
+    /// A problem that is none of an input.
+    pub fn fail(&mut self, name: &OsStr, why: &str) {
+        self.status = 3;
+        let problem = Problem::Failed { name: None, why: why.into() };
+        self.note(&[b"sg: ", problem_line(name, &problem).as_slice()].concat());
+    }
+
+    /// To standard output.
+    fn say(&mut self, line: &[u8]) -> io::Result<()> {
+        self.clear_bar();
+        let mut out = io::stdout().lock();
+        out.write_all(line)?;
+        out.flush()
+    }
+
+    /// To standard error; that it is closed is no reason to stop.
+    fn note(&mut self, line: &[u8]) {
+        self.clear_bar();
+        let _ = io::stderr().write_all(line);
+    }
+
+    fn clear_bar(&mut self) {
+        if self.drawn.take().is_some() {
+            let _ = io::stderr().write_all(b"\r\x1b[K");
+        }
+    }
+
+    /// Draws the bar, if there is a terminal and the last was drawn long enough ago.
+    pub fn progress(&mut self, done: usize) {
+        if !self.has_bar || self.drawn.is_some_and(|at| at.elapsed() < STEP) {
+            return;
+        }
+        let all = self.asked.inputs.len();
+        let (full, refused) = (BAR * done / all, self.refused.values().sum::<usize>());
+        let bar = "#".repeat(full) + &".".repeat(BAR - full);
+        let line = format!("\r\x1b[K[{bar}] {done}/{all}, {refused} refused, {}", self.rate(done));
+        let _ = io::stderr().write_all(line.as_bytes());
+        self.drawn = Some(Instant::now());
+    }
+
+    fn rate(&self, done: usize) -> String {
+        format!("{:.0} regions a second", done as f64 / self.began.elapsed().as_secs_f64().max(1e-9))
+    }
+
+    /// Behind the last of many files.
+    pub fn summary(&mut self) {
+        let (accepted, failed, refused) = (self.accepted, self.failed, self.refused.values().sum::<usize>());
+        let all = accepted + refused + failed;
+        if all < 2 || self.asked.quiet {
+            return;
+        }
+        let named = |(number, count): (&u32, &usize)| match number {
+            0 => format!("{count} unfit"),
+            _ => format!("{count} with {number}"),
+        };
+        let by_number: Vec<String> = self.refused.iter().map(named).collect();
+        let by_number = if refused == 0 { String::new() } else { format!(" ({})", by_number.join(", ")) };
+        let counts = format!("{accepted} accepted, {refused} refused{by_number}, {failed} failed");
+        let line = format!("{all} files: {counts}; {}\n", self.rate(all));
+        self.note(line.as_bytes());
+    }
+}

@@ -1,0 +1,185 @@
+//! Files in, files out: each input is read, worked on and written by one of several threads, and told in the order of the
+//! arguments.
+use crate::args::{Asked, Output};
+use crate::outcome::{reason, Made, Problem};
+use crate::report::Report;
+use crate::tallies::{add, add_to_file, require_table};
+use crate::task::{perform, Desk};
+use crate::whole::{folder_of, sync_folder, write_whole};
+use seq_graph::Tallies;
+use std::collections::BTreeMap;
+use std::ffi::OsStr;
+use std::fs::{create_dir_all, File};
+use std::io::{self, IsTerminal, Read, Write};
+use std::path::Path;
+use std::sync::atomic::{AtomicUsize, Ordering};
+use std::sync::mpsc::{channel, Receiver, RecvTimeoutError, Sender};
+use std::thread::{scope, Builder};
+use std::time::Duration;
+
+/// The longest file that is read. The longest record has 5,177,380 bytes, and its text form a few times as many.
+const LONGEST: u64 = 64 << 20;
+/// Enough for every call that the wrapper does not put on a thread of its own.
+const STACK: usize = 2 << 20;
+
+fn read_all(file: impl Read) -> io::Result<Vec<u8>> {
+    let mut data = Vec::new();
+    file.take(LONGEST + 1).read_to_end(&mut data)?;
+    if data.len() as u64 > LONGEST {
+        return Err(io::Error::other("it has over 64 MiB, and is not read"));
+    }
+    Ok(data)
+}
+
+fn read_input(name: &OsStr) -> Result<Vec<u8>, Problem> {
+    let data = if name == "-" { read_all(io::stdin().lock()) } else { File::open(name).and_then(read_all) };
+    data.map_err(|why| Problem::Failed { name: None, why: reason(&why) })
+}
+
+/// A string gets a line's end on a terminal, so that what comes next begins a line.
+fn write_stdout(bytes: &[u8]) -> io::Result<()> {
+    let mut out = io::stdout().lock();
+    out.write_all(bytes)?;
+    if out.is_terminal() && bytes.last().is_some_and(|&b| b != b'\n') {
+        out.write_all(b"\n")?;
+    }
+    out.flush()
+}
+
+/// Reads an input, works on it, and writes what was made. What is said of it comes back; what is written does not.
+fn one(asked: &Asked, input: &OsStr, output: &Output, desk: &mut Desk) -> Result<Made, Problem> {
+    let of_output = |why: io::Error| match output {
+        Output::File(path) => Problem::of_file(path.into(), &why),
+        _ => Problem::of_file("standard output".into(), &why),
+    };
+    if let Output::File(path) = output {
+        // before the work: a call whose answer has no place is not made
+        if path.is_file() && !asked.force {
+            return Err(of_output(io::ErrorKind::AlreadyExists.into()));
+        }
+    }
+    let mut made = perform(asked, input, &read_input(input)?, desk)?;
+    match output {
+        Output::Report => return Ok(made),
+        Output::Stdout => write_stdout(&made.bytes),
+        Output::File(path) => write_whole(path, &made.bytes, asked.force),
+    }
+    .map_err(of_output)?;
+    made.bytes = Vec::new();
+    Ok(made)
+}
+
+/// Inputs whose turn has come, one after another, and what became of each.
+struct Queue<'a> {
+    asked: &'a Asked,
+    outputs: &'a [Output],
+    next: AtomicUsize,
+}
+
+type Told = (usize, Result<Made, Problem>);
+
+impl Queue<'_> {
+    fn stop(&self) {
+        self.next.store(self.outputs.len(), Ordering::Relaxed);
+    }
+
+    /// Takes inputs until none is left; what the thread's calls counted.
+    fn work(&self, told: Sender<Told>) -> Tallies {
+        let mut desk = Desk::default();
+        loop {
+            let i = self.next.fetch_add(1, Ordering::Relaxed);
+            let Some(output) = self.outputs.get(i) else { return desk.table };
+            let outcome = one(self.asked, &self.asked.inputs[i], output, &mut desk);
+            if told.send((i, outcome)).is_err() {
+                return desk.table;
+            }
+        }
+    }
+
+    /// Tells what became of the inputs, in their order, as soon as all before are told. Stops where nobody reads on.
+    fn tell(&self, told: Receiver<Told>, report: &mut Report) -> io::Result<()> {
+        let (mut waiting, mut next) = (BTreeMap::new(), 0);
+        loop {
+            match told.recv_timeout(Duration::from_millis(200)) {
+                Ok((i, outcome)) => drop(waiting.insert(i, outcome)),
+                Err(RecvTimeoutError::Disconnected) => return Ok(()),
+                Err(RecvTimeoutError::Timeout) => {}
+            }
+            while let Some(outcome) = waiting.remove(&next) {
+                report.tell(&self.asked.inputs[next], &self.outputs[next], &outcome)?;
+                next += 1;
+            }
+            report.progress(next + waiting.len());
+        }
+    }
+}
+
+/// Works on all inputs. The sum of what was counted; an error if there is no thread to work on.
+fn work_on_all(queue: &Queue, jobs: usize, report: &mut Report) -> io::Result<Tallies> {
+    scope(|threads| {
+        let (sender, receiver) = channel();
+        let spawn = |_| {
+            let told = sender.clone();
+            Builder::new().stack_size(STACK).spawn_scoped(threads, move || queue.work(told))
+        };
+        let (begun, failed): (Vec<_>, Vec<_>) = (0..jobs).map(spawn).partition(Result::is_ok);
+        drop(sender);
+        // with fewer threads than wanted the work is done all the same
+        if let (true, Some(Err(why))) = (begun.is_empty(), failed.into_iter().next()) {
+            return Err(why);
+        }
+        if queue.tell(receiver, report).is_err() {
+            report.status = 3;
+            queue.stop();
+        }
+        let mut table = Tallies::default();
+        for thread in begun.into_iter().flatten() {
+            add(&mut table, &thread.join().unwrap_or_else(|panic| std::panic::resume_unwind(panic)));
+        }
+        Ok(table)
+    })
+}
+
+/// What must be there before the first input is read.
+fn prepare(asked: &Asked) -> Result<(), (&Path, io::Error)> {
+    if let Some(folder) = &asked.folder {
+        create_dir_all(folder).map_err(|why| (folder.as_path(), why))?;
+    }
+    if let Some(path) = &asked.tallies {
+        require_table(path).map_err(|why| (path.as_path(), why))?;
+    }
+    Ok(())
+}
+
+/// What is done when all inputs are: the names of the outputs last, and what was counted is kept.
+fn finish<'a>(asked: &'a Asked, outputs: &'a [Output], table: &Tallies) -> Result<(), (&'a Path, io::Error)> {
+    if let Some(Output::File(path)) = outputs.iter().find(|o| matches!(o, Output::File(p) if p.is_file())) {
+        let folder = folder_of(path);
+        sync_folder(folder).map_err(|why| (folder, why))?;
+    }
+    if let Some(path) = &asked.tallies {
+        add_to_file(path, table).map_err(|why| (path.as_path(), why))?;
+    }
+    Ok(())
+}
+
+/// Runs the command; the exit status.
+pub fn run(asked: &Asked) -> u8 {
+    let mut report = Report::of(asked);
+    let outputs = asked.outputs().unwrap_or_default();
+    if let Err((path, why)) = prepare(asked) {
+        report.fail(path.as_os_str(), &reason(&why));
+        return report.status;
+    }
+    let queue = Queue { asked, outputs: &outputs, next: AtomicUsize::new(0) };
+    match work_on_all(&queue, asked.jobs.min(asked.inputs.len()), &mut report) {
+        Err(why) => report.fail(OsStr::new("threads"), &reason(&why)),
+        Ok(table) => {
+            if let Err((path, why)) = finish(asked, &outputs, &table) {
+                report.fail(path.as_os_str(), &reason(&why));
+            }
+            report.summary();
+        }
+    }
+    report.status
+}
