@@ -94,7 +94,8 @@ row() { # CALL IN
 }
 
 bench/regions.py "$folder/regions" "$@"
-echo "| command | regions | sg, 1 core | sg, all ($cores) | Rust, 1 core | Rust, all ($cores) | ratio, 1 core | ratio, all ($cores) |"
+all="all $cores cores"
+echo "| command | regions | sg regions/s, 1 core | sg, $all | Rust regions/s, 1 core | Rust, $all | ratio, 1 core | ratio, $all |"
 echo "|---|---|---|---|---|---|---|---|"
 row convert "$folder/regions"
 mv "$folder/sg-1" "$folder/converted"

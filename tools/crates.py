@@ -5,6 +5,7 @@
                               docs/WORKING.md and the table in README.md are those of crates.txt
     tools/crates.py fix       write the lists, the drawing and the table as they have to be
     tools/crates.py draw      print the drawing
+    tools/crates.py count     print how many crates the library stands on, itself included: what `rt staticlib sg` proves
 
 A crate names another in `use` and `ghost use`, in a path of its code, or in a file of specs/ or proofs/; and who makes a struct or an
 enum, or takes an enum apart, needs the crates of the types that it holds, which the check has to name. In crates.txt a line
@@ -168,6 +169,17 @@ def check(crates, floors):
     print("crates.txt: %d crates on %d floors, each list exact" % (len(crates), len(floors)))
 
 
+def below(crates, name):
+    """The crate and all that it stands on, of this repository."""
+    found, waiting = set(), [name]
+    while waiting:
+        crate = waiting.pop()
+        if crate in crates and crate not in found:
+            found.add(crate)
+            waiting += crates[crate].deps
+    return found
+
+
 def main(verb):
     crates, floors = read_list()
     if verb == "check":
@@ -176,6 +188,8 @@ def main(verb):
         fix(crates, floors)
     elif verb == "draw":
         print(drawing(crates, floors), end="")
+    elif verb == "count":
+        print(len(below(crates, "sg")))
     else:
         sys.exit(__doc__)
 

@@ -1,8 +1,54 @@
 #!/usr/bin/env bash
-# Proves and builds the program sgshow, and simplifies a record with it: the one named, or document 01's first example.
-set -eu
-here=$(cd "$(dirname "$0")/.." && pwd)
-record=$(realpath "${1:-$here/crates/sgshow/stdin}")
-cd "$here"
-rt check sgshow >&2
-target/bin/sgshow <"$record"
+# Proves the library, builds the command sg, and shows it at work: a text made a record, simplified, cleaned up and shown.
+#
+#     tools/example.sh
+#
+# SG_BUILT=1 takes cli/target/release/sg as it is.
+set -euo pipefail
+cd "$(dirname "$0")/.."
+
+# Says which crate is proved, of how many; all that rt prints goes to the log.
+follow() { # LOG COUNT
+    local line n=0
+    while IFS= read -r line; do
+        printf '%s\n' "$line" >>"$1"
+        if [[ $line =~ ^rt:\ ([a-z_]+)\ proved\ \((.*)\)$ ]]; then
+            n=$((n + 1))
+            printf 'proved %d of %d: %s (%s)\n' "$n" "$2" "${BASH_REMATCH[1]}" "${BASH_REMATCH[2]}" >&2
+        elif [[ $line == "rt: target/staticlib/libsg.a "* ]]; then
+            printf 'proved %d of %d: sg, the library\n' "$2" "$2" >&2
+        fi
+    done
+}
+
+# More checks at once than cores: rt waits for the longest of a batch, and meanwhile the others have the cores.
+build() {
+    local log=target/example.log
+    mkdir -p target
+    : >"$log"
+    if ! RT_JOBS=${RT_JOBS:-4} rt staticlib sg 2>&1 | follow "$log" "$(tools/crates.py count)"; then
+        tail -20 "$log" >&2
+        exit 1
+    fi
+    cargo build --quiet --release --offline --manifest-path cli/Cargo.toml
+}
+
+# Shows a command, and what it says.
+show() {
+    echo "\$ $*"
+    "$@" 2>&1
+}
+
+[ -n "${SG_BUILT:-}" ] || build
+PATH=$PWD/cli/target/release:$PATH
+rm -rf target/example
+mkdir -p target/example
+cp docs/example.txt target/example
+cd target/example
+show sg make example.txt -o example.sgr
+show sg simplify example.sgr -o simplified.sgr
+show sg text simplified.sgr
+show sg cleanup simplified.sgr -o cleaned.sgr
+show sg show cleaned.sgr
+show sg reference --fasta cleaned.sgr
+show sg check -q example.sgr simplified.sgr cleaned.sgr

@@ -1,7 +1,7 @@
 #!/usr/bin/env bash
 # The test command. `rt ci` comes first: it removes what was built, proves every crate from nothing, tries the must-fail edits and runs the
 # programs. Its verdict is held back while what it has proved is tested from outside: the library from C and Rust, sgshow on its stored inputs, the
-# tools, and all calls against the Rust where cargo is present. If all of it passes, the verdict is the last line. Else the last line is
+# command sg and the tools, and all calls against the Rust where cargo is present. If all of it passes, the verdict is the last line. Else the last line is
 # `failed: NAME`, with the name of the step, and the status is not 0.
 set -uo pipefail
 cd "$(dirname "$0")/.." || exit 1
@@ -56,7 +56,7 @@ kit=$(rt version)
 step 'rt ci' prove
 step 'the library from C and Rust' tools/test_library.sh
 step sgshow tools/test_sgshow.py
-step 'the record tool' tools/test_sgr.py
+step 'the command sg' tools/test_sg.py
 step 'what moved' tools/test_moved.py
 step layout tools/test_layout.py
 step 'shared bindings' tools/test_share.py

@@ -137,30 +137,24 @@ fn form(value: &[u8]) -> Result<Form, String> {
 
 impl Asked {
     fn new(command: &'static Command) -> Asked {
-        let jobs = available_parallelism().map_or(1, NonZeroUsize::get);
-        let (inputs, vertices) = (Vec::new(), Vec::new());
-        let (output, folder, tallies) = (None, None, None);
-        let (vertex, form, k, support) = (None, None, None, None);
-        let (force, json, quiet, fasta, unchecked) = (false, false, false, false, false);
-        let caller = 0;
         Asked {
             command,
-            inputs,
-            output,
-            folder,
-            jobs,
-            force,
-            json,
-            quiet,
-            caller,
-            tallies,
-            vertices,
-            vertex,
-            fasta,
-            form,
-            unchecked,
-            k,
-            support,
+            inputs: Vec::new(),
+            output: None,
+            folder: None,
+            jobs: available_parallelism().map_or(1, NonZeroUsize::get),
+            force: false,
+            json: false,
+            quiet: false,
+            caller: 0,
+            tallies: None,
+            vertices: Vec::new(),
+            vertex: None,
+            fasta: false,
+            form: None,
+            unchecked: false,
+            k: None,
+            support: None,
         }
     }
 

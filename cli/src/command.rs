@@ -151,8 +151,8 @@ pub struct Command {
     own: &'static [Opt],
 }
 
-const FILES: [Opt; 4] = [Opt::Output, Opt::Folder, Opt::Force, Opt::Jobs];
-const ALL: [Opt; 3] = [Opt::Json, Opt::Quiet, Opt::Help];
+static FILES: [Opt; 4] = [Opt::Output, Opt::Folder, Opt::Force, Opt::Jobs];
+static ALL: [Opt; 3] = [Opt::Json, Opt::Quiet, Opt::Help];
 const COUNTED: &[Opt] = &[Opt::Caller, Opt::Tallies];
 const MAKING: &[Opt] = &[Opt::Form, Opt::Unchecked];
 
@@ -162,11 +162,23 @@ impl Command {
     }
 
     /// The options that it takes, in the order of its help.
-    pub fn options(&self) -> impl Iterator<Item = &'static OptionText> + '_ {
+    pub fn options(&self) -> impl Iterator<Item = &'static OptionText> {
         let files: &[Opt] = if self.task.is_report() { &[Opt::Jobs] } else { &FILES };
-        let taken = self.own.iter().chain(files).chain(&ALL);
-        taken.filter_map(|opt| OPTIONS.iter().find(|text| text.opt == *opt))
+        self.own_options().chain(texts(files)).chain(texts(&ALL))
     }
+
+    pub fn own_options(&self) -> impl Iterator<Item = &'static OptionText> {
+        texts(self.own)
+    }
+}
+
+/// The options of every command that makes a file.
+pub fn shared_options() -> impl Iterator<Item = &'static OptionText> {
+    texts(&FILES).chain(texts(&ALL))
+}
+
+fn texts(opts: &'static [Opt]) -> impl Iterator<Item = &'static OptionText> {
+    opts.iter().filter_map(|opt| OPTIONS.iter().find(|text| text.opt == *opt))
 }
 
 pub const COMMANDS: [Command; 15] = [
@@ -177,9 +189,8 @@ pub const COMMANDS: [Command; 15] = [
         text: "A line for each file: form, kind, status, k and the counts of vertices, edges and sequence bytes, as far as \
                the file says them; and the refusal, with its number, its cause and what is wrong, if the library \
                refuses it.\n\n\
-               A sequence graph is taken if simplification and every other call take it, a k-mer graph if it can \
-               be converted. What simplification and cleanup wrote can be past the limits of input; then it is \
-               refused with 3.",
+               A sequence graph is taken if none of 1 to 7 refuses it, a k-mer graph if it can be converted. What \
+               simplification and cleanup wrote can be past the limits of input; then it is refused with 3.",
         example: "sg check *.sgr",
         own: &[],
     },

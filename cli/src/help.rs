@@ -1,9 +1,12 @@
 //! The help and the manual page, both made of the texts of `command`.
-use crate::command::{Command, OptionText, COMMANDS};
+use crate::command::{shared_options, Command, OptionText, COMMANDS};
 use crate::text::line;
+use seq_graph::Refusal;
 use std::fmt::Write;
 
 const WIDTH: usize = 78;
+/// The last number that a refusal may have.
+const LAST_NUMBER: u32 = 255;
 
 const WHAT: &str = "Simplifies and cleans sequence graphs, in records of the forms SGR1 and SGR2, by a library that is proved: \
                     every record gets its right result, or one refusal number.";
@@ -79,6 +82,12 @@ pub fn usage(command: Option<&Command>) -> String {
     }
 }
 
+/// The refusals that the library knows, by their numbers.
+fn refusals() -> impl Iterator<Item = Refusal> {
+    let all = (1..=LAST_NUMBER).filter_map(Refusal::of);
+    all.filter(|refusal| !matches!(refusal, Refusal::UnknownNumber(_)))
+}
+
 /// Of all commands.
 pub fn overview() -> String {
     let mut out = usage(None) + "       sg help COMMAND\n\n";
@@ -90,6 +99,10 @@ pub fn overview() -> String {
     for (heading, text) in GENERAL {
         line!(out, "\n{heading}\n");
         put_filled(&mut out, "  ", text);
+    }
+    line!(out, "\nRefusals\n");
+    for refusal in refusals() {
+        line!(out, "  {:>2}  {refusal}", refusal.number());
     }
     out
 }
@@ -129,13 +142,17 @@ fn put_roff_paragraphs(out: &mut String, text: &str) {
     }
 }
 
+fn put_roff_options(out: &mut String, options: impl Iterator<Item = &'static OptionText>) {
+    for option in options {
+        line!(out, ".TP\n.B {}\n{}", roff(option_head(option).trim_start()), roff(option.says));
+    }
+}
+
 fn put_roff_command(out: &mut String, command: &Command) {
     line!(out, ".SS {}", roff(command.name));
     line!(out, ".B sg {}\n[options] FILE..\n.PP", roff(command.name));
     put_roff_paragraphs(out, command.text);
-    for option in command.options() {
-        line!(out, ".TP\n.B {}\n{}", roff(option_head(option).trim_start()), roff(option.says));
-    }
+    put_roff_options(out, command.own_options());
     line!(out, ".PP\nExample:\n.PP\n.nf\n    {}\n.fi", roff(command.example));
 }
 
@@ -149,9 +166,15 @@ pub fn manual() -> String {
     for command in &COMMANDS {
         put_roff_command(&mut out, command);
     }
+    line!(out, ".SH OPTIONS OF ALL COMMANDS");
+    put_roff_options(&mut out, shared_options());
     for (heading, text) in GENERAL {
         line!(out, ".SH {}", heading.to_uppercase());
         put_roff_paragraphs(&mut out, text);
+    }
+    line!(out, ".SH REFUSALS");
+    for refusal in refusals() {
+        line!(out, ".TP\n.B {}\n{}", refusal.number(), roff(&refusal.to_string()));
     }
     out
 }

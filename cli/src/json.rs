@@ -84,7 +84,7 @@ pub fn object(input: &OsStr, output: &Output, outcome: Result<&[Fact], &Problem>
         }
         Err(Problem::Failed { name, why }) => {
             object.text("result", "failed");
-            object.file("failed", name.as_deref().unwrap_or(input));
+            object.file("failed_file", name.as_deref().unwrap_or(input));
             object.text("cause", why);
         }
         Err(Problem::Closed) => object.text("result", "closed"),

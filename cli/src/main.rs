@@ -26,10 +26,11 @@ const MISUSED: u8 = 2;
 /// Prints a text that was asked for; 3 if it cannot be written.
 fn print(text: &str) -> u8 {
     let mut out = io::stdout().lock();
-    match out.write_all(text.as_bytes()).and_then(|_| out.flush()) {
-        Ok(()) => 0,
-        Err(_) => 3,
+    let Err(why) = out.write_all(text.as_bytes()).and_then(|_| out.flush()) else { return 0 };
+    if why.kind() != io::ErrorKind::BrokenPipe {
+        let _ = writeln!(io::stderr(), "sg: standard output: {}", outcome::reason(&why));
     }
+    3
 }
 
 fn tell_misused(misused: &Misused) -> u8 {

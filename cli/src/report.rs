@@ -1,7 +1,7 @@
 //! What is said while files are worked on, and behind the last: a line for each refusal, progress, a summary, JSON.
 use crate::args::{Asked, Output};
 use crate::json::object;
-use crate::outcome::{Fact, Made, Problem, Value};
+use crate::outcome::{reason, Fact, Made, Problem, Value};
 use std::collections::BTreeMap;
 use std::ffi::OsStr;
 use std::io::{self, IsTerminal, Write};
@@ -92,7 +92,7 @@ impl Report<'_> {
         Report { asked, began, drawn: None, has_bar, accepted: 0, refused, failed: 0, status: 0 }
     }
 
-    /// Says what became of an input. An error if nobody reads standard output any more.
+    /// Says what became of an input. An error if standard output takes no more.
     pub fn tell(
         &mut self,
         input: &OsStr,
@@ -121,16 +121,16 @@ impl Report<'_> {
         self.status = self.status.max(outcome.as_ref().err().map_or(0, Problem::status));
     }
 
-    /// What a report says is what was asked for; of what a command made a line is enough, and of many files none.
+    /// What a report says is what was asked for. Of a record that was made a line is enough, and of many none; a text or
+    /// a string speaks for itself.
     fn tell_accepted(&mut self, input: &OsStr, made: &Made) -> io::Result<()> {
-        let is_single = self.asked.inputs.len() == 1 && !self.asked.quiet;
-        match (self.asked.command.task.is_report(), made.bytes.is_empty()) {
-            (true, true) => return self.say(&accepted_line(input, &made.facts)),
-            (true, false) => return self.say(&made.bytes),
-            (false, _) if is_single && !made.facts.is_empty() => {
-                self.note(&accepted_line(input, &made.facts))
-            }
-            _ => {}
+        let task = self.asked.command.task;
+        if task.is_report() {
+            let line = accepted_line(input, &made.facts);
+            return self.say(if made.bytes.is_empty() { &line } else { &made.bytes });
+        }
+        if task.makes_record() && self.asked.inputs.len() == 1 && !self.asked.quiet {
+            self.note(&accepted_line(input, &made.facts));
         }
         Ok(())
     }
@@ -149,6 +149,14 @@ impl Report<'_> {
         self.status = 3;
         let problem = Problem::Failed { name: None, why: why.into() };
         self.note(&[b"sg: ", problem_line(name, &problem).as_slice()].concat());
+    }
+
+    /// Standard output takes no more. That nobody reads on needs no word.
+    pub fn fail_to_say(&mut self, why: &io::Error) {
+        self.status = 3;
+        if why.kind() != io::ErrorKind::BrokenPipe {
+            self.fail(OsStr::new("standard output"), &reason(why));
+        }
     }
 
     /// To standard output.

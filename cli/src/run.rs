@@ -105,12 +105,22 @@ impl Queue<'_> {
                 Err(RecvTimeoutError::Disconnected) => return Ok(()),
                 Err(RecvTimeoutError::Timeout) => {}
             }
-            while let Some(outcome) = waiting.remove(&next) {
-                report.tell(&self.asked.inputs[next], &self.outputs[next], &outcome)?;
-                next += 1;
-            }
+            self.tell_ready(&mut waiting, &mut next, report)?;
             report.progress(next + waiting.len());
         }
+    }
+
+    fn tell_ready(
+        &self,
+        waiting: &mut BTreeMap<usize, Result<Made, Problem>>,
+        next: &mut usize,
+        report: &mut Report,
+    ) -> io::Result<()> {
+        while let Some(outcome) = waiting.remove(next) {
+            report.tell(&self.asked.inputs[*next], &self.outputs[*next], &outcome)?;
+            *next += 1;
+        }
+        Ok(())
     }
 }
 
@@ -128,8 +138,8 @@ fn work_on_all(queue: &Queue, jobs: usize, report: &mut Report) -> io::Result<Ta
         if let (true, Some(Err(why))) = (begun.is_empty(), failed.into_iter().next()) {
             return Err(why);
         }
-        if queue.tell(receiver, report).is_err() {
-            report.status = 3;
+        if let Err(why) = queue.tell(receiver, report) {
+            report.fail_to_say(&why);
             queue.stop();
         }
         let mut table = Tallies::default();

@@ -169,9 +169,12 @@ fn string(asked: &Asked, name: &OsStr, made: Made) -> Result<Made, Problem> {
 }
 
 fn show(data: &[u8], caller: Caller, desk: &mut Desk) -> Result<Made, Problem> {
-    let (answer, done) = simplify(data, caller, desk)?;
+    let (mut answer, done) = simplify(data, caller, desk)?;
     let graph = follow(&answer.bytes).map_err(Problem::Unfit)?;
-    Ok(Made { bytes: shown_graph(&graph, &done).into(), facts: answer.facts })
+    answer.bytes = shown_graph(&graph, &done).into();
+    // the length is that of the record, which is not what is written
+    answer.facts.retain(|fact| fact.name != "length");
+    Ok(answer)
 }
 
 /// A record in another form, whatever the library says of it, if its fields can be followed.

@@ -114,9 +114,10 @@ def check_full_disk(folder):
     assert lines[2].startswith("3 files: 1 accepted, 0 refused, 2 failed; "), lines
     full = run("text", "-", "-o", "/dev/full", given=CASE_1)
     failed(full, 3, b"sg: /dev/full: No space left on device\n")
-    with open("/dev/full", "wb") as device:
-        done = subprocess.run([SG, "text", "-"], input=CASE_1, stdout=device, stderr=subprocess.PIPE)
-    assert (done.returncode, done.stderr) == (3, b"sg: standard output: No space left on device\n"), done
+    for words in (["text", "-"], ["check", "-"], ["help"]):
+        with open("/dev/full", "wb") as device:
+            done = subprocess.run([SG, *words], input=CASE_1, stdout=device, stderr=subprocess.PIPE)
+        assert (done.returncode, done.stderr) == (3, b"sg: standard output: No space left on device\n"), done
 
 
 def check_pipes(folder):
@@ -172,6 +173,15 @@ def check_terminal(folder):
     assert status == 0 and b"\x1b" not in shown and shown.count(b"\n") == 3
 
 
+def check_example(_):
+    """The worked example is what README.md shows of it."""
+    done = subprocess.run(
+        [os.path.join(ROOT, "tools/example.sh")], env={**os.environ, "SG_BUILT": "1"}, capture_output=True, check=True
+    )
+    shown = b"".join(b"    " + line + b"\n" for line in done.stdout.splitlines())
+    assert done.stderr == b"" and shown in contents(os.path.join(ROOT, "README.md")), done.stdout.decode()
+
+
 def check_json(folder):
     """What --json says of each command, as it is stored: tests/sg/told.jsonl has the arguments before each answer."""
     put(folder, "case 1.sgr", CASE_1)
@@ -198,5 +208,6 @@ def check_json(folder):
 
 
 CHECKS = [
-    check_statuses, check_help, check_names, check_outputs, check_full_disk, check_pipes, check_terminal, check_json,
+    check_statuses, check_help, check_names, check_outputs, check_full_disk, check_pipes, check_terminal, check_example,
+    check_json,
 ]
