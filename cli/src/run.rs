@@ -22,8 +22,9 @@ const LONGEST: u64 = 64 << 20;
 /// Enough for every call that the wrapper does not put on a thread of its own.
 const STACK: usize = 2 << 20;
 
-fn read_all(file: impl Read) -> io::Result<Vec<u8>> {
-    let mut data = Vec::new();
+/// All of a file of about this length.
+fn read_all(file: impl Read, length: u64) -> io::Result<Vec<u8>> {
+    let mut data = Vec::with_capacity(length.min(LONGEST) as usize + 1);
     file.take(LONGEST + 1).read_to_end(&mut data)?;
     if data.len() as u64 > LONGEST {
         return Err(io::Error::other("it has over 64 MiB, and is not read"));
@@ -32,7 +33,9 @@ fn read_all(file: impl Read) -> io::Result<Vec<u8>> {
 }
 
 fn read_input(name: &OsStr) -> Result<Vec<u8>, Problem> {
-    let data = if name == "-" { read_all(io::stdin().lock()) } else { File::open(name).and_then(read_all) };
+    let read_file = |file: File| read_all(&file, file.metadata()?.len());
+    let data =
+        if name == "-" { read_all(io::stdin().lock(), 0) } else { File::open(name).and_then(read_file) };
     data.map_err(|why| Problem::Failed { name: None, why: reason(&why) })
 }
 
