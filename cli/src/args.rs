@@ -2,7 +2,7 @@
 use crate::command::{Command, Opt, OptionText, Task};
 use crate::words::number_of;
 use seq_graph::Form;
-use std::collections::HashSet;
+use std::collections::{HashSet, VecDeque};
 use std::ffi::{OsStr, OsString};
 use std::num::NonZeroUsize;
 use std::os::unix::ffi::{OsStrExt, OsStringExt};
@@ -94,11 +94,21 @@ struct Found<'a> {
     value: Option<&'a [u8]>,
 }
 
+/// The first of several options in one argument, as in -qf, and an argument with the others. The first takes no value.
+fn first_of_several(command: &Command, word: &OsStr) -> Option<[OsString; 2]> {
+    let &[b'-', first, ref others @ ..] = word.as_bytes() else { return None };
+    let is_flag = |text: &&OptionText| text.short == Some(first.into()) && text.value.is_none();
+    if others.is_empty() || command.options().find(is_flag).is_none() {
+        return None;
+    }
+    let argument = |letters: &[u8]| OsString::from_vec([b"-", letters].concat());
+    Some([argument(&[first]), argument(others)])
+}
+
 /// The option that this argument is; none if it is a file.
 fn option_in<'a>(command: &Command, word: &'a OsStr) -> Result<Option<Found<'a>>, String> {
     let bytes = word.as_bytes();
     let (name, value) = match bytes {
-        b"--" => return Ok(None),
         [b'-', b'-', long @ ..] => match long.iter().position(|&b| b == b'=') {
             Some(at) => (&long[..at], Some(&long[at + 1..])),
             None => (long, None),
@@ -121,6 +131,17 @@ fn option_in<'a>(command: &Command, word: &'a OsStr) -> Result<Option<Found<'a>>
         return Err(format!("--{} takes no value", option.long));
     }
     Ok(Some(Found { option, value }))
+}
+
+/// The option's value: what stands with it, or else the next argument; empty if it takes none.
+fn value_of(found: &Found, words: &mut VecDeque<OsString>) -> Result<Vec<u8>, String> {
+    match (found.option.value, found.value) {
+        (Some(_), None) => {
+            let next = words.pop_front().map(OsString::into_vec);
+            next.ok_or_else(|| format!("--{} lacks its value", found.option.long))
+        }
+        (_, value) => Ok(value.unwrap_or(b"").to_vec()),
+    }
 }
 
 fn number(option: &OptionText, value: &[u8], most: u32) -> Result<u32, String> {
@@ -159,21 +180,20 @@ impl Asked {
     }
 
     fn read(command: &'static Command, words: &[OsString]) -> Result<Arguments, String> {
-        let (mut asked, mut words, mut only_files) = (Asked::new(command), words.iter(), false);
-        while let Some(word) = words.next() {
-            let found = if only_files { None } else { option_in(command, word)? };
-            match found {
-                None if word == "--" && !only_files => only_files = true,
-                None => asked.inputs.push(word.clone()),
+        let (mut asked, mut words) = (Asked::new(command), VecDeque::from(words.to_vec()));
+        while let Some(mut word) = words.pop_front() {
+            if word == "--" {
+                asked.inputs.extend(words);
+                break;
+            }
+            if let Some([first, others]) = first_of_several(command, &word) {
+                words.push_front(others);
+                word = first;
+            }
+            match option_in(command, &word)? {
+                None => asked.inputs.push(word),
                 Some(found) if found.option.opt == Opt::Help => return Ok(Arguments::Help(Some(command))),
-                Some(found) => {
-                    let lacking = || format!("--{} lacks its value", found.option.long);
-                    let value = match (found.option.value, found.value) {
-                        (Some(_), None) => words.next().ok_or_else(lacking)?.as_bytes(),
-                        (_, value) => value.unwrap_or(b""),
-                    };
-                    asked.take(found.option, value)?;
-                }
+                Some(found) => asked.take(found.option, &value_of(&found, &mut words)?)?,
             }
         }
         asked.complete()?;
@@ -307,11 +327,14 @@ mod tests {
             &["simplify", "-j3", "-dout", "a"],
             &["simplify", "--jobs=3", "--directory", "out", "--", "a"],
             &["simplify", "--jobs", "3", "a", "--directory=out"],
+            &["simplify", "-qfj3", "a", "-fqd", "out"],
         ] {
             let asked = asked(line).unwrap_or_else(|why| panic!("{why}"));
             assert_eq!((asked.jobs, asked.inputs.len()), (3, 1), "{line:?}");
             assert_eq!(asked.outputs(), Ok(vec![Output::File("out/a".into())]));
         }
+        let flags = asked(&["simplify", "-fq", "a"]).unwrap_or_else(|why| panic!("{why}"));
+        assert_eq!((flags.force, flags.quiet, flags.json), (true, true, false));
         assert_eq!(asked(&["text", "--", "-x"]).unwrap_or_else(|why| panic!("{why}")).inputs, ["-x"]);
         assert_eq!(
             asked(&["path", "-p", "0,1,3", "-"]).unwrap_or_else(|why| panic!("{why}")).vertices,
@@ -351,6 +374,8 @@ mod tests {
             &["simplify", "a", "-j", "x"],
             &["simplify", "a", "-j"],
             &["simplify", "a", "-x"],
+            &["simplify", "a", "-qx"],
+            &["simplify", "a", "-q="],
             &["simplify", "a", "--force=1"],
             &["simplify", "a", "--form", "sgr1"],
             &["make", "a", "--form", "sgr3"],

@@ -174,11 +174,54 @@ def check_texts(folder):
             assert text == text_of(record), (record, text)
         else:
             assert said["number"] == refusal(record) and said["number"] in (1, 2, 3, 4) and said["detail"], said
+    check_same_problems(folder, inputs, objects)
     again = os.path.join(folder, "again")
     status, _, noted = run("make", "--unchecked", "-d", again, *sorted(glob.glob(os.path.join(folder, "out", "*"))))
     assert status == 0, noted
     made = [contents(path) for path in sorted(glob.glob(os.path.join(again, "*.sgr")))]
     assert made == followed
+
+
+def check_same_problems(folder, inputs, by_text):
+    """gfa and dot can be made of the same records; of some the graph cannot be shown, and that is no number."""
+    for command in ("gfa", "dot"):
+        work = os.path.join(folder, command)
+        os.mkdir(work)
+        for said, due in zip(run_all(work, command, inputs)[0], by_text):
+            if due["result"] == "refused":
+                assert {**said, "output": None} == {**due, "output": None}, (said, due)
+            else:
+                assert said["result"] == "accepted" or said["number"] is None, said
+
+
+def damaged_texts(rng, good, count):
+    """Bytes changed, lines lost, doubled and swapped."""
+    for _ in range(count):
+        lines = rng.choice(good).splitlines(keepends=True)
+        i, j = rng.randrange(len(lines)), rng.randrange(len(lines))
+        lines[i] = rng.choice([b"", lines[i] * 2, lines[j], lines[i].upper(), lines[i][: rng.randrange(len(lines[i]))]])
+        data = bytearray(b"".join(lines))
+        for _ in range(rng.choice([0, 0, 1, 3])):
+            data[rng.randrange(len(data))] = rng.choice(b"0123456789 \t\n\\x.*+-rcevkSLHACGT\xff\0")
+        yield bytes(data)
+
+
+def check_damaged_texts(folder):
+    """Whatever a text has become, it is told what is wrong with it, or a sound record is made of it."""
+    rng = random.Random("sg, damaged texts")
+    records = [record for record in sequence_records(rng, 60) if b"".join(sequences_in(record)).isalpha()]
+    as_gfa = [run("gfa", "-", given=record)[1] for record in records]
+    made_of = {"make": [text_of(record) for record in records], "from-gfa": as_gfa}
+    for command, good in made_of.items():
+        work = os.path.join(folder, command)
+        os.mkdir(work)
+        inputs = put_all(os.path.join(work, "in"), damaged_texts(rng, good, 800), ".txt")
+        objects, made = run_all(work, command, inputs)
+        for said, record in zip(objects, made):
+            assert refusal(record) == 0 if said["result"] == "accepted" else said["cause"], said
+        results = [said["result"] for said in objects]
+        counts = {result: results.count(result) for result in ("accepted", "refused", "failed")}
+        assert counts["accepted"] > 50 and counts["refused"] > 50 and counts["failed"] == 0, (command, counts)
 
 
 def check_made(folder):
@@ -320,6 +363,6 @@ def check_shown(folder):
 
 
 CHECKS = [
-    check_verdicts, check_lines, check_texts, check_made, check_wrong_texts, check_chosen, check_stored, check_gfa,
+    check_verdicts, check_lines, check_texts, check_damaged_texts, check_made, check_wrong_texts, check_chosen, check_stored, check_gfa,
     check_foreign_gfa, check_wrong_gfa, check_pictures, check_shown,
 ]
