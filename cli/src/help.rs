@@ -158,7 +158,8 @@ fn put_roff_command(out: &mut String, command: &Command) {
 
 /// The manual page sg(1).
 pub fn manual() -> String {
-    let mut out = String::from(".\\\" written by sg help --man\n.TH SG 1\n.SH NAME\n");
+    let mut out = String::from(".\\\" written by sg help --man\n");
+    line!(out, ".TH SG 1 \"\" \"sg {}\"\n.SH NAME", env!("CARGO_PKG_VERSION"));
     line!(out, "sg \\- simplify, clean up and show sequence graphs\n.SH SYNOPSIS");
     line!(out, ".B sg\nCOMMAND [options] FILE..\n.br\n.B sg help\n[COMMAND]\n.SH DESCRIPTION");
     put_roff_paragraphs(&mut out, WHAT);

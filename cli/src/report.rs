@@ -75,8 +75,11 @@ fn problem_line(input: &OsStr, problem: &Problem) -> Vec<u8> {
 pub struct Report<'a> {
     asked: &'a Asked,
     began: Instant,
-    drawn: Option<Instant>,
     has_bar: bool,
+    is_drawn: bool,
+    last_drawn: Option<Instant>,
+    /// Standard output takes no more.
+    is_closed: bool,
     accepted: usize,
     /// By number; 0 for what this program refused.
     refused: BTreeMap<u32, usize>,
@@ -88,8 +91,18 @@ pub struct Report<'a> {
 impl Report<'_> {
     pub fn of(asked: &Asked) -> Report<'_> {
         let has_bar = asked.inputs.len() > 1 && !asked.quiet && io::stderr().is_terminal();
-        let (began, refused) = (Instant::now(), BTreeMap::new());
-        Report { asked, began, drawn: None, has_bar, accepted: 0, refused, failed: 0, status: 0 }
+        Report {
+            asked,
+            began: Instant::now(),
+            has_bar,
+            is_drawn: false,
+            last_drawn: None,
+            is_closed: false,
+            accepted: 0,
+            refused: BTreeMap::new(),
+            failed: 0,
+            status: 0,
+        }
     }
 
     /// Says what became of an input. An error if standard output takes no more.
@@ -153,7 +166,7 @@ impl Report<'_> {
 
     /// Standard output takes no more. That nobody reads on needs no word.
     pub fn fail_to_say(&mut self, why: &io::Error) {
-        self.status = 3;
+        (self.status, self.is_closed) = (3, true);
         if why.kind() != io::ErrorKind::BrokenPipe {
             self.fail(OsStr::new("standard output"), &reason(why));
         }
@@ -174,14 +187,14 @@ impl Report<'_> {
     }
 
     fn clear_bar(&mut self) {
-        if self.drawn.take().is_some() {
+        if std::mem::take(&mut self.is_drawn) {
             let _ = io::stderr().write_all(b"\r\x1b[K");
         }
     }
 
     /// Draws the bar, if there is a terminal and the last was drawn long enough ago.
     pub fn progress(&mut self, done: usize) {
-        if !self.has_bar || self.drawn.is_some_and(|at| at.elapsed() < STEP) {
+        if !self.has_bar || self.last_drawn.is_some_and(|at| at.elapsed() < STEP) {
             return;
         }
         let all = self.asked.inputs.len();
@@ -189,7 +202,7 @@ impl Report<'_> {
         let bar = "#".repeat(full) + &".".repeat(BAR - full);
         let line = format!("\r\x1b[K[{bar}] {done}/{all}, {refused} refused, {}", self.rate(done));
         let _ = io::stderr().write_all(line.as_bytes());
-        self.drawn = Some(Instant::now());
+        (self.is_drawn, self.last_drawn) = (true, Some(Instant::now()));
     }
 
     fn rate(&self, done: usize) -> String {
@@ -200,7 +213,7 @@ impl Report<'_> {
     pub fn summary(&mut self) {
         let (accepted, failed, refused) = (self.accepted, self.failed, self.refused.values().sum::<usize>());
         let all = accepted + refused + failed;
-        if all < 2 || self.asked.quiet {
+        if all < 2 || self.asked.quiet || self.is_closed {
             return;
         }
         let named = |(number, count): (&u32, &usize)| match number {
