@@ -59,18 +59,20 @@ measure() { # LONGEST OUT COMMAND..
     medians+=("$(printf '%s\n' "${times[@]}" | sort -n | sed -n "$(((${#times[@]} + 1) / 2))p")")
 }
 
-measure_sg() { # CALL IN JOBS
-    measure 0 "$folder/sg-$3" "$sg" "$1" -q -d "$folder/sg-$3" -j "$3" "$2"/*.sgr
+measure_sg() { # CALL IN NAME OPTION..
+    local call=$1 in=$2 out=$folder/sg-$3
+    shift 3
+    measure 0 "$out" "$sg" "$call" -q -d "$out" "$@" "$in"/*.sgr
 }
 
-measure_rust() { # CALL IN JOBS
-    measure $LONG "$folder/rust-$3" "$rust" "$1" "$2" "$folder/rust-$3" "$3"
+measure_rust() { # CALL IN NAME JOBS
+    measure $LONG "$folder/rust-$3" "$rust" "$1" "$2" "$folder/rust-$3" "$4"
 }
 
 # Each run must have made the same files, byte for byte.
 require_same() { # CALL
     local other
-    for other in "sg-$cores" rust-1 "rust-$cores"; do
+    for other in sg-all rust-1 rust-all; do
         if ! diff -r "$folder/sg-1" "$folder/$other" >&2; then
             echo "$1: sg-1 and $other differ" >&2
             exit 1
@@ -82,10 +84,10 @@ require_same() { # CALL
 row() { # CALL IN
     local files=("$2"/*.sgr)
     medians=()
-    measure_sg "$@" 1
-    measure_sg "$@" "$cores"
-    measure_rust "$@" 1
-    measure_rust "$@" "$cores"
+    measure_sg "$@" 1 -j 1
+    measure_sg "$@" all
+    measure_rust "$@" 1 1
+    measure_rust "$@" all "$cores"
     require_same "$1"
     echo "$1" ${#files[@]} "${medians[@]}" | awk '{
         n = 1000000 * $2
@@ -95,7 +97,7 @@ row() { # CALL IN
 
 bench/regions.py "$folder/regions" "$@"
 all="all $cores cores"
-echo "| command | regions | sg regions/s, 1 core | sg, $all | Rust regions/s, 1 core | Rust, $all | ratio, 1 core | ratio, $all |"
+echo "| command | regions | sg regions/s, 1 thread | sg, $all | Rust regions/s, 1 thread | Rust, $all | ratio, 1 thread | ratio, $all |"
 echo "|---|---|---|---|---|---|---|---|"
 row convert "$folder/regions"
 mv "$folder/sg-1" "$folder/converted"

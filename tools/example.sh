@@ -8,25 +8,24 @@ set -euo pipefail
 cd "$(dirname "$0")/.."
 
 # Says which crate is proved, of how many; all that rt prints goes to the log.
-follow() { # LOG COUNT
+follow() { # COUNT
     local line n=0
     while IFS= read -r line; do
-        printf '%s\n' "$line" >>"$1"
+        printf '%s\n' "$line" >>"$log"
         if [[ $line =~ ^rt:\ ([a-z_]+)\ proved\ \((.*)\)$ ]]; then
             n=$((n + 1))
-            printf 'proved %d of %d: %s (%s)\n' "$n" "$2" "${BASH_REMATCH[1]}" "${BASH_REMATCH[2]}" >&2
-        elif [[ $line == "rt: target/staticlib/libsg.a "* ]]; then
-            printf 'proved %d of %d: sg, the library\n' "$2" "$2" >&2
+            printf 'proved %d of %d: %s (%s)\n' "$n" "$1" "${BASH_REMATCH[1]}" "${BASH_REMATCH[2]}" >&2
         fi
     done
 }
 
-# More checks at once than cores: rt waits for the longest of a batch, and meanwhile the others have the cores.
+# rt check proves several crates at a time, and more than there are cores: while it waits for the longest of a batch, the others have
+# the cores. What is proved rt staticlib does not prove again.
 build() {
-    local log=target/example.log
+    log=target/example.log
     mkdir -p target
     : >"$log"
-    if ! RT_JOBS=${RT_JOBS:-4} rt staticlib sg 2>&1 | follow "$log" "$(tools/crates.py count)"; then
+    if ! { RT_JOBS=${RT_JOBS:-4} rt check sg 2>&1 | follow "$(tools/crates.py count)" && rt staticlib sg >>"$log" 2>&1; }; then
         tail -20 "$log" >&2
         exit 1
     fi

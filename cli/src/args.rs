@@ -54,6 +54,13 @@ pub struct Misused {
     pub command: Option<&'static Command>,
 }
 
+/// Several for each core: a file that waits for the disk to sync it leaves the core to others, and the disk syncs several
+/// at once. Where there are many cores one for each is enough, and the stacks take less memory.
+fn default_jobs() -> usize {
+    let cores = available_parallelism().map_or(1, NonZeroUsize::get);
+    (4 * cores).min(32).max(cores)
+}
+
 fn of_all(why: String) -> Misused {
     Misused { why, command: None }
 }
@@ -163,7 +170,7 @@ impl Asked {
             inputs: Vec::new(),
             output: None,
             folder: None,
-            jobs: available_parallelism().map_or(1, NonZeroUsize::get),
+            jobs: default_jobs(),
             force: false,
             json: false,
             quiet: false,

@@ -104,7 +104,7 @@ pub const OPTIONS: [OptionText; 16] = [
         Some('j'),
         "jobs",
         Some("N"),
-        "work on N files at a time; as many as there are cores if left out",
+        "work on N files at a time; enough for all cores if left out",
     ),
     option(Opt::Force, Some('f'), "force", None, "overwrite outputs that are there"),
     option(Opt::Caller, Some('c'), "caller", Some("N"), "make the calls as caller N, 0 to 15; 0 if left out"),

@@ -16,8 +16,8 @@ const GENERAL: [(&str, &str); 4] = [
     (
         "Files",
         "A FILE named - is standard input. What is made of one FILE goes to standard output, or to the file that -o names; \
-         what is made of many goes into the folder that -d names, which is made if it is not there, with as many files at a \
-         time as there are cores. An output appears whole or not at all: it is written beside, synced, and then named. One \
+         what is made of many goes into the folder that -d names, which is made if it is not there, on all \
+         cores. An output appears whole or not at all: it is written beside, synced, and then named. One \
          that is there is not overwritten without --force. A file that cannot be read or written is told with its name, and \
          does not stop the others. A record is not written to a terminal.",
     ),
