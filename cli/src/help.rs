@@ -41,6 +41,15 @@ const GENERAL: [(&str, &str); 4] = [
     ),
 ];
 
+/// From a text to a cleaned graph, and a folder of them at once.
+const EXAMPLES: [&str; 5] = [
+    "sg make region.txt -o region.sgr",
+    "sg simplify region.sgr -o simplified.sgr",
+    "sg cleanup simplified.sgr -o cleaned.sgr",
+    "sg show cleaned.sgr",
+    "sg cleanup --json -d cleaned *.sgr >cleaned.jsonl",
+];
+
 /// The paragraph in lines of at most so many characters, each behind this margin. Lines that begin with blanks stay.
 fn put_filled(out: &mut String, margin: &str, text: &str) {
     let mut line = String::from(margin);
@@ -100,7 +109,7 @@ pub fn overview() -> String {
         line!(out, "\n{heading}\n");
         put_filled(&mut out, "  ", text);
     }
-    line!(out, "\nRefusals\n");
+    line!(out, "\nExamples\n\n  {}\n\nRefusals\n", EXAMPLES.join("\n  "));
     for refusal in refusals() {
         line!(out, "  {:>2}  {refusal}", refusal.number());
     }
@@ -173,7 +182,7 @@ pub fn manual() -> String {
         line!(out, ".SH {}", heading.to_uppercase());
         put_roff_paragraphs(&mut out, text);
     }
-    line!(out, ".SH REFUSALS");
+    line!(out, ".SH EXAMPLES\n.nf\n    {}\n.fi\n.SH REFUSALS", roff(&EXAMPLES.join("\n    ")));
     for refusal in refusals() {
         line!(out, ".TP\n.B {}\n{}", refusal.number(), roff(&refusal.to_string()));
     }

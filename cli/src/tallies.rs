@@ -43,8 +43,12 @@ fn table_in(file: &File) -> io::Result<Tallies> {
 
 /// Whether the file has this name still, and was not replaced by another run.
 fn has_name(file: &File, path: &Path) -> io::Result<bool> {
-    let (open, named) = (file.metadata()?, fs::metadata(path)?);
-    Ok((open.dev(), open.ino()) == (named.dev(), named.ino()))
+    let open = file.metadata()?;
+    match fs::metadata(path) {
+        Ok(named) => Ok((open.dev(), open.ino()) == (named.dev(), named.ino())),
+        Err(why) if why.kind() == ErrorKind::NotFound => Ok(false),
+        Err(why) => Err(why),
+    }
 }
 
 /// Adds to the table of a file that is there. False if another run replaced it meanwhile.

@@ -203,8 +203,7 @@ fn chosen_form(graph: &Graph, desk: &mut Desk) -> Form {
 /// The record of what was read, in the form that is asked for, else in the one that it says, else in the first that
 /// holds it.
 fn record_of(asked: &Asked, read: Result<Graph, String>, desk: &mut Desk) -> Result<Made, Problem> {
-    let mut graph = read.map_err(Problem::Unfit)?;
-    graph.k = asked.k.unwrap_or(graph.k);
+    let graph = read.map_err(Problem::Unfit)?;
     let form = asked.form.or(graph.form).unwrap_or_else(|| chosen_form(&graph, desk));
     let bytes = encode(form, &graph).map_err(Problem::Unfit)?;
     if !asked.unchecked {

@@ -44,7 +44,11 @@ fn beside(target: &Path) -> PathBuf {
     folder_of(target).join(format!(".sg-{}-{n}", std::process::id()))
 }
 
-fn filled(mut file: File, bytes: &[u8]) -> io::Result<File> {
+/// The file with these bytes; in place of another it may be read by no more people than that one.
+fn filled(mut file: File, bytes: &[u8], replaced: Option<&Path>) -> io::Result<File> {
+    if let Some(replaced) = replaced {
+        file.set_permissions(fs::metadata(replaced)?.permissions())?;
+    }
     file.write_all(bytes)?;
     file.sync_all()?;
     Ok(file)
@@ -71,7 +75,7 @@ fn put_in_place(beside: &Path, target: &Path) -> io::Result<()> {
 /// A file without a name, named when it is whole.
 fn write_unnamed(target: &Path, bytes: &[u8], replace: bool) -> io::Result<()> {
     let opened = OpenOptions::new().write(true).custom_flags(O_TMPFILE).open(folder_of(target))?;
-    let file = filled(opened, bytes)?;
+    let file = filled(opened, bytes, replace.then_some(target))?;
     if !replace {
         return give_name(&file, target);
     }
@@ -84,7 +88,7 @@ fn write_unnamed(target: &Path, bytes: &[u8], replace: bool) -> io::Result<()> {
 fn write_named(target: &Path, bytes: &[u8], replace: bool) -> io::Result<()> {
     let beside = beside(target);
     let opened = OpenOptions::new().write(true).create_new(true).open(&beside)?;
-    let written = filled(opened, bytes);
+    let written = filled(opened, bytes, replace.then_some(target));
     if replace && written.is_ok() {
         return put_in_place(&beside, target);
     }
@@ -93,30 +97,38 @@ fn write_named(target: &Path, bytes: &[u8], replace: bool) -> io::Result<()> {
     named
 }
 
+/// Whether the system may have said so because it has no files without names, or no /proc to name them by.
+fn has_no_unnamed(why: &io::Error) -> bool {
+    use ErrorKind::{InvalidInput, IsADirectory, NotFound, Unsupported};
+    matches!(why.kind(), Unsupported | IsADirectory | InvalidInput | NotFound)
+}
+
+fn write_new(target: &Path, bytes: &[u8], replace: bool) -> io::Result<()> {
+    match write_unnamed(target, bytes, replace) {
+        Err(why) if has_no_unnamed(&why) => write_named(target, bytes, replace),
+        done => done,
+    }
+}
+
 /// Writes the file whole. One that is there is replaced only if that is asked for; into a device or a pipe the bytes go
 /// as they are.
 pub fn write_whole(target: &Path, bytes: &[u8], replace: bool) -> io::Result<()> {
-    let target = match fs::metadata(target) {
-        Ok(found) if found.is_dir() => return Err(ErrorKind::IsADirectory.into()),
-        Ok(found) if !found.is_file() => {
-            return OpenOptions::new().write(true).open(target)?.write_all(bytes)
-        }
-        Ok(_) if !replace => return Err(ErrorKind::AlreadyExists.into()),
+    match fs::metadata(target) {
+        Ok(found) if found.is_dir() => Err(ErrorKind::IsADirectory.into()),
+        Ok(found) if !found.is_file() => OpenOptions::new().write(true).open(target)?.write_all(bytes),
+        Ok(_) if !replace => Err(ErrorKind::AlreadyExists.into()),
         // a link stays, and what it leads to is replaced
-        Ok(_) => fs::canonicalize(target)?,
-        Err(_) => target.to_path_buf(),
-    };
-    match write_unnamed(&target, bytes, replace) {
-        Err(why) if why.kind() != ErrorKind::AlreadyExists => write_named(&target, bytes, replace),
-        done => done,
+        Ok(_) => write_new(&fs::canonicalize(target)?, bytes, true),
+        Err(_) => write_new(target, bytes, false),
     }
 }
 
 #[cfg(test)]
 mod tests {
     use super::{folder_of, write_named, write_unnamed, write_whole};
-    use std::fs;
+    use std::fs::{self, Permissions};
     use std::io::ErrorKind::AlreadyExists;
+    use std::os::unix::fs::PermissionsExt;
     use std::path::{Path, PathBuf};
 
     fn empty_folder(name: &str) -> PathBuf {
@@ -145,6 +157,9 @@ mod tests {
             way(&target, b"three", true).unwrap();
             assert_eq!(fs::read(&target).unwrap(), b"three", "{name}");
             assert_eq!(names(&folder).len(), 1, "{name}");
+            fs::set_permissions(&target, Permissions::from_mode(0o600)).unwrap();
+            way(&target, b"four", true).unwrap();
+            assert_eq!(fs::metadata(&target).unwrap().permissions().mode() & 0o777, 0o600, "{name}");
             fs::remove_dir_all(folder).unwrap();
         }
     }
