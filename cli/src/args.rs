@@ -1,19 +1,25 @@
 //! The arguments read: a subcommand, its options, its files.
 use crate::command::{Command, Opt, OptionText, Task};
-use crate::words::number_of;
+use crate::whole::folder_of;
+use crate::words::{number_of, shown_name};
 use seq_graph::Form;
 use std::collections::{HashSet, VecDeque};
 use std::ffi::{OsStr, OsString};
+use std::fs::canonicalize;
 use std::num::NonZeroUsize;
 use std::os::unix::ffi::{OsStrExt, OsStringExt};
 use std::path::{Path, PathBuf};
 use std::thread::available_parallelism;
 
 const MOST_JOBS: u32 = 1024;
+/// The suffixes of records, of their text forms, and of GFA.
+const INPUT_SUFFIXES: [&str; 4] = ["sgr", "txt", "text", "gfa"];
 
 pub struct Asked {
     pub command: &'static Command,
     pub inputs: Vec<OsString>,
+    /// Where what is made of each input goes, in their order.
+    pub outputs: Vec<Output>,
     pub output: Option<OsString>,
     pub folder: Option<PathBuf>,
     pub jobs: usize,
@@ -71,12 +77,11 @@ pub fn read(words: &[OsString]) -> Result<Arguments, Misused> {
         return Err(of_all("no command".into()));
     };
     match (first.to_str(), rest) {
-        (Some("help"), rest) => help(rest),
-        (Some("-h" | "--help"), []) => Ok(Arguments::Help(None)),
+        (Some("help" | "-h" | "--help"), rest) => help(rest),
         (Some("-V" | "--version" | "version"), []) => Ok(Arguments::Version),
         (name, rest) => {
             let command = name.and_then(Command::named);
-            let command = command.ok_or_else(|| of_all(format!("no command {}", first.display())))?;
+            let command = command.ok_or_else(|| of_all(format!("no command {}", shown_name(first))))?;
             Asked::read(command, rest).map_err(|why| Misused { why, command: Some(command) })
         }
     }
@@ -85,10 +90,11 @@ pub fn read(words: &[OsString]) -> Result<Arguments, Misused> {
 fn help(words: &[OsString]) -> Result<Arguments, Misused> {
     match words {
         [] => Ok(Arguments::Help(None)),
+        [word] if word == "help" => Ok(Arguments::Help(None)),
         [word] if word == "--man" => Ok(Arguments::Man),
         [word] => {
             let command = word.to_str().and_then(Command::named);
-            let command = command.ok_or_else(|| of_all(format!("no command {}", word.display())))?;
+            let command = command.ok_or_else(|| of_all(format!("no command {}", shown_name(word))))?;
             Ok(Arguments::Help(Some(command)))
         }
         _ => Err(of_all("help takes one command".into())),
@@ -132,7 +138,7 @@ fn option_in<'a>(command: &Command, word: &'a OsStr) -> Result<Option<Found<'a>>
             short == Some(name[0])
         }
     };
-    let unknown = || format!("no option {} of {}", word.display(), command.name);
+    let unknown = || format!("no option {} of {}", shown_name(word), command.name);
     let option = command.options().find(|text| is(text)).ok_or_else(unknown)?;
     if option.value.is_none() && value.is_some() {
         return Err(format!("--{} takes no value", option.long));
@@ -168,6 +174,7 @@ impl Asked {
         Asked {
             command,
             inputs: Vec::new(),
+            outputs: Vec::new(),
             output: None,
             folder: None,
             jobs: default_jobs(),
@@ -203,12 +210,16 @@ impl Asked {
                 Some(found) => asked.take(found.option, &value_of(&found, &mut words)?)?,
             }
         }
+        asked.outputs = asked.inputs.iter().map(|i| asked.output_of(i)).collect();
         asked.complete()?;
         Ok(Arguments::Run(Box::new(asked)))
     }
 
     fn take(&mut self, option: &'static OptionText, value: &[u8]) -> Result<(), String> {
         let path = || OsString::from_vec(value.to_vec());
+        if option.value.is_some() && value.is_empty() {
+            return Err(format!("--{} lacks its value", option.long));
+        }
         match option.opt {
             Opt::Output => self.output = Some(path()),
             Opt::Folder => self.folder = Some(path().into()),
@@ -239,6 +250,8 @@ impl Asked {
         let to_stdout = self.folder.is_none() && self.output.as_deref().is_none_or(|o| o == "-");
         let wrong = [
             (self.inputs.is_empty(), "no file; - is standard input"),
+            (self.inputs.iter().any(|i| i.is_empty()), "a file without a name"),
+            (self.tallies.as_deref() == Some(Path::new("-")), "tallies are kept in a file"),
             (self.inputs.iter().filter(|i| *i == "-").count() > 1, "standard input can be read only once"),
             (self.output.is_some() && self.folder.is_some(), "either -o or -d"),
             (many && self.output.is_some(), "-o takes one file; -d takes many"),
@@ -259,42 +272,57 @@ impl Asked {
         ];
         match wrong.iter().find(|(is, _)| *is) {
             Some((_, why)) => Err(why.to_string()),
-            None => self.outputs().map(|_| ()),
+            None => self.require_places(),
         }
     }
 
-    /// Where what is made of each input goes; no two to the same place.
-    pub fn outputs(&self) -> Result<Vec<Output>, String> {
-        let outputs: Vec<Output> = self.inputs.iter().map(|i| self.output_of(i)).collect::<Result<_, _>>()?;
-        let mut taken = HashSet::new();
-        for output in &outputs {
+    /// That no two outputs, and no output and the tallies, go to the same place.
+    fn require_places(&self) -> Result<(), String> {
+        let mut taken: HashSet<PathBuf> = self.tallies.iter().map(|path| place(path)).collect();
+        for output in &self.outputs {
             if let Output::File(path) = output {
-                if !taken.insert(path) {
-                    return Err(format!("two files would be written to {}", path.display()));
+                if !taken.insert(place(path)) {
+                    return Err(format!("two files would be written to {}", shown_name(path)));
                 }
             }
         }
-        Ok(outputs)
+        Ok(())
     }
 
-    fn output_of(&self, input: &OsStr) -> Result<Output, String> {
+    fn output_of(&self, input: &OsStr) -> Output {
         if self.command.task.is_report() {
-            return Ok(Output::Report);
+            return Output::Report;
         }
         match (&self.folder, self.output.as_deref()) {
             (Some(folder), _) => {
-                let name = Path::new(input).file_name();
-                let name = name.ok_or_else(|| format!("{} is no file", input.display()))?;
-                let mut path = folder.join(name);
-                if let Some(suffix) = self.command.task.suffix(self.fasta) {
-                    path.set_extension(suffix);
-                }
-                Ok(Output::File(path))
+                // what has no name is no file, and is told when it is read
+                let name = Path::new(input).file_name().unwrap_or(input);
+                let suffix = self.command.task.suffix(self.fasta);
+                Output::File(folder.join(suffix.map_or(name.into(), |suffix| with_suffix(name, suffix))))
             }
-            (None, Some(file)) if file != "-" => Ok(Output::File(file.into())),
-            _ => Ok(Output::Stdout),
+            (None, Some(file)) if file != "-" => Output::File(file.into()),
+            _ => Output::Stdout,
         }
     }
+}
+
+/// The name with this suffix in place of one that inputs have, or else behind it.
+fn with_suffix(name: &OsStr, suffix: &str) -> OsString {
+    let mut path = PathBuf::from(name);
+    if path.extension().is_some_and(|found| INPUT_SUFFIXES.iter().any(|known| found == *known)) {
+        path.set_extension(suffix);
+        return path.into();
+    }
+    [name, OsStr::new("."), OsStr::new(suffix)].into_iter().collect()
+}
+
+/// Where a file is written: what a link leads to, if it is one.
+fn place(path: &Path) -> PathBuf {
+    if path.is_symlink() {
+        return canonicalize(path).unwrap_or_else(|_| path.into());
+    }
+    let folder = canonicalize(folder_of(path)).unwrap_or_else(|_| folder_of(path).into());
+    folder.join(path.file_name().unwrap_or_default())
 }
 
 #[cfg(test)]
@@ -314,7 +342,7 @@ mod tests {
     }
 
     fn outputs(line: &[&str]) -> Vec<Output> {
-        asked(line).unwrap_or_else(|why| panic!("{why}")).outputs().unwrap()
+        asked(line).unwrap_or_else(|why| panic!("{why}")).outputs
     }
 
     /// The examples of the help are good arguments: up to a pipe or what the shell takes.
@@ -338,7 +366,7 @@ mod tests {
         ] {
             let asked = asked(line).unwrap_or_else(|why| panic!("{why}"));
             assert_eq!((asked.jobs, asked.inputs.len()), (3, 1), "{line:?}");
-            assert_eq!(asked.outputs(), Ok(vec![Output::File("out/a".into())]));
+            assert_eq!(asked.outputs, [Output::File("out/a".into())]);
         }
         let flags = asked(&["simplify", "-fq", "a"]).unwrap_or_else(|why| panic!("{why}"));
         assert_eq!((flags.force, flags.quiet, flags.json), (true, true, false));
@@ -356,11 +384,14 @@ mod tests {
         assert_eq!(outputs(&["text", "a", "-o", "-"]), [Output::Stdout]);
         assert_eq!(outputs(&["text", "a", "-o", "b"]), [Output::File("b".into())]);
         assert_eq!(outputs(&["gfa", "-d", "o", "x/a.b.sgr"]), [Output::File("o/a.b.gfa".into())]);
+        let texts = outputs(&["text", "-d", "o", "a.1000", "a.2000", "b"]);
+        assert_eq!(texts, ["o/a.1000.txt", "o/a.2000.txt", "o/b.txt"].map(|path| Output::File(path.into())));
+        assert_eq!(outputs(&["make", "-d", "o", "a.text"]), [Output::File("o/a.sgr".into())]);
         assert_eq!(outputs(&["reference", "--fasta", "-d", "o", "a.sgr"]), [Output::File("o/a.fa".into())]);
         let name = OsString::from_vec(b"caf\xe9 1.sgr".to_vec());
         let words = [OsString::from("simplify"), "-d".into(), "o".into(), name.clone()];
         let Ok(Arguments::Run(asked)) = read(&words) else { panic!() };
-        assert_eq!(asked.outputs(), Ok(vec![Output::File(std::path::Path::new("o").join(name))]));
+        assert_eq!(asked.outputs, [Output::File(std::path::Path::new("o").join(name))]);
     }
 
     #[test]
@@ -378,6 +409,13 @@ mod tests {
             &["simplify", "--json", "a", "-o", "-"],
             &["simplify", "x/a", "y/a", "-d", "d"],
             &["gfa", "a.sgr", "a.txt", "-d", "d"],
+            &["simplify", "a", "-o", "t", "-t", "t"],
+            &["simplify", "a", "-o", "t", "-t", "./t"],
+            &["simplify", "a", "-t", "-"],
+            &["simplify", "a", "-d", ""],
+            &["simplify", "a", "-o", ""],
+            &["simplify", "a", "--output="],
+            &["simplify", ""],
             &["simplify", "a", "-j", "x"],
             &["simplify", "a", "-j"],
             &["simplify", "a", "-x"],

@@ -97,14 +97,14 @@ pub const OPTIONS: [OptionText; 16] = [
         Some('d'),
         "directory",
         Some("DIR"),
-        "write an output for each FILE into DIR, under its name",
+        "write an output for each FILE into DIR, by its name",
     ),
     option(
         Opt::Jobs,
         Some('j'),
         "jobs",
         Some("N"),
-        "work on N files at a time; enough for all cores if left out",
+        "work on N files at a time, at least 1; enough for all cores if left out",
     ),
     option(Opt::Force, Some('f'), "force", None, "overwrite outputs that are there"),
     option(Opt::Caller, Some('c'), "caller", Some("N"), "make the calls as caller N, 0 to 15; 0 if left out"),
@@ -135,7 +135,13 @@ pub const OPTIONS: [OptionText; 16] = [
         None,
         "say what became of each FILE as a JSON object, in a line of standard output",
     ),
-    option(Opt::Quiet, Some('q'), "quiet", None, "say nothing of what was accepted: no progress, no summary"),
+    option(
+        Opt::Quiet,
+        Some('q'),
+        "quiet",
+        None,
+        "no progress, no summary, and no line for a record that was made",
+    ),
     option(Opt::Help, Some('h'), "help", None, "say how the command is used"),
 ];
 
@@ -186,8 +192,8 @@ pub const COMMANDS: [Command; 15] = [
         task: Task::Check,
         name: "check",
         says: "say what each file is, and whether the library takes it",
-        text: "A line for each file: form, kind, status, k and the counts of vertices, edges and sequence bytes, as far as \
-               the file says them; and the refusal, with its number, its cause and what is wrong, if the library \
+        text: "A line for each file: form, kind, status, k and the counts of vertices, edges and sequence bytes, as its \
+               header says them; and the refusal, with its number, its cause and what is wrong, if the library \
                refuses it.\n\n\
                A sequence graph is taken if none of 1 to 7 refuses it, a k-mer graph if it can be converted. What \
                simplification and cleanup wrote can be past the limits of input; then it is refused with 3.",
@@ -305,7 +311,8 @@ pub const COMMANDS: [Command; 15] = [
                for a reference edge, and the tag cp for one whose support was capped. Form, kind, status and k are the \
                tags fm, kd, st and km of the header. The sequences of a sequence graph do not overlap; k-mers do by k - 1 \
                bytes, and where they do not the overlap is a star. An empty sequence is a star with the tag LN:i:0. GFA \
-               cannot show bytes other than letters, = and .; such a graph is told and not written.",
+               cannot show bytes other than letters, = and ., an edge to a vertex that is not there, or a flag above 3; such a \
+               graph is told and not written.",
         example: "sg gfa region.sgr -o region.gfa",
         own: &[],
     },
@@ -327,7 +334,7 @@ pub const COMMANDS: [Command; 15] = [
         name: "dot",
         says: "write the graph for Graphviz",
         text: "Reference edges are red and thick, a capped edge has a c behind its support, and a sequence of over 32 bytes \
-               is shown by its ends and its length.",
+               is shown by its ends and its length. A graph with an edge to a vertex that is not there is told and not written.",
         example: "sg dot region.sgr | dot -Tsvg >region.svg",
         own: &[],
     },

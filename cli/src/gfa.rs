@@ -63,32 +63,33 @@ fn put_links(out: &mut String, graph: &Graph) -> Result<(), String> {
     Ok(())
 }
 
-/// The tags of a line, by their names.
-struct Tags<'a>(Vec<(&'a [u8], u8, &'a [u8])>);
+/// The tags of a line: type and value by name.
+struct Tags<'a>(HashMap<&'a [u8], (u8, &'a [u8])>);
 
 impl<'a> Tags<'a> {
-    /// Names, types and values. Tags that nothing here asks for are left aside, as GFA has it.
+    /// Tags that nothing here asks for are left aside, as GFA has it.
     fn of(fields: &[&'a [u8]]) -> Result<Tags<'a>, String> {
-        let mut tags: Vec<(&[u8], u8, &[u8])> = Vec::with_capacity(fields.len());
+        let mut tags = HashMap::with_capacity(fields.len());
         for field in fields {
-            let &[a, b, b':', kind, b':', ..] = *field else {
-                return Err(format!("{} is no tag: two letters, a type and a value", shown(field)));
+            let (name, kind, value) = match *field {
+                [a, b, b':', kind, b':', value @ ..]
+                    if a.is_ascii_alphabetic() && b.is_ascii_alphanumeric() =>
+                {
+                    (&field[..2], *kind, value)
+                }
+                _ => return Err(format!("{} is no tag: two letters, a type and a value", shown(field))),
             };
-            if !a.is_ascii_alphabetic() || !b.is_ascii_alphanumeric() {
-                return Err(format!("{} is no tag: two letters, a type and a value", shown(field)));
+            if tags.insert(name, (kind, value)).is_some() {
+                return Err(format!("a second tag {}", shown(name)));
             }
-            if tags.iter().any(|t| t.0 == &field[..2]) {
-                return Err(format!("a second tag {}", shown(&field[..2])));
-            }
-            tags.push((&field[..2], kind, &field[5..]));
         }
         Ok(Tags(tags))
     }
 
     fn value(&self, name: &str, kind: u8) -> Result<Option<&'a [u8]>, String> {
-        match self.0.iter().find(|t| t.0 == name.as_bytes()) {
-            Some(tag) if tag.1 != kind => Err(format!("the tag {name} is not of type {}", char::from(kind))),
-            tag => Ok(tag.map(|t| t.2)),
+        match self.0.get(name.as_bytes()) {
+            Some(tag) if tag.0 != kind => Err(format!("the tag {name} is not of type {}", char::from(kind))),
+            tag => Ok(tag.map(|t| t.1)),
         }
     }
 
@@ -113,6 +114,7 @@ struct Link<'a> {
 
 struct Reader<'a> {
     given: &'a Given,
+    has_lines: bool,
     form: Option<Form>,
     status: Option<u32>,
     k: Option<u32>,
@@ -134,6 +136,7 @@ fn once<T>(place: &mut Option<T>, name: &str, value: Option<T>) -> Result<(), St
 
 impl<'a> Reader<'a> {
     fn line(&mut self, number: usize, fields: &[&'a [u8]]) -> Result<(), String> {
+        self.has_lines = true;
         match fields {
             [b"H", tags @ ..] => self.header(Tags::of(tags)?),
             [b"S", name, sequence, tags @ ..] => self.segment(name, sequence, Tags::of(tags)?),
@@ -156,7 +159,7 @@ impl<'a> Reader<'a> {
 
     fn header(&mut self, tags: Tags) -> Result<(), String> {
         if let Some(version) = tags.value("VN", b'Z')? {
-            if !version.starts_with(b"1.") {
+            if version != b"1" && !version.starts_with(b"1.") {
                 return Err(format!("version {}: only GFA 1 is read", shown(version)));
             }
         }
@@ -172,7 +175,9 @@ impl<'a> Reader<'a> {
         let (number, said) = (self.sequences.len() as u32, tags.number("LN", u32::MAX)?);
         let sequence = match sequence {
             b"*" if said == Some(0) => b"",
-            b"*" => return Err("the sequence is not given; an empty one has the tag LN:i:0".into()),
+            b"*" | b"" => {
+                return Err("the sequence is not given; an empty one is * with the tag LN:i:0".into())
+            }
             letters => letters,
         };
         if let Some(b) = sequence.iter().find(|b| !is_gfa_letter(**b)) {
@@ -202,6 +207,9 @@ impl<'a> Reader<'a> {
     }
 
     fn graph(self) -> Result<Graph, String> {
+        if !self.has_lines {
+            return Err("there is no line of GFA in it".into());
+        }
         let k = self.given.k.or(self.k.map(|k| k as u16));
         let k = k.ok_or("no tag km of a header says k; -k gives it")?;
         let edge = |link: &Link| -> Result<Edge, String> {
@@ -219,7 +227,7 @@ impl<'a> Reader<'a> {
 pub fn graph_of_gfa(data: &[u8], given: &Given) -> Result<Graph, String> {
     let (form, status, k) = (None, None, None);
     let (names, sequences, links) = (HashMap::new(), Vec::new(), Vec::new());
-    let mut reader = Reader { given, form, status, k, names, sequences, links };
+    let mut reader = Reader { given, has_lines: false, form, status, k, names, sequences, links };
     for (i, line) in data.split(|&b| b == b'\n').enumerate() {
         let line = line.strip_suffix(b"\r").unwrap_or(line);
         if !line.is_empty() && !line.starts_with(b"#") {

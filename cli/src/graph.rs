@@ -104,37 +104,69 @@ fn put(out: &mut Vec<u8>, size: usize, n: u64) {
     out.extend(&n.to_le_bytes()[..size]);
 }
 
-/// The counts of vertices, edges and bytes, if the header says where the parts stand; else what is wrong with it.
-fn counts(form: Form, data: &[u8]) -> Result<[u64; 3], String> {
-    let (w, size) = (word(form), header(form));
-    if data.len() < size {
-        return Err(format!("{} bytes are too few: a record begins with {size} bytes of header", data.len()));
-    }
-    if !data.starts_with(mark(form).as_bytes()) {
-        return Err("it does not begin with the letters SGR1 or SGR2".into());
-    }
-    let counts = [number(data, 8, w), number(data, 8 + w, w), number(data, 8 + 2 * w, 4)];
-    let found = [0, 1, 2, 3].map(|i| number(data, 12 + 2 * w + 4 * i, 4));
-    let due = offsets(form, counts);
-    if let Some(i) = (0..4).find(|&i| found[i] != due[i]) {
-        return Err(format!("the {} is {}, but {} by the counts", OFFSETS[i], found[i], due[i]));
-    }
-    if found[3] != data.len() as u64 {
-        return Err(format!("it has {} bytes, but says {}", data.len(), found[3]));
-    }
-    Ok(counts)
+/// What the header says, of a record that has one.
+pub struct Header {
+    pub form: Form,
+    pub kind: u8,
+    pub status: u8,
+    pub k: u16,
+    /// Of vertices, edges and bytes.
+    pub counts: [u64; 3],
 }
 
-/// The record's parts, in their order; or, in words, why they cannot be told apart.
-pub fn follow(data: &[u8]) -> Result<Graph, String> {
+/// Why the parts of a record cannot be told apart, and the number of the refusal that this is a reason for.
+#[derive(Debug)]
+pub struct Unfollowed {
+    pub number: u32,
+    pub why: String,
+}
+
+/// Of bytes that are long enough for a header and begin as one.
+pub fn header_of(data: &[u8]) -> Option<Header> {
     let form = Form::of(data);
-    let [v, e, b] = counts(form, data)?;
+    if data.len() < header(form) || !data.starts_with(mark(form).as_bytes()) {
+        return None;
+    }
+    let (w, k) = (word(form), number(data, 6, 2) as u16);
+    let counts = [number(data, 8, w), number(data, 8 + w, w), number(data, 8 + 2 * w, 4)];
+    Some(Header { form, kind: data[4], status: data[5], k, counts })
+}
+
+/// The header, if it says where the parts stand; asked in the order of the refusals.
+fn followed_header(data: &[u8]) -> Result<Header, Unfollowed> {
+    let form = Form::of(data);
+    let (w, size) = (word(form), header(form));
+    let fault = |number, why| Err(Unfollowed { number, why });
+    if data.len() < size {
+        return fault(
+            1,
+            format!("{} bytes are too few: a record begins with {size} bytes of header", data.len()),
+        );
+    }
+    let found = [0, 1, 2, 3].map(|i| number(data, 12 + 2 * w + 4 * i, 4));
+    if found[3] != data.len() as u64 {
+        return fault(1, format!("it has {} bytes, but says {}", data.len(), found[3]));
+    }
+    let Some(header) = header_of(data) else {
+        return fault(2, "it does not begin with the letters SGR1 or SGR2".into());
+    };
+    let due = offsets(form, header.counts);
+    match (0..4).find(|&i| found[i] != due[i]) {
+        Some(i) => fault(4, format!("the {} is {}, but {} by the counts", OFFSETS[i], found[i], due[i])),
+        None => Ok(header),
+    }
+}
+
+/// The record's parts, in their order.
+pub fn follow(data: &[u8]) -> Result<Graph, Unfollowed> {
+    let Header { form, kind, status, k, counts: [v, e, b] } = followed_header(data)?;
     let (lengths, rest) = data[header(form)..].split_at(word(form) * v as usize);
     let (edges, mut bytes) = rest.split_at(edge_size(form) * e as usize);
     let lengths: Vec<u64> = lengths.chunks(word(form)).map(|c| number(c, 0, c.len())).collect();
     let total: u64 = lengths.iter().sum();
     if total != b {
-        return Err(format!("the lengths sum to {total}, but the sequence bytes are {b}"));
+        let why = format!("the lengths sum to {total}, but the sequence bytes are {b}");
+        return Err(Unfollowed { number: 4, why });
     }
     let mut sequences = Vec::with_capacity(lengths.len());
     for length in lengths {
@@ -143,8 +175,7 @@ pub fn follow(data: &[u8]) -> Result<Graph, String> {
         bytes = behind;
     }
     let edges = edges.chunks(edge_size(form)).map(|c| edge_in(form, c)).collect();
-    let k = number(data, 6, 2) as u16;
-    Ok(Graph { form: Some(form), kind: data[4], status: data[5], k, sequences, edges })
+    Ok(Graph { form: Some(form), kind, status, k, sequences, edges })
 }
 
 fn edge_in(form: Form, c: &[u8]) -> Edge {

@@ -16,18 +16,24 @@ const GENERAL: [(&str, &str); 4] = [
     (
         "Files",
         "A FILE named - is standard input. What is made of one FILE goes to standard output, or to the file that -o names; \
-         what is made of many goes into the folder that -d names, which is made if it is not there, on all \
-         cores. An output appears whole or not at all: it is written beside, synced, and then named. One \
-         that is there is not overwritten without --force. A file that cannot be read or written is told with its name, and \
-         does not stop the others. A record is not written to a terminal.",
+         what is made of many goes into the folder that -d names, which is made if it is not there, on all cores. There a \
+         record keeps its name; what is made of another kind has .sgr, .txt, .gfa, .dot, .seq or .fa in place of .sgr, .txt, \
+         .text or .gfa, and else behind its name. Behind -- all arguments are files.\n\n\
+         An output appears whole or not at all: it is written without a name, synced, and then named. One that is there is \
+         not overwritten without --force; a run that is killed while it overwrites may leave one whole file beside, .sg- and \
+         numbers. A file that cannot be read or written is told with its name, and does not stop the others. A record is not \
+         written to a terminal, unless -o - says so.",
     ),
     (
         "What is said",
-        "A line on standard error for each FILE that was refused, with the number of the refusal and its cause; of many \
-         files also how far the work is, if standard error is a terminal, and a summary. README.md says for each number what to \
-         do. With --json there is an object for each FILE instead, in a line of standard output, in the order of the \
-         arguments: file, result (accepted, refused, failed), and then output, length and what the call told; or number and \
-         cause. A name that is not in UTF-8 stands there with U+FFFD for what is not, and beside it in hex.",
+        "A line on standard error for each FILE that was refused, with the number of the refusal and its cause (of `check`, \
+         whose answer it is, on standard output); of many files also how far the work is, if standard error is a terminal, \
+         and a summary. README.md says for each number what to do.\n\n\
+         With --json there is an object for each FILE instead, in a line of standard output, in the order of the arguments. It \
+         has file and result: accepted, refused or failed. If accepted, also output and what the command tells, by the same \
+         names as in its lines. If refused, number (null where it is not the library that refuses) and cause, and detail, if \
+         more is known. If failed, failed_file, which may be the output, and cause. A name that is not in UTF-8 has U+FFFD for \
+         what is not, and stands beside in hex: file_hex, output_hex, failed_file_hex.",
     ),
     (
         "Tallies",
@@ -50,9 +56,10 @@ const EXAMPLES: [&str; 5] = [
     "sg cleanup --json -d cleaned *.sgr >cleaned.jsonl",
 ];
 
-/// The paragraph in lines of at most so many characters, each behind this margin. Lines that begin with blanks stay.
-fn put_filled(out: &mut String, margin: &str, text: &str) {
-    let mut line = String::from(margin);
+/// The paragraph in lines of at most so many characters: the first behind `head`, the others behind `margin`, which is as
+/// long.
+fn put_filled_behind(out: &mut String, head: &str, margin: &str, text: &str) {
+    let mut line = String::from(head);
     for word in text.split_whitespace() {
         if line.len() > margin.len() && line.len() + 1 + word.len() > WIDTH {
             line!(out, "{line}");
@@ -66,7 +73,12 @@ fn put_filled(out: &mut String, margin: &str, text: &str) {
     line!(out, "{line}");
 }
 
-fn put_paragraphs(out: &mut String, text: &str) {
+fn put_filled(out: &mut String, margin: &str, text: &str) {
+    put_filled_behind(out, margin, margin, text);
+}
+
+/// Paragraphs behind a margin. One that begins with blanks stays as it is.
+fn put_paragraphs(out: &mut String, margin: &str, text: &str) {
     for (i, paragraph) in text.split("\n\n").enumerate() {
         if i > 0 {
             out.push('\n');
@@ -74,7 +86,7 @@ fn put_paragraphs(out: &mut String, text: &str) {
         if paragraph.starts_with(' ') {
             line!(out, "{paragraph}");
         } else {
-            put_filled(out, "", paragraph);
+            put_filled(out, margin, paragraph);
         }
     }
 }
@@ -99,7 +111,7 @@ fn refusals() -> impl Iterator<Item = Refusal> {
 
 /// Of all commands.
 pub fn overview() -> String {
-    let mut out = usage(None) + "       sg help COMMAND\n\n";
+    let mut out = usage(None) + "       sg help COMMAND, sg help --man, sg --version\n\n";
     put_filled(&mut out, "", WHAT);
     out.push_str("\nCommands\n\n");
     for command in &COMMANDS {
@@ -107,7 +119,7 @@ pub fn overview() -> String {
     }
     for (heading, text) in GENERAL {
         line!(out, "\n{heading}\n");
-        put_filled(&mut out, "  ", text);
+        put_paragraphs(&mut out, "  ", text);
     }
     line!(out, "\nExamples\n\n  {}\n\nRefusals\n", EXAMPLES.join("\n  "));
     for refusal in refusals() {
@@ -119,10 +131,10 @@ pub fn overview() -> String {
 /// Of one.
 pub fn of_command(command: &Command) -> String {
     let mut out = format!("sg {}: {}\n\n{}\n", command.name, command.says, usage(Some(command)));
-    put_paragraphs(&mut out, command.text);
+    put_paragraphs(&mut out, "", command.text);
     out.push_str("\nOptions\n\n");
     for option in command.options() {
-        line!(out, "  {:<26}  {}", option_head(option), option.says);
+        put_filled_behind(&mut out, &format!("  {:<26}", option_head(option)), &" ".repeat(28), option.says);
     }
     line!(out, "\nExample\n\n  {}\n\n`sg help` says what holds for all commands.", command.example);
     out
@@ -176,7 +188,7 @@ pub fn manual() -> String {
     for command in &COMMANDS {
         put_roff_command(&mut out, command);
     }
-    line!(out, ".SH OPTIONS OF ALL COMMANDS");
+    line!(out, ".SH SHARED OPTIONS\n.B check\nand\n.B caller\nmake no file, and take only \\-j, \\-\\-json, \\-q and \\-h.");
     put_roff_options(&mut out, shared_options());
     for (heading, text) in GENERAL {
         line!(out, ".SH {}", heading.to_uppercase());
@@ -199,7 +211,7 @@ mod tests {
         let mut texts: Vec<String> = COMMANDS.iter().map(of_command).collect();
         texts.push(overview());
         for line in texts.iter().flat_map(|t| t.lines()) {
-            assert!(line.chars().count() <= 110, "{line}");
+            assert!(line.chars().count() <= 92, "{line}");
         }
     }
 

@@ -1,6 +1,6 @@
 //! What became of an input, as a JSON object in one line.
 use crate::args::Output;
-use crate::outcome::{Fact, Problem, Value};
+use crate::outcome::{Fact, Problem, Value, CLOSED};
 use std::ffi::OsStr;
 use std::fmt::Write;
 use std::os::unix::ffi::OsStrExt;
@@ -87,7 +87,10 @@ pub fn object(input: &OsStr, output: &Output, outcome: Result<&[Fact], &Problem>
             object.file("failed_file", name.as_deref().unwrap_or(input));
             object.text("cause", why);
         }
-        Err(Problem::Closed) => object.text("result", "closed"),
+        Err(Problem::Closed) => {
+            object.text("result", "failed");
+            object.text("cause", CLOSED);
+        }
     }
     object.0 + "}\n"
 }

@@ -42,7 +42,7 @@ fn tell_misused(misused: &Misused) -> u8 {
 
 /// A record is bytes, which a terminal would take for commands.
 fn is_record_for_terminal(asked: &Asked) -> bool {
-    let to_stdout = asked.outputs().is_ok_and(|all| all.contains(&Output::Stdout));
+    let to_stdout = asked.outputs.contains(&Output::Stdout);
     asked.command.task.makes_record() && asked.output.is_none() && to_stdout && io::stdout().is_terminal()
 }
 

@@ -38,7 +38,7 @@ pub enum Problem {
     Unfit(String),
     /// Of this file, or else of the input, the system says this.
     Failed { name: Option<OsString>, why: String },
-    /// Nobody reads on.
+    /// Nobody reads standard output any more.
     Closed,
 }
 
@@ -52,6 +52,9 @@ impl From<Refusal> for Problem {
     }
 }
 
+/// What is wrong when nobody reads on.
+pub const CLOSED: &str = "nobody reads standard output any more";
+
 /// The system's words without its number.
 pub fn reason(why: &io::Error) -> String {
     let text = why.to_string();
@@ -62,14 +65,19 @@ pub fn reason(why: &io::Error) -> String {
 }
 
 impl Problem {
-    pub fn of_file(name: OsString, why: &io::Error) -> Problem {
+    pub fn of_stdout(why: &io::Error) -> Problem {
         match why.kind() {
             io::ErrorKind::BrokenPipe => Problem::Closed,
-            io::ErrorKind::AlreadyExists => {
-                Problem::Failed { name: Some(name), why: "it is there already; --force overwrites it".into() }
-            }
-            _ => Problem::Failed { name: Some(name), why: reason(why) },
+            _ => Problem::Failed { name: Some("standard output".into()), why: reason(why) },
         }
+    }
+
+    pub fn of_file(name: OsString, why: &io::Error) -> Problem {
+        Problem::Failed { name: Some(name), why: reason(why) }
+    }
+
+    pub fn taken(name: OsString) -> Problem {
+        Problem::Failed { name: Some(name), why: "it is there already; --force overwrites it".into() }
     }
 
     /// The exit status that it asks for.

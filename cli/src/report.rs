@@ -1,30 +1,20 @@
 //! What is said while files are worked on, and behind the last: a line for each refusal, progress, a summary, JSON.
 use crate::args::{Asked, Output};
+use crate::command::Task;
 use crate::json::object;
-use crate::outcome::{reason, Fact, Made, Problem, Value};
+use crate::outcome::{reason, Fact, Made, Problem, Value, CLOSED};
+use crate::words::put_name;
 use std::collections::BTreeMap;
 use std::ffi::OsStr;
 use std::io::{self, IsTerminal, Write};
-use std::os::unix::ffi::OsStrExt;
 use std::time::{Duration, Instant};
 
 const BAR: usize = 30;
 /// The bar is drawn anew so often.
 const STEP: Duration = Duration::from_millis(100);
 
-/// The name as it is, so that it can be taken from the line; what would break the line is escaped.
-fn put_name(out: &mut Vec<u8>, name: &OsStr) {
-    if name == "-" {
-        out.extend(b"standard input");
-        return;
-    }
-    for &b in name.as_bytes() {
-        if b.is_ascii_control() {
-            out.extend(format!("\\x{b:02x}").bytes());
-        } else {
-            out.push(b);
-        }
-    }
+fn put_input(out: &mut Vec<u8>, name: &OsStr) {
+    put_name(out, if name == "-" { OsStr::new("standard input") } else { name });
 }
 
 fn put_facts(out: &mut Vec<u8>, facts: &[Fact]) {
@@ -42,7 +32,7 @@ fn put_facts(out: &mut Vec<u8>, facts: &[Fact]) {
 /// A line of what was accepted.
 fn accepted_line(input: &OsStr, facts: &[Fact]) -> Vec<u8> {
     let mut line = Vec::new();
-    put_name(&mut line, input);
+    put_input(&mut line, input);
     line.extend(b": ");
     put_facts(&mut line, facts);
     line.push(b'\n');
@@ -56,7 +46,7 @@ fn problem_line(input: &OsStr, problem: &Problem) -> Vec<u8> {
         Problem::Failed { name: Some(name), .. } => name,
         _ => input,
     };
-    put_name(&mut line, of);
+    put_input(&mut line, of);
     line.extend(b": ");
     match problem {
         Problem::Refused { refusal, facts, detail } => {
@@ -66,7 +56,7 @@ fn problem_line(input: &OsStr, problem: &Problem) -> Vec<u8> {
             line.extend(format!("{comma}refused {}: {refusal}{detail}", refusal.number()).bytes());
         }
         Problem::Unfit(why) | Problem::Failed { why, .. } => line.extend(why.bytes()),
-        Problem::Closed => line.extend(b"closed"),
+        Problem::Closed => line.extend(CLOSED.bytes()),
     }
     line.push(b'\n');
     line
@@ -138,14 +128,26 @@ impl Report<'_> {
     /// a string speaks for itself.
     fn tell_accepted(&mut self, input: &OsStr, made: &Made) -> io::Result<()> {
         let task = self.asked.command.task;
+        if task == Task::Check {
+            return self.say(&accepted_line(input, &made.facts));
+        }
         if task.is_report() {
-            let line = accepted_line(input, &made.facts);
-            return self.say(if made.bytes.is_empty() { &line } else { &made.bytes });
+            return self.say(&[self.title(input), made.bytes.clone()].concat());
         }
         if task.makes_record() && self.asked.inputs.len() == 1 && !self.asked.quiet {
             self.note(&accepted_line(input, &made.facts));
         }
         Ok(())
+    }
+
+    /// In front of what a report has in several lines, if there are several of them.
+    fn title(&self, input: &OsStr) -> Vec<u8> {
+        let mut line = Vec::new();
+        if self.asked.inputs.len() > 1 {
+            put_input(&mut line, input);
+            line.extend(b":\n");
+        }
+        line
     }
 
     fn tell_problem(&mut self, input: &OsStr, problem: &Problem) -> io::Result<()> {

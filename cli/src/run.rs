@@ -5,13 +5,13 @@ use crate::outcome::{reason, Made, Problem};
 use crate::report::Report;
 use crate::tallies::{add, add_to_file, require_table};
 use crate::task::{perform, Desk};
-use crate::whole::{folder_of, sync_folder, write_whole};
+use crate::whole::{folder_of, is_taken, sync_folder, write_whole};
 use seq_graph::Tallies;
-use std::collections::BTreeMap;
+use std::collections::{BTreeMap, BTreeSet};
 use std::ffi::OsStr;
-use std::fs::{create_dir_all, File};
+use std::fs::{canonicalize, create_dir_all, File};
 use std::io::{self, IsTerminal, Read, Write};
-use std::path::Path;
+use std::path::{Path, PathBuf};
 use std::sync::atomic::{AtomicUsize, Ordering};
 use std::sync::mpsc::{channel, Receiver, RecvTimeoutError, Sender};
 use std::thread::{scope, Builder};
@@ -51,23 +51,20 @@ fn write_stdout(bytes: &[u8]) -> io::Result<()> {
 
 /// Reads an input, works on it, and writes what was made. What is said of it comes back; what is written does not.
 fn one(asked: &Asked, input: &OsStr, output: &Output, desk: &mut Desk) -> Result<Made, Problem> {
-    let of_output = |why: io::Error| match output {
-        Output::File(path) => Problem::of_file(path.into(), &why),
-        _ => Problem::of_file("standard output".into(), &why),
-    };
     if let Output::File(path) = output {
         // before the work: a call whose answer has no place is not made
-        if path.is_file() && !asked.force {
-            return Err(of_output(io::ErrorKind::AlreadyExists.into()));
+        if is_taken(path) && !asked.force {
+            return Err(Problem::taken(path.into()));
         }
     }
     let mut made = perform(asked, input, &read_input(input)?, desk)?;
     match output {
         Output::Report => return Ok(made),
-        Output::Stdout => write_stdout(&made.bytes),
-        Output::File(path) => write_whole(path, &made.bytes, asked.force),
+        Output::Stdout => write_stdout(&made.bytes).map_err(|why| Problem::of_stdout(&why))?,
+        Output::File(path) => {
+            write_whole(path, &made.bytes, asked.force).map_err(|why| Problem::of_file(path.into(), &why))?
+        }
     }
-    .map_err(of_output)?;
     made.bytes = Vec::new();
     Ok(made)
 }
@@ -75,7 +72,6 @@ fn one(asked: &Asked, input: &OsStr, output: &Output, desk: &mut Desk) -> Result
 /// Inputs whose turn has come, one after another, and what became of each.
 struct Queue<'a> {
     asked: &'a Asked,
-    outputs: &'a [Output],
     next: AtomicUsize,
 }
 
@@ -83,7 +79,7 @@ type Told = (usize, Result<Made, Problem>);
 
 impl Queue<'_> {
     fn stop(&self) {
-        self.next.store(self.outputs.len(), Ordering::Relaxed);
+        self.next.store(self.asked.inputs.len(), Ordering::Relaxed);
     }
 
     /// Takes inputs until none is left; what the thread's calls counted.
@@ -91,7 +87,7 @@ impl Queue<'_> {
         let mut desk = Desk::default();
         loop {
             let i = self.next.fetch_add(1, Ordering::Relaxed);
-            let Some(output) = self.outputs.get(i) else { return desk.table };
+            let Some(output) = self.asked.outputs.get(i) else { return desk.table };
             let outcome = one(self.asked, &self.asked.inputs[i], output, &mut desk);
             if told.send((i, outcome)).is_err() {
                 return desk.table;
@@ -120,7 +116,7 @@ impl Queue<'_> {
         report: &mut Report,
     ) -> io::Result<()> {
         while let Some(outcome) = waiting.remove(next) {
-            report.tell(&self.asked.inputs[*next], &self.outputs[*next], &outcome)?;
+            report.tell(&self.asked.inputs[*next], &self.asked.outputs[*next], &outcome)?;
             *next += 1;
         }
         Ok(())
@@ -153,9 +149,15 @@ fn work_on_all(queue: &Queue, jobs: usize, report: &mut Report) -> io::Result<Ta
     })
 }
 
+/// A file or a folder, and what the system says of it.
+type Fault<'a> = (&'a Path, io::Error);
+
 /// What must be there before the first input is read.
-fn prepare(asked: &Asked) -> Result<(), (&Path, io::Error)> {
+fn prepare(asked: &Asked) -> Result<(), Fault<'_>> {
     if let Some(folder) = &asked.folder {
+        if folder.is_file() {
+            return Err((folder, io::Error::other("it is a file, and no folder")));
+        }
         create_dir_all(folder).map_err(|why| (folder.as_path(), why))?;
     }
     if let Some(path) = &asked.tallies {
@@ -164,35 +166,61 @@ fn prepare(asked: &Asked) -> Result<(), (&Path, io::Error)> {
     Ok(())
 }
 
-/// What is done when all inputs are: the names of the outputs last, and what was counted is kept.
-fn finish<'a>(asked: &'a Asked, outputs: &'a [Output], table: &Tallies) -> Result<(), (&'a Path, io::Error)> {
-    if let Some(Output::File(path)) = outputs.iter().find(|o| matches!(o, Output::File(p) if p.is_file())) {
-        let folder = folder_of(path);
-        sync_folder(folder).map_err(|why| (folder, why))?;
+/// The folders in which names were made: of the outputs, and above the one that may be new.
+fn folders_of(asked: &Asked) -> BTreeSet<PathBuf> {
+    let written = |output: &Output| match output {
+        Output::File(path) if path.is_symlink() => canonicalize(path).ok(),
+        Output::File(path) if path.is_file() => Some(path.clone()),
+        _ => None,
+    };
+    let written = asked.outputs.iter().filter_map(written).map(|path| folder_of(&path).into());
+    let above = asked.folder.iter().flat_map(|folder| folder.ancestors());
+    written.chain(above.map(|folder| folder_of(folder).into())).collect()
+}
+
+/// Makes the names of the outputs last.
+fn sync_folders(asked: &Asked, report: &mut Report) {
+    for folder in folders_of(asked) {
+        if let Err(why) = sync_folder(&folder) {
+            report.fail(folder.as_os_str(), &reason(&why));
+        }
     }
-    if let Some(path) = &asked.tallies {
-        add_to_file(path, table).map_err(|why| (path.as_path(), why))?;
+}
+
+/// Says that nothing could be done: in a line, or of each input.
+fn tell_unprepared(asked: &Asked, report: &mut Report, (path, why): Fault) {
+    if !asked.json {
+        return report.fail(path.as_os_str(), &reason(&why));
     }
-    Ok(())
+    for (input, output) in asked.inputs.iter().zip(&asked.outputs) {
+        let told = report.tell(input, output, &Err(Problem::of_file(path.into(), &why)));
+        if let Err(why) = told {
+            return report.fail_to_say(&why);
+        }
+    }
 }
 
 /// Runs the command; the exit status.
 pub fn run(asked: &Asked) -> u8 {
     let mut report = Report::of(asked);
-    let outputs = asked.outputs().unwrap_or_default();
-    if let Err((path, why)) = prepare(asked) {
-        report.fail(path.as_os_str(), &reason(&why));
+    if let Err(fault) = prepare(asked) {
+        tell_unprepared(asked, &mut report, fault);
         return report.status;
     }
-    let queue = Queue { asked, outputs: &outputs, next: AtomicUsize::new(0) };
-    match work_on_all(&queue, asked.jobs.min(asked.inputs.len()), &mut report) {
-        Err(why) => report.fail(OsStr::new("threads"), &reason(&why)),
-        Ok(table) => {
-            if let Err((path, why)) = finish(asked, &outputs, &table) {
-                report.fail(path.as_os_str(), &reason(&why));
-            }
-            report.summary();
+    let queue = Queue { asked, next: AtomicUsize::new(0) };
+    let table = match work_on_all(&queue, asked.jobs.min(asked.inputs.len()), &mut report) {
+        Ok(table) => table,
+        Err(why) => {
+            report.fail(OsStr::new("threads"), &reason(&why));
+            return report.status;
+        }
+    };
+    sync_folders(asked, &mut report);
+    if let Some(path) = &asked.tallies {
+        if let Err(why) = add_to_file(path, &table) {
+            report.fail(path.as_os_str(), &reason(&why));
         }
     }
+    report.summary();
     report.status
 }

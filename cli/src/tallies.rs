@@ -1,10 +1,10 @@
 //! A table of tallies as a file of 192 bytes: for each caller three numbers of four bytes, little-endian.
 use crate::outcome::{Fact, Value};
 use crate::text::line;
-use crate::whole::{folder_of, sync_folder, write_whole};
+use crate::whole::{folder_of, require_room_beside, sync_folder, write_whole};
 use seq_graph::{Tallies, Tally};
 use std::fmt::Write;
-use std::fs::{self, File};
+use std::fs::{self, File, OpenOptions};
 use std::io::{self, ErrorKind, Read};
 use std::os::unix::fs::MetadataExt;
 use std::path::Path;
@@ -38,7 +38,8 @@ pub fn add(table: &mut Tallies, counted: &Tallies) {
 fn table_in(file: &File) -> io::Result<Tallies> {
     let mut data = Vec::with_capacity(SIZE + 1);
     file.take(SIZE as u64 + 1).read_to_end(&mut data)?;
-    tallies_in(&data).map_err(|_| io::Error::other(format!("no table of tallies: it has not {SIZE} bytes")))
+    tallies_in(&data)
+        .map_err(|_| io::Error::other(format!("no table of tallies: it does not have {SIZE} bytes")))
 }
 
 /// Whether the file has this name still, and was not replaced by another run.
@@ -49,6 +50,11 @@ fn has_name(file: &File, path: &Path) -> io::Result<bool> {
         Err(why) if why.kind() == ErrorKind::NotFound => Ok(false),
         Err(why) => Err(why),
     }
+}
+
+/// To be locked for writing, as some file systems have it, a file must be open for that.
+fn open_table(path: &Path) -> io::Result<File> {
+    OpenOptions::new().read(true).write(true).open(path)
 }
 
 /// Adds to the table of a file that is there. False if another run replaced it meanwhile.
@@ -67,9 +73,10 @@ fn add_to_open(path: &Path, file: &File, counted: &Tallies) -> io::Result<bool> 
 /// wait for one another.
 pub fn add_to_file(path: &Path, counted: &Tallies) -> io::Result<()> {
     loop {
-        let done = match File::open(path) {
+        let done = match open_table(path) {
             Ok(file) => add_to_open(path, &file, counted)?,
             Err(why) if why.kind() != ErrorKind::NotFound => return Err(why),
+            // made by another run meanwhile, it is added to
             Err(_) => match write_whole(path, &bytes_of(counted), false) {
                 Err(why) if why.kind() == ErrorKind::AlreadyExists => false,
                 made => made.map(|_| true)?,
@@ -83,11 +90,14 @@ pub fn add_to_file(path: &Path, counted: &Tallies) -> io::Result<()> {
 
 /// That what will be counted can be added, before a long run begins.
 pub fn require_table(path: &Path) -> io::Result<()> {
-    match File::open(path) {
-        Ok(file) => table_in(&file).map(|_| ()),
-        Err(why) if why.kind() == ErrorKind::NotFound => Ok(()),
-        Err(why) => Err(why),
+    match open_table(path) {
+        Ok(file) => {
+            table_in(&file)?;
+        }
+        Err(why) if why.kind() == ErrorKind::NotFound => {}
+        Err(why) => return Err(why),
     }
+    require_room_beside(path)
 }
 
 /// A line for each caller.

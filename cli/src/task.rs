@@ -3,7 +3,7 @@ use crate::args::Asked;
 use crate::command::Task;
 use crate::dot::dot_of;
 use crate::gfa::{gfa_of, graph_of_gfa, Given};
-use crate::graph::{encode, follow, mark, Graph, KMERS, SEQUENCES};
+use crate::graph::{encode, follow, header_of, mark, Graph, Header, Unfollowed, KMERS, SEQUENCES};
 use crate::outcome::{number, word, Fact, Made, Problem};
 use crate::tallies::{shown_tallies, tallies_in};
 use crate::text::{end_word, graph_of_text, shown_graph, text_of};
@@ -88,31 +88,47 @@ fn verdict(record: &[u8], desk: &mut Desk) -> Result<(), Refusal> {
     }
 }
 
-fn facts_of(graph: &Graph) -> Vec<Fact> {
-    let kind = match graph.kind {
+fn facts_of(header: &Header) -> Vec<Fact> {
+    let kind = match header.kind {
         KMERS => "k-mers",
         SEQUENCES => "sequences",
         _ => "unknown",
     };
-    let status = ["not cleaned", "just reference", "some variation"].get(usize::from(graph.status));
-    let mut facts: Vec<Fact> = graph.form.map(|form| word("form", mark(form))).into_iter().collect();
-    facts.extend([word("kind", kind), word("status", status.unwrap_or(&"unknown"))]);
-    facts.extend([number("k", graph.k.into()), number("vertices", graph.sequences.len())]);
-    facts.extend([number("edges", graph.edges.len()), number("bytes", graph.bytes())]);
-    facts
+    let status = ["not cleaned", "just reference", "some variation"].get(usize::from(header.status));
+    let [vertices, edges, bytes] = header.counts.map(|n| n as usize);
+    vec![
+        word("form", mark(header.form)),
+        word("kind", kind),
+        word("status", status.unwrap_or(&"unknown")),
+        number("k", header.k.into()),
+        number("vertices", vertices),
+        number("edges", edges),
+        number("bytes", bytes),
+    ]
 }
 
-/// What a file is, as far as it can be followed, and the library's verdict.
+/// The library's refusal of a record that cannot be followed, with what is wrong, where that is its cause.
+fn refused(data: &[u8], unfollowed: Unfollowed, desk: &mut Desk) -> Problem {
+    match verdict(data, desk).map_err(Problem::from) {
+        Ok(()) => Problem::Unfit(unfollowed.why),
+        Err(Problem::Refused { refusal, facts, .. }) if refusal.number() == unfollowed.number => {
+            Problem::Refused { refusal, facts, detail: Some(unfollowed.why) }
+        }
+        Err(problem) => problem,
+    }
+}
+
+/// What a file is, as far as it has a header, and the library's verdict.
 fn check(data: &[u8], desk: &mut Desk) -> Result<Made, Problem> {
-    let (facts, detail) = match follow(data) {
-        Ok(graph) => (facts_of(&graph), None),
-        Err(why) => (Vec::new(), Some(why)),
+    let facts: Vec<Fact> = header_of(data).iter().flat_map(facts_of).collect();
+    let judged = match follow(data) {
+        Ok(_) => verdict(data, desk).map_err(Problem::from),
+        Err(unfollowed) => Err(refused(data, unfollowed, desk)),
     };
-    match (verdict(data, desk).map_err(Problem::from), detail) {
-        (Err(Problem::Refused { refusal, .. }), detail) => Err(Problem::Refused { refusal, facts, detail }),
-        (Err(problem), _) => Err(problem),
-        (Ok(()), Some(detail)) => Err(Problem::Unfit(detail)),
-        (Ok(()), None) => Ok(Made { bytes: Vec::new(), facts }),
+    match judged {
+        Ok(()) => Ok(Made { bytes: Vec::new(), facts }),
+        Err(Problem::Refused { refusal, detail, .. }) => Err(Problem::Refused { refusal, facts, detail }),
+        Err(problem) => Err(problem),
     }
 }
 
@@ -157,9 +173,11 @@ fn string(asked: &Asked, name: &OsStr, made: Made) -> Result<Made, Problem> {
     if let Some(b) = made.bytes.iter().find(|b| !b.is_ascii_alphabetic()) {
         return Err(Problem::Unfit(format!("the string holds the byte \\x{b:02x}, which FASTA cannot show")));
     }
+    let name = if name == "-" { OsStr::new("standard input") } else { name };
     let title = Path::new(name).file_stem().unwrap_or(name).as_bytes();
     let mut bytes = vec![b'>'];
-    bytes.extend(title.iter().map(|b| if b.is_ascii_control() { b'_' } else { *b }));
+    // a blank would end the name
+    bytes.extend(title.iter().map(|b| if b.is_ascii_control() || *b == b' ' { b'_' } else { *b }));
     for line in made.bytes.chunks(FASTA_LINE) {
         bytes.push(b'\n');
         bytes.extend(line);
@@ -170,7 +188,7 @@ fn string(asked: &Asked, name: &OsStr, made: Made) -> Result<Made, Problem> {
 
 fn show(data: &[u8], caller: Caller, desk: &mut Desk) -> Result<Made, Problem> {
     let (mut answer, done) = simplify(data, caller, desk)?;
-    let graph = follow(&answer.bytes).map_err(Problem::Unfit)?;
+    let graph = follow(&answer.bytes).map_err(|unfollowed| Problem::Unfit(unfollowed.why))?;
     answer.bytes = shown_graph(&graph, &done).into();
     // the length is that of the record, which is not what is written
     answer.facts.retain(|fact| fact.name != "length");
@@ -179,10 +197,7 @@ fn show(data: &[u8], caller: Caller, desk: &mut Desk) -> Result<Made, Problem> {
 
 /// A record in another form, whatever the library says of it, if its fields can be followed.
 fn shown(data: &[u8], desk: &mut Desk, show: fn(&Graph) -> Result<String, String>) -> Result<Made, Problem> {
-    let graph = match follow(data) {
-        Ok(graph) => graph,
-        Err(_) => return check(data, desk),
-    };
+    let graph = follow(data).map_err(|unfollowed| refused(data, unfollowed, desk))?;
     let text = show(&graph).map_err(Problem::Unfit)?;
     Ok(Made { bytes: text.into(), facts: Vec::new() })
 }

@@ -1,4 +1,6 @@
-//! Numbers and sequences as words of a text, and words as part of a message.
+//! Numbers and sequences as words of a text, and words and names as part of a message.
+use std::ffi::OsStr;
+use std::os::unix::ffi::OsStrExt;
 
 /// A message shows so many characters of a word.
 const LONGEST_SHOWN: usize = 32;
@@ -23,8 +25,29 @@ pub fn printed(sequence: &[u8]) -> String {
     out
 }
 
+/// A name as it is, so that it can be taken from the line; what would break the line is escaped.
+pub fn put_name(out: &mut Vec<u8>, name: &OsStr) {
+    for &b in name.as_bytes() {
+        if b.is_ascii_control() {
+            out.extend(format!("\\x{b:02x}").bytes());
+        } else {
+            out.push(b);
+        }
+    }
+}
+
+/// The same as text, for a message: what is no text is replaced.
+pub fn shown_name(name: impl AsRef<OsStr>) -> String {
+    let mut out = Vec::new();
+    put_name(&mut out, name.as_ref());
+    String::from_utf8_lossy(&out).into()
+}
+
 /// A word of the input as part of a message: short, and printable.
 pub fn shown(word: &[u8]) -> String {
+    if word.is_empty() {
+        return "nothing".into();
+    }
     let printable = |b: u8| b == b' ' || b.is_ascii_graphic();
     let text: String = word
         .iter()
@@ -74,7 +97,7 @@ pub fn sequence_of(word: &[u8]) -> Result<Vec<u8>, String> {
 
 #[cfg(test)]
 mod tests {
-    use super::{number_of, printed, sequence_of, shown};
+    use super::{number_of, printed, sequence_of, shown, shown_name};
 
     #[test]
     fn every_byte_comes_back() {
@@ -106,5 +129,7 @@ mod tests {
         assert_eq!(shown(b"\xd9\xa1"), "\\xd9\\xa1");
         assert_eq!(shown(&[b'9'; 5000]), format!("{}..", "9".repeat(32)));
         assert_eq!(shown(&[b'9'; 32]), "9".repeat(32));
+        assert_eq!(shown(b""), "nothing");
+        assert_eq!(shown_name("a\nb\u{e9}"), "a\\x0ab\u{e9}");
     }
 }

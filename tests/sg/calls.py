@@ -117,10 +117,10 @@ def check_single(folder):
     assert run("reference", "-q", record) == (0, b"AACTGTT", b"")
     assert run("path", "-q", "-p0,2,3", record) == (0, b"AACAGTT", b"")
     assert run("sequence", "-q", "--vertex=2", record) == (0, b"CAG", b"")
-    assert run("reference", "-q", "--fasta", record) == (0, b">case 1\nAACTGTT\n", b"")
-    assert run("sequence", "-q", "-n", "0", "--fasta", "-", given=KMERS) == (0, b">-\nACG\n", b"")
+    assert run("reference", "-q", "--fasta", record) == (0, b">case_1\nAACTGTT\n", b"")
+    assert run("sequence", "-q", "-n", "0", "--fasta", "-", given=KMERS) == (0, b">standard_input\nACG\n", b"")
     long = encode(SGR2, SEQUENCE, 0, 10, [b"A" * 121], [])
-    assert run("sequence", "-q", "-n0", "--fasta", "-", given=long)[1] == b">-\n" + (b"A" * 60 + b"\n") * 2 + b"A\n"
+    assert run("sequence", "-q", "-n0", "--fasta", "-", given=long)[1] == b">standard_input\n" + (b"A" * 60 + b"\n") * 2 + b"A\n"
     odd = encode(SGR2, SEQUENCE, 0, 10, [b"A\n"], [])
     failed(run("sequence", "-n0", "--fasta", "-", given=odd), 1, b"sg: standard input: the string holds the byte \\x0a")
     failed(run("simplify", "-", given=CYCLE), 1, b"sg: standard input: refused 7: a cycle, a self edge included\n")
@@ -154,6 +154,10 @@ def check_tallies(folder):
     assert contents(full) == b"\xff" * 192
 
 
+def full_table(folder):
+    return put(folder, "full table", b"\xff" * 192)
+
+
 def check_callers(folder):
     """A caller above 15 is refused by the library and counted nowhere; a file that is no table stops the run at once."""
     table, out = os.path.join(folder, "table"), os.path.join(folder, "out")
@@ -163,6 +167,13 @@ def check_callers(folder):
     record = put(folder, "in.sgr", CASE_1)
     failed(run("simplify", "-t", short, record, "-o", out), 3, b"sg: " + short.encode() + b": no table of tallies")
     assert not os.path.exists(out) and contents(short) == bytes(191)
+    # a table that cannot be written is told before the work, a link that leads nowhere too
+    os.symlink("nowhere", os.path.join(folder, "link"))
+    for bad, why in ((os.path.join(folder, "none", "table"), b"No such file or directory"), (folder, b"Is a directory")):
+        failed(run("simplify", "-t", bad, record, "-o", out), 3, b"sg: " + bad.encode() + b": " + why + b"\n")
+        assert not os.path.exists(out), bad
+    status, _, noted = run("simplify", "-q", "-t", os.path.join(folder, "link"), record, "-o", out)
+    assert (status, noted.split(b": ")[-1]) == (3, b"it is a link that leads nowhere\n"), noted
     # asking what a file is, or making one, is no call of a caller
     for command in ("check", "make", "text", "sequence"):
         assert run(command, "-t", table, record)[0] == 2, command
@@ -172,6 +183,8 @@ def check_callers(folder):
     assert status == 0 and len(lines) == 17 and lines[3] == "2\t1\t0\t3", lines
     said = told(run("caller", "--json", table)[1])[0]
     assert said["answered"] == [0, 0, 1] + [0] * 13 and said["rewrites"][2] == 3, said
+    status, text, _ = run("caller", "-q", table, full_table(folder))
+    assert status == 0 and text.count(b"\n") == 36 and text.startswith(table.encode() + b":\ncaller\t"), text
     failed(run("caller", short), 1, b"sg: " + short.encode() + b": it has 191 bytes; a table of tallies has 192\n")
     as_sgr2 = run("simplify", "-q", "-", given=CASE_1_AS_SGR2)
     assert as_sgr2[1] == outcome_of(SIMPLIFY_GRAPH, CASE_1_AS_SGR2, 0, ())[0]

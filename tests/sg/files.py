@@ -31,6 +31,7 @@ def check_statuses(folder):
     for words in ([], ["simplify"], ["simplified", good], ["simplify", good, bad], ["simplify", "--jason", good]):
         status, said, noted = run(*words)
         assert (status, said) == (2, b"") and noted.startswith(b"sg: ") and b"usage: sg " in noted, words
+    assert run("a\nb\x1b")[2].startswith(b"sg: no command a\\x0ab\\x1b\n")
     failed(run("simplify", none, "-o", out + ".sgr"), 3, b"sg: " + none.encode() + b": No such file or directory\n")
     failed(run("simplify", folder, "-o", out + ".sgr"), 3, b"sg: " + folder.encode() + b": Is a directory\n")
     assert not os.path.exists(out + ".sgr")
@@ -42,12 +43,12 @@ def check_statuses(folder):
 def check_help(_):
     """Of each command with an example; the manual page is the stored one."""
     status, text, noted = run("help")
-    assert (status, noted) == (0, b"") and run("--help") == run("-h") == (0, text, b"")
+    assert (status, noted) == (0, b"") and run("--help") == run("-h") == run("help", "help") == (0, text, b"")
     for name in COMMANDS:
         assert b"\n  " + name.encode() + b" " in text, name
         status, one, _ = run("help", name)
         assert status == 0 and b"\nExample\n\n  sg " + name.encode() + b" " in one, name
-        assert run(name, "--help") == run(name, "-h", "-x") == (0, one, b""), name
+        assert run(name, "--help") == run(name, "-h", "-x") == run("--help", name) == (0, one, b""), name
     assert b"\nExamples\n\n  sg make " in text and run("help", "nothing")[0] == 2
     assert run("help", "--man") == (0, contents(os.path.join(ROOT, "docs/sg.1")), b""), "docs/sg.1: sg help --man"
     assert run("--version")[1].startswith(b"sg ")
@@ -87,15 +88,50 @@ def check_outputs(folder):
     assert run("simplify", "-q", record, "-o", "/dev/null") == (0, b"", b"")
     assert not os.path.isfile("/dev/null")
     assert run("simplify", "-q", record, "-o", "/dev/stdout") == (0, SIMPLIFIED, b"")
+    for name in ("/dev/stdout", "/dev/fd/1"):
+        with open(os.path.join(folder, "redirected"), "wb") as file:
+            done = subprocess.run([SG, "simplify", "-q", record, "-o", name], stdout=file)
+        assert done.returncode == 0 and contents(file.name) == SIMPLIFIED
+    os.remove(file.name)
     assert run("simplify", "-q", "-f", record, "-o", record)[0] == 0 and contents(record) == SIMPLIFIED
     # what is refused leaves what was there, forced or not
     put(folder, "in.sgr", CYCLE)
     put(folder, "out.sgr", b"old")
     assert run("simplify", "-f", record, "-o", out)[0] == 1 and contents(out) == b"old"
     failed(run("text", record, "-o", folder), 3, b"sg: " + folder.encode() + b": ")
+    dangling = os.path.join(folder, "dangling")
+    os.symlink("nowhere", dangling)
+    for words in ([], ["-f"]):
+        failed(run("text", *words, record, "-o", dangling), 3, b"sg: " + dangling.encode() + b": it is a link that leads nowhere\n")
+    os.remove(dangling)
+    failed(run("text", record, "-d", out), 3, b"sg: " + out.encode() + b": it is a file, and no folder\n")
     nowhere = os.path.join(folder, "none", "x.sgr")
     failed(run("text", record, "-o", nowhere), 3, b"sg: " + nowhere.encode() + b": No such file or directory\n")
+    # of a folder that cannot be made each input is told
+    under_file = os.path.join(out, "folder")
+    status, said, _ = run("text", "--json", "-q", "-d", under_file, record, record + "x")
+    assert status == 3 and [one["failed_file"] for one in told(said)] == [under_file] * 2, said
     assert sorted(os.listdir(folder)) == ["in.sgr", "link", "out.sgr"]
+
+
+def check_places(folder):
+    """Two outputs, or an output and the tallies, never go to one place, by whatever names."""
+    os.mkdir(os.path.join(folder, "out"))
+    one, two = put(folder, "one.sgr", CASE_1), put(folder, "two.sgr", CASE_1)
+    os.symlink("one.sgr", os.path.join(folder, "out", "two.sgr"))
+    put(folder, "out/one.sgr", b"old")
+    status, _, noted = run("simplify", "-f", "-d", os.path.join(folder, "out"), one, two)
+    assert status == 2 and noted.startswith(b"sg: two files would be written to "), noted
+    os.symlink("two.sgr", os.path.join(folder, "link"))
+    assert run("simplify", "-f", one, "-o", two, "-t", os.path.join(folder, "link"))[0] == 2
+    assert run("simplify", "-f", "-d", "", one)[0] == run("simplify", "-f", "")[0] == 2
+    assert contents(one) == contents(two) == CASE_1
+    fifo = os.path.join(folder, "fifo")
+    os.mkfifo(fifo)
+    with subprocess.Popen(["head", "-c", "1", fifo], stdout=subprocess.DEVNULL) as reader:
+        status, said, _ = run("text", "--json", "-", "-o", fifo, given=encode(SGR2, SEQUENCE, 0, 10, [b"A" * 99] * 9999, []))
+        reader.wait()
+    assert status == 3 and told(said)[0]["cause"] == "Broken pipe", said
 
 
 def limit_file_size():
@@ -210,6 +246,6 @@ def check_json(folder):
 
 
 CHECKS = [
-    check_statuses, check_help, check_names, check_outputs, check_full_disk, check_pipes, check_terminal, check_example,
+    check_statuses, check_help, check_names, check_outputs, check_places, check_full_disk, check_pipes, check_terminal, check_example,
     check_json,
 ]

@@ -14,6 +14,7 @@ from records import FORMS, SEQUENCE, SGR1, SGR2, SIMPLIFY_GRAPH, edges_in, encod
 
 FLAGS = ["-", "r", "-c", "rc"]
 KINDS = {0: "k-mers", 1: "sequences"}
+FACTS = ("form", "kind", "status", "k", "vertices", "edges", "bytes")
 STATUSES = {0: "not cleaned", 1: "just reference", 2: "some variation"}
 NO_SEQUENCE = "is no sequence: letters, \\xhh for any other byte, or a dot"
 
@@ -86,8 +87,12 @@ WRONG_GFA = [
     (GFA + b"L\ta\t+\tb\t+\t0M\tRC:i:1\tRC:i:1\n", "line 4: a second tag RC"),
     (GFA + b"L\ta\t+\tb\t+\t0M\tsupport\n", "line 4: support is no tag: two letters, a type and a value"),
     (GFA + b"S\ta\tC\n", "line 4: a second segment a, or one without a name"),
-    (GFA + b"S\t\tC\n", "line 4: a second segment , or one without a name"),
-    (GFA + b"S\tc\t*\n", "line 4: the sequence is not given; an empty one has the tag LN:i:0"),
+    (GFA + b"S\t\tC\n", "line 4: a second segment nothing, or one without a name"),
+    (GFA + b"S\tc\t*\n", "line 4: the sequence is not given; an empty one is * with the tag LN:i:0"),
+    (GFA + b"S\tc\t\n", "line 4: the sequence is not given; an empty one is * with the tag LN:i:0"),
+    (GFA + b"L\ta\t+\tb\t+\t\tRC:i:1\n", "line 4: the overlap nothing: a record's sequences do not overlap, 0M"),
+    (GFA + b"S\tc\tAC\t\n", "line 4: nothing is no tag: two letters, a type and a value"),
+    (b"\n# nothing\n", "there is no line of GFA in it"),
     (GFA + b"S\tc\tAC\tLN:i:3\n", "line 4: the tag LN is not the length, 2"),
     (GFA + b"S\tc\tA-C\n", "line 4: the sequence holds the byte \\x2d, which GFA does not allow"),
     (GFA + b"H\tkm:i:10\n", "line 4: a second tag km"),
@@ -111,6 +116,21 @@ def can_be_followed(data):
         return False
     _, _, _, _, v, e, b, *offsets = form.header.unpack_from(data)
     return tuple(offsets) == layout(form, v, e, b) and offsets[3] == len(data) and sum(lengths_in(data)) == b
+
+
+def has_header(data):
+    form = form_of(data)
+    return len(data) >= form.header.size and data[:4] == form.mark
+
+
+def reason_of(data):
+    """The number that the layout by itself gives a reason for: 1, 2, 4, or none."""
+    form = form_of(data)
+    if len(data) < form.header.size or form.header.unpack_from(data)[-1] != len(data):
+        return 1
+    if data[:4] != form.mark:
+        return 2
+    return None if can_be_followed(data) else 4
 
 
 def text_of(data):
@@ -137,9 +157,9 @@ def check_verdicts(folder):
     for record, said in zip(data, objects):
         assert said.get("number", 0) == refusal(record), (said, record[:64])
         assert said["result"] == ("refused" if refusal(record) else "accepted"), said
-        facts = facts_of(record) if can_be_followed(record) else {}
-        assert all(said[name] == value for name, value in facts.items()), (said, facts)
-        assert ("detail" in said) == (not facts), said
+        facts = facts_of(record) if has_header(record) else {}
+        assert {name: said.get(name) for name in FACTS} == {name: facts.get(name) for name in FACTS}, (said, facts)
+        assert ("detail" in said) == (said.get("number", 0) == reason_of(record)), said
     numbers = {said.get("number", 0) for said in objects}
     assert {0, 1, 2, 3, 4, 5, 6, 7, 15} <= numbers, numbers
 
@@ -153,8 +173,8 @@ def check_lines(folder):
         "sound.sgr: form SGR1, kind sequences, status not cleaned, k 10, vertices 4, edges 4, bytes 10\n"
         "a cycle.sgr: form SGR1, kind sequences, status not cleaned, k 10, vertices 2, edges 2, bytes 2, "
         "refused 7: a cycle, a self edge included\n"
-        "cut.sgr: refused 1: under 32 bytes, of SGR2 under 36, or not the length it states "
-        "(it has 40 bytes, but says 86)\n"
+        "cut.sgr: form SGR1, kind sequences, status not cleaned, k 10, vertices 4, edges 4, bytes 10, "
+        "refused 1: under 32 bytes, of SGR2 under 36, or not the length it states (it has 40 bytes, but says 86)\n"
         "stray.sgr: form SGR1, kind k-mers, status not cleaned, k 3, vertices 2, edges 1, bytes 6, "
         "refused 15: in conversion, an edge whose k-mers do not overlap by k - 1 bytes\n"
     )), out
@@ -173,7 +193,7 @@ def check_texts(folder):
         if can_be_followed(record):
             assert text == text_of(record), (record, text)
         else:
-            assert said["number"] == refusal(record) and said["number"] in (1, 2, 3, 4) and said["detail"], said
+            assert said["number"] == refusal(record) and said["number"] in (1, 2, 3, 4), said
     check_same_problems(folder, inputs, objects)
     again = os.path.join(folder, "again")
     status, _, noted = run("make", "--unchecked", "-d", again, *sorted(glob.glob(os.path.join(folder, "out", "*"))))

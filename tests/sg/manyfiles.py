@@ -80,8 +80,9 @@ def check_killed(folder):
     cut += process.returncode == -signal.SIGKILL
     found = outputs(old)
     stray = {name: made for name, made in found.items() if made != b"old" and made != due.get(name)}
-    # a file that is about to take its place is whole too
+    # a file that is about to take its place is whole too, and there is one at a time
     assert all(name.startswith(".sg-") and made in due.values() for name, made in stray.items()), stray.keys()
+    assert len(stray) <= 1, stray.keys()
     assert set(found) - set(stray) == set(due) and cut >= 4, cut
 
 
