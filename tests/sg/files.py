@@ -3,6 +3,7 @@ import json
 import os
 import pty
 import resource
+import shutil
 import signal
 import subprocess
 import termios
@@ -134,6 +135,26 @@ def check_places(folder):
     assert status == 3 and told(said)[0]["cause"] == "Broken pipe", said
 
 
+def check_without_links(folder):
+    """Where a file has only one name, and where none is without a name, outputs come to their places all the same."""
+    if not shutil.which("gcc"):
+        print("note: no gcc: the test without links is left out")
+        return
+    for i, macros in enumerate(([], ["-DNAMED"])):
+        shim, work = os.path.join(folder, "%d.so" % i), os.path.join(folder, "%d" % i)
+        subprocess.run(["gcc", "-shared", "-fPIC", *macros, "-o", shim, os.path.join(HERE, "no_links.c"), "-ldl"], check=True)
+        os.mkdir(work)
+        more = {"env": {**os.environ, "LD_PRELOAD": shim}, "cwd": work}
+        put(work, "in.sgr", CASE_1)
+        words = ["simplify", "-q", "in.sgr", "-o", "out.sgr", "-t", "table"]
+        assert run(*words, **more) == (0, b"", b"") and contents(os.path.join(work, "out.sgr")) == SIMPLIFIED
+        failed(run(*words, **more), 3, b"sg: out.sgr: it is there already; --force overwrites it\n")
+        put(work, "out.sgr", b"old")
+        assert run(*words, "-f", **more) == (0, b"", b"") and contents(os.path.join(work, "out.sgr")) == SIMPLIFIED
+        assert sorted(os.listdir(work)) == ["in.sgr", "out.sgr", "table"]
+        assert contents(os.path.join(work, "table"))[:12] == bytes([2, 0, 0, 0, 0, 0, 0, 0, 6, 0, 0, 0])
+
+
 def limit_file_size():
     """Files of at most 100 bytes, as on a disk that is full; without the signal the program is told so."""
     signal.signal(signal.SIGXFSZ, signal.SIG_IGN)
@@ -246,6 +267,6 @@ def check_json(folder):
 
 
 CHECKS = [
-    check_statuses, check_help, check_names, check_outputs, check_places, check_full_disk, check_pipes, check_terminal, check_example,
+    check_statuses, check_help, check_names, check_outputs, check_places, check_without_links, check_full_disk, check_pipes, check_terminal, check_example,
     check_json,
 ]
