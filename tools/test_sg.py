@@ -3,7 +3,8 @@
 
     tools/test_sg.py [NAME..]
 
-runs the checks of tests/sg, or those of the names. Where cargo is not present, that is told and nothing is run.
+runs the checks of tests/sg, or those of the names. It takes target/staticlib/libsg.a as it is (`rt staticlib sg`). Where cargo is
+not present, that is told and nothing is run.
 """
 import os
 import shutil

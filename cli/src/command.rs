@@ -222,7 +222,7 @@ pub const COMMANDS: [Command; 15] = [
     Command {
         task: Task::Cleanup,
         name: "cleanup",
-        says: "clean sequence graphs up: keep what lies between the ends of the reference",
+        says: "keep what lies between the ends of the reference",
         text: "Of each record the record of the cleaned graph. It keeps just the strings from the chosen reference source \
                to the chosen reference sink, and drops all else: docs/METHOD.md, sections 6 and 7. It tells the status: \
                just reference, or some variation.",

@@ -4,7 +4,7 @@
 //! Form, kind, status and k are the tags fm, kd, st and km of the header.
 use crate::graph::{mark, Edge, Graph, KMERS, SEQUENCES};
 use crate::text::{form_of, line};
-use crate::words::{number_of, shown};
+use crate::words::{number_of, once, shown};
 use seq_graph::Form;
 use std::collections::HashMap;
 use std::fmt::Write;
@@ -99,9 +99,11 @@ impl<'a> Tags<'a> {
     }
 }
 
-/// What a link is given where its line has no tag for it.
+/// What is said beside the file.
 pub struct Given {
+    /// In place of what a header says.
     pub k: Option<u16>,
+    /// Of links whose line has no tag for it.
     pub support: Option<u32>,
 }
 
@@ -121,17 +123,6 @@ struct Reader<'a> {
     names: HashMap<&'a [u8], u32>,
     sequences: Vec<Vec<u8>>,
     links: Vec<Link<'a>>,
-}
-
-/// A tag that is there replaces nothing: said twice, in two headers, it is an error.
-fn once<T>(place: &mut Option<T>, name: &str, value: Option<T>) -> Result<(), String> {
-    if value.is_none() {
-        return Ok(());
-    }
-    match std::mem::replace(place, value) {
-        None => Ok(()),
-        Some(_) => Err(format!("a second tag {name}")),
-    }
 }
 
 impl<'a> Reader<'a> {
@@ -166,9 +157,17 @@ impl<'a> Reader<'a> {
         if tags.number("kd", u8::MAX.into())?.is_some_and(|kind| kind != SEQUENCES.into()) {
             return Err("the kind is not 1: k-mers overlap; their text form can be read".into());
         }
-        once(&mut self.form, "fm", tags.value("fm", b'Z')?.map(form_of).transpose()?)?;
-        once(&mut self.status, "st", tags.number("st", u8::MAX.into())?)?;
-        once(&mut self.k, "km", tags.number("km", u16::MAX.into())?)
+        // there may be several headers, but each tag in one of them
+        if let Some(form) = tags.value("fm", b'Z')? {
+            once(&mut self.form, "tag fm", form_of(form)?)?;
+        }
+        if let Some(status) = tags.number("st", u8::MAX.into())? {
+            once(&mut self.status, "tag st", status)?;
+        }
+        if let Some(k) = tags.number("km", u16::MAX.into())? {
+            once(&mut self.k, "tag km", k)?;
+        }
+        Ok(())
     }
 
     fn segment(&mut self, name: &'a [u8], sequence: &[u8], tags: Tags) -> Result<(), String> {

@@ -78,7 +78,7 @@ fn word(form: Form) -> usize {
 }
 
 /// Mark, kind, status and k; the counts of vertices and edges; five numbers of four bytes.
-fn header(form: Form) -> usize {
+fn header_size(form: Form) -> usize {
     8 + 2 * word(form) + 20
 }
 
@@ -89,7 +89,7 @@ fn edge_size(form: Form) -> usize {
 
 /// The four offsets of the header, by the counts of vertices, edges and bytes. Each count has at most four bytes.
 fn offsets(form: Form, [v, e, b]: [u64; 3]) -> [u64; 4] {
-    let lengths = header(form) as u64;
+    let lengths = header_size(form) as u64;
     let edges = lengths + word(form) as u64 * v;
     let bytes = edges + edge_size(form) as u64 * e;
     [lengths, edges, bytes, bytes + b]
@@ -124,7 +124,7 @@ pub struct Unfollowed {
 /// Of bytes that are long enough for a header and begin as one.
 pub fn header_of(data: &[u8]) -> Option<Header> {
     let form = Form::of(data);
-    if data.len() < header(form) || !data.starts_with(mark(form).as_bytes()) {
+    if data.len() < header_size(form) || !data.starts_with(mark(form).as_bytes()) {
         return None;
     }
     let (w, k) = (word(form), number(data, 6, 2) as u16);
@@ -135,7 +135,7 @@ pub fn header_of(data: &[u8]) -> Option<Header> {
 /// The header, if it says where the parts stand; asked in the order of the refusals.
 fn followed_header(data: &[u8]) -> Result<Header, Unfollowed> {
     let form = Form::of(data);
-    let (w, size) = (word(form), header(form));
+    let (w, size) = (word(form), header_size(form));
     let fault = |number, why| Err(Unfollowed { number, why });
     if data.len() < size {
         return fault(
@@ -160,7 +160,7 @@ fn followed_header(data: &[u8]) -> Result<Header, Unfollowed> {
 /// The record's parts, in their order.
 pub fn follow(data: &[u8]) -> Result<Graph, Unfollowed> {
     let Header { form, kind, status, k, counts: [v, e, b] } = followed_header(data)?;
-    let (lengths, rest) = data[header(form)..].split_at(word(form) * v as usize);
+    let (lengths, rest) = data[header_size(form)..].split_at(word(form) * v as usize);
     let (edges, mut bytes) = rest.split_at(edge_size(form) * e as usize);
     let lengths: Vec<u64> = lengths.chunks(word(form)).map(|c| number(c, 0, c.len())).collect();
     let total: u64 = lengths.iter().sum();

@@ -5,8 +5,6 @@ use seq_graph::Refusal;
 use std::fmt::Write;
 
 const WIDTH: usize = 78;
-/// The last number that a refusal may have.
-const LAST_NUMBER: u32 = 255;
 
 const WHAT: &str = "Simplifies and cleans sequence graphs, in records of the forms SGR1 and SGR2, by a library that is proved: \
                     every record gets its right result, or one refusal number.";
@@ -103,27 +101,21 @@ pub fn usage(command: Option<&Command>) -> String {
     }
 }
 
-/// The refusals that the library knows, by their numbers.
-fn refusals() -> impl Iterator<Item = Refusal> {
-    let all = (1..=LAST_NUMBER).filter_map(Refusal::of);
-    all.filter(|refusal| !matches!(refusal, Refusal::UnknownNumber(_)))
-}
-
 /// Of all commands.
 pub fn overview() -> String {
     let mut out = usage(None) + "       sg help COMMAND, sg help --man, sg --version\n\n";
     put_filled(&mut out, "", WHAT);
     out.push_str("\nCommands\n\n");
     for command in &COMMANDS {
-        line!(out, "  {:<14}  {}", command.name, command.says);
+        put_filled_behind(&mut out, &format!("  {:<16}", command.name), &" ".repeat(18), command.says);
     }
     for (heading, text) in GENERAL {
         line!(out, "\n{heading}\n");
         put_paragraphs(&mut out, "  ", text);
     }
     line!(out, "\nExamples\n\n  {}\n\nRefusals\n", EXAMPLES.join("\n  "));
-    for refusal in refusals() {
-        line!(out, "  {:>2}  {refusal}", refusal.number());
+    for refusal in Refusal::all() {
+        put_filled_behind(&mut out, &format!("  {:>2}  ", refusal.number()), "      ", &refusal.to_string());
     }
     out
 }
@@ -195,7 +187,7 @@ pub fn manual() -> String {
         put_roff_paragraphs(&mut out, text);
     }
     line!(out, ".SH EXAMPLES\n.nf\n    {}\n.fi\n.SH REFUSALS", roff(&EXAMPLES.join("\n    ")));
-    for refusal in refusals() {
+    for refusal in Refusal::all() {
         line!(out, ".TP\n.B {}\n{}", refusal.number(), roff(&refusal.to_string()));
     }
     out
@@ -211,7 +203,7 @@ mod tests {
         let mut texts: Vec<String> = COMMANDS.iter().map(of_command).collect();
         texts.push(overview());
         for line in texts.iter().flat_map(|t| t.lines()) {
-            assert!(line.chars().count() <= 92, "{line}");
+            assert!(line.chars().count() <= 80, "{line}");
         }
     }
 

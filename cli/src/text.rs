@@ -1,6 +1,6 @@
 //! The text form of a record, and what is shown of a simplified one.
 use crate::graph::{flag_of, mark, printed_flag, Edge, Graph, SEQUENCES};
-use crate::words::{number_of, put_sequence, sequence_of, shown};
+use crate::words::{number_of, once, put_sequence, sequence_of, shown};
 use seq_graph::{End, Form, Simplified};
 use std::fmt::Write;
 
@@ -65,13 +65,6 @@ struct Reader {
     edges: Vec<Edge>,
     /// Vertices, edges and bytes, as a line of sgshow has them.
     counts: Option<[u32; 3]>,
-}
-
-fn once<T>(place: &mut Option<T>, name: &str, value: T) -> Result<(), String> {
-    match place.replace(value) {
-        None => Ok(()),
-        Some(_) => Err(format!("a second {name}")),
-    }
 }
 
 pub fn form_of(word: &[u8]) -> Result<Form, String> {

@@ -59,6 +59,14 @@ pub fn shown(word: &[u8]) -> String {
     }
 }
 
+/// Keeps what a text says of this; that it says so twice is an error.
+pub fn once<T>(place: &mut Option<T>, name: &str, value: T) -> Result<(), String> {
+    match place.replace(value) {
+        None => Ok(()),
+        Some(_) => Err(format!("a second {name}")),
+    }
+}
+
 /// The number that these digits write, from 0 to `most`.
 pub fn number_of(word: &[u8], most: u32) -> Result<u32, String> {
     let digits = word.iter().all(u8::is_ascii_digit).then(|| std::str::from_utf8(word).unwrap_or(""));

@@ -49,6 +49,11 @@ const KNOWN: [(Refusal, u32, &str); 13] = [
 ];
 
 impl Refusal {
+    /// Every refusal that has a number, by that number.
+    pub fn all() -> impl Iterator<Item = Refusal> {
+        KNOWN.iter().map(|k| k.0)
+    }
+
     /// The refusal of this number; none of 0, which is an answer.
     pub fn of(number: u32) -> Option<Refusal> {
         if number == 0 {

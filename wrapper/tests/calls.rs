@@ -428,6 +428,7 @@ fn tells_each_refusal() {
         assert_eq!(refusal.number(), number);
         assert!(!refusal.to_string().is_empty());
     }
+    assert!(Refusal::all().map(Refusal::number).eq((1..=11).chain([15, 18])));
     assert_eq!(Refusal::Cycle.to_string(), "a cycle, a self edge included");
     assert_eq!(Refusal::of(15), Some(Refusal::Overlap));
     assert_eq!(Refusal::of(18), Some(Refusal::Caller));
