@@ -1,7 +1,7 @@
 -- A record of kind 1 that is read, and the room that reading a record takes. Assumes nothing.
 use Rattle.std.specs.Prelude.{◌≡◌, List, ℕ, ◌*◌, ◌≤◌, length}
-use Rattle.defs.specs.Record.{verticesOf, edgesOf}
-use Rattle.defs.specs.Refusals.{sequenceOnly, recordRefusal}
+use Rattle.defs.specs.Record.{vertices_of, edges_of}
+use Rattle.defs.specs.Refusals.{sequence_only, record_refusal}
 use Rattle.record.specs.Layout.{WellFormed}
 use Rattle.memory.specs.declared.Held.{Held}
 use Rattle.load.specs.Loaded.{Loaded}
@@ -11,12 +11,12 @@ use Rattle.accept.specs.declared.Read.TheVariants.{Graph, Refused}
 -- Room for the record's graph, by the record's own counts: its edges and vertices, an index of both, and two numbers for each vertex. The
 -- sequences stay in the record.
 pub record RoomFor (bs es vs heads nexts nodes mp : List ℕ) : Type 0 where
-  pub es-room : 4 * edgesOf bs ≤ length es
-  pub vs-room : 2 * verticesOf bs ≤ length vs
-  pub heads-room : 2 * verticesOf bs ≤ length heads
-  pub nexts-room : 2 * edgesOf bs ≤ length nexts
-  pub nodes-room : verticesOf bs ≤ length nodes
-  pub mp-room : verticesOf bs ≤ length mp
+  pub es-room : 4 * edges_of bs ≤ length es
+  pub vs-room : 2 * vertices_of bs ≤ length vs
+  pub heads-room : 2 * vertices_of bs ≤ length heads
+  pub nexts-room : 2 * edges_of bs ≤ length nexts
+  pub nodes-room : vertices_of bs ≤ length nodes
+  pub mp-room : vertices_of bs ≤ length mp
 
 -- there is room if the record's layout is right
 pub record RoomToRead (bs es vs heads nexts nodes mp : List ℕ) : Type 0 where
@@ -25,15 +25,15 @@ pub record RoomToRead (bs es vs heads nexts nodes mp : List ℕ) : Type 0 where
 -- and a mark more for each vertex
 pub record RoomToMark (bs es vs heads nexts nodes mp marks : List ℕ) : Type 0 where
   pub reading : RoomToRead bs es vs heads nexts nodes mp
-  pub marks-room : WellFormed bs → verticesOf bs ≤ length marks
+  pub marks-room : WellFormed bs → vertices_of bs ≤ length marks
 
 -- the number of the refusal; 0 where there is a graph
-unfoldable pub readNumber : Read → ℕ
-readNumber (Graph h) = 0
-readNumber (Refused n) = n
+unfoldable pub read_number : Read → ℕ
+read_number (Graph h) = 0
+read_number (Refused n) = n
 
 -- the number is the definition's; a graph that was read is the record's; a refusal has a number
 pub record ReadAs (bs : List ℕ) (r : Read) (es vs : List ℕ) : Type 0 where
-  pub number : readNumber r ≡ recordRefusal sequenceOnly bs
+  pub number : read_number r ≡ record_refusal sequence_only bs
   pub loaded : (h : Held) → r ≡ Graph h → Loaded bs h es vs
   pub refused : (n : ℕ) → r ≡ Refused n → n ≡ 0 → ⊥

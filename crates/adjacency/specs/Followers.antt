@@ -3,11 +3,11 @@ use mathlib.Core.Path.{◌≡◌}
 use mathlib.Core.List.{List, map}
 use Prim.Native.Nat.{ℕ, ◌*◌, ◌≤◌, ◌<◌}
 use lib.ListN.{get_or}
-use Rattle.index.specs.Index.{edgeEnd, atFrom}
+use Rattle.index.specs.Index.{edge_end, at_from}
 
 -- where the edges out of v from number e on lead, of the m that there are
-unfoldable pub followersFrom : List ℕ → ℕ → ℕ → ℕ → List ℕ
-followersFrom es m v e = map (edgeEnd 1 es) (atFrom (edgeEnd 0 es) m v e)
+unfoldable pub followers_from : List ℕ → ℕ → ℕ → ℕ → List ℕ
+followers_from es m v e = map (edge_end 1 es) (at_from (edge_end 0 es) m v e)
 
 -- e is the number of an edge out of v, or m
 pub record EdgeOut (es : List ℕ) (m v e : ℕ) : Type 0 where

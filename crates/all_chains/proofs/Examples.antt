@@ -4,21 +4,21 @@ use Prim.Native.Nat.{ℕ}
 use mathlib.Core.Path.{◌≡◌, refl}
 use mathlib.Core.Bool.{false}
 use mathlib.Core.List.{[], ◌∷◌}
-use Rattle.defs.specs.Lists.{keepIf, any_of, head_or, concat, keepAt, bit, rank, elem_of, up_from}
-use Rattle.defs.specs.SeqGraph.{Edge, nodeCount, vertexSequence, edgesFrom, edges_into, outgoingNodes, incomingNodes, outDegree, inDegree}
-use Rattle.defs.specs.SeqGraph.{isReferenceNode, remapEdge, compactVertices, keeps, removeVerticesById}
-use Rattle.defs.specs.Zip.{Work, isLinearChainStart, chainGoesOn, traceLinearChain, last_of, linearChain}
-use Rattle.all_chains.specs.AllChains.{chainsFrom, chainsOf, goneOf, fromAfter, moveFromAll, chainSequence, writeChains, absorbChains}
-use Rattle.all_chains.specs.AllChains.{mergeLinearChains, zipAll}
+use Rattle.defs.specs.Lists.{keep_if, any_of, head_or, concat, keep_at, bit, rank, elem_of, up_from}
+use Rattle.defs.specs.SeqGraph.{Edge, node_count, vertex_sequence, edges_from, edges_into, outgoing_nodes, incoming_nodes, out_degree, in_degree}
+use Rattle.defs.specs.SeqGraph.{is_reference_node, remap_edge, compact_vertices, keeps, remove_vertices_by_id}
+use Rattle.defs.specs.Zip.{Work, is_linear_chain_start, chain_goes_on, trace_linear_chain, last_of, linear_chain}
+use Rattle.all_chains.specs.AllChains.{chains_from, chains_of, gone_of, from_after, move_from_all, chain_sequence, write_chains, absorb_chains}
+use Rattle.all_chains.specs.AllChains.{merge_linear_chains, zip_all}
 
 edge : ℕ → ℕ → Edge
-edge u v = record { from = u; to = v; support = 1; isRef = false; capped = false }
+edge u v = record { from = u; to = v; support = 1; is_ref = false; capped = false }
 
 run : Work → Work
-unfolding keepIf any_of head_or concat keepAt bit rank elem_of up_from nodeCount vertexSequence edgesFrom edges_into outgoingNodes incomingNodes
-    outDegree inDegree isReferenceNode remapEdge compactVertices keeps removeVerticesById isLinearChainStart chainGoesOn traceLinearChain
-    last_of linearChain chainsFrom chainsOf goneOf fromAfter moveFromAll chainSequence writeChains absorbChains mergeLinearChains zipAll
-run w = zipAll w
+unfolding keep_if any_of head_or concat keep_at bit rank elem_of up_from node_count vertex_sequence edges_from edges_into outgoing_nodes incoming_nodes
+    out_degree in_degree is_reference_node remap_edge compact_vertices keeps remove_vertices_by_id is_linear_chain_start chain_goes_on trace_linear_chain
+    last_of linear_chain chains_from chains_of gone_of from_after move_from_all chain_sequence write_chains absorb_chains merge_linear_chains zip_all
+run w = zip_all w
 
 -- the chains are 3, 0, 4 and 5, 1: both are joined, and the edges out of 4 keep their places
 two-chains : run record {

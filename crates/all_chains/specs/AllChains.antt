@@ -1,10 +1,10 @@
--- All linear chains joined in one pass. `zip-all-is` (proofs/Zipped.antt) says that this is what `Zip.zipLinearChains` makes,
+-- All linear chains joined in one pass. `zip-all-is` (proofs/Zipped.antt) says that this is what `Zip.zip_linear_chains` makes,
 -- which joins one chain after another.
 -- Assumes nothing.
 use Rattle.std.specs.Prelude.{ℕ, ◌+◌, cond, List, [], ◌∷◌, ◌++◌, map, eqb, length, set}
 use Rattle.defs.specs.Lists.{concat, up_from}
-use Rattle.defs.specs.SeqGraph.{Edge, Graph, nodeCount, vertexSequence, removeVerticesById}
-use Rattle.defs.specs.Zip.{Work, last_of, linearChain}
+use Rattle.defs.specs.SeqGraph.{Edge, Graph, node_count, vertex_sequence, remove_vertices_by_id}
+use Rattle.defs.specs.Zip.{Work, last_of, linear_chain}
 
 -- a chain of two or more: its first vertex, which stays, and those behind it, which go
 pub record LinearChain : Type 0 where
@@ -12,48 +12,48 @@ pub record LinearChain : Type 0 where
   pub rest : List ℕ
 
 -- the chains that start at the vertices of a list, all of them in the one graph
-unfoldable pub chainsFrom : Graph → List ℕ → List LinearChain
-chainsFrom g [] = []
-chainsFrom g (s ∷ ss) = elim (linearChain g s) [
-  | [] ↦ chainsFrom g ss
-  | v ∷ vs ↦ record { first = s; rest = v ∷ vs } ∷ chainsFrom g ss
+unfoldable pub chains_from : Graph → List ℕ → List LinearChain
+chains_from g [] = []
+chains_from g (s ∷ ss) = elim (linear_chain g s) [
+  | [] ↦ chains_from g ss
+  | v ∷ vs ↦ record { first = s; rest = v ∷ vs } ∷ chains_from g ss
 ]
 
-unfoldable pub chainsOf : Graph → List LinearChain
-chainsOf g = chainsFrom g (up_from 0 (nodeCount g))
+unfoldable pub chains_of : Graph → List LinearChain
+chains_of g = chains_from g (up_from 0 (node_count g))
 
 -- the vertices that go
-unfoldable pub goneOf : List LinearChain → List ℕ
-goneOf [] = []
-goneOf (c ∷ cs) = c.rest ++ goneOf cs
+unfoldable pub gone_of : List LinearChain → List ℕ
+gone_of [] = []
+gone_of (c ∷ cs) = c.rest ++ gone_of cs
 
 -- the vertex that an edge out of v leaves afterwards: the last vertex of a chain hands its edges to the first
-unfoldable pub fromAfter : List LinearChain → ℕ → ℕ
-fromAfter [] v = v
-fromAfter (c ∷ cs) v = cond (eqb v (last_of c.first c.rest)) c.first (fromAfter cs v)
+unfoldable pub from_after : List LinearChain → ℕ → ℕ
+from_after [] v = v
+from_after (c ∷ cs) v = cond (eqb v (last_of c.first c.rest)) c.first (from_after cs v)
 
-unfoldable pub moveFromAll : List LinearChain → Edge → Edge
-moveFromAll cs e = record { from = fromAfter cs e.from; to = e.to; support = e.support; isRef = e.isRef; capped = e.capped }
+unfoldable pub move_from_all : List LinearChain → Edge → Edge
+move_from_all cs e = record { from = from_after cs e.from; to = e.to; support = e.support; is_ref = e.is_ref; capped = e.capped }
 
 -- what the first vertex of a chain holds afterwards, where seq are the sequences now
-unfoldable pub chainSequence : (ℕ → List ℕ) → LinearChain → List ℕ
-chainSequence seq c = concat (map seq (c.first ∷ c.rest))
+unfoldable pub chain_sequence : (ℕ → List ℕ) → LinearChain → List ℕ
+chain_sequence seq c = concat (map seq (c.first ∷ c.rest))
 
 -- each first vertex holds the sequences of its chain
-unfoldable pub writeChains : (ℕ → List ℕ) → List LinearChain → List (List ℕ) → List (List ℕ)
-writeChains seq [] vs = vs
-writeChains seq (c ∷ cs) vs = writeChains seq cs (set vs c.first (chainSequence seq c))
+unfoldable pub write_chains : (ℕ → List ℕ) → List LinearChain → List (List ℕ) → List (List ℕ)
+write_chains seq [] vs = vs
+write_chains seq (c ∷ cs) vs = write_chains seq cs (set vs c.first (chain_sequence seq c))
 
 -- each first vertex has taken over the sequences of its chain and the edges out of its last; no vertex is gone yet
-unfoldable pub absorbChains : List LinearChain → Graph → Graph
-absorbChains cs g = record { k = g.k; verts = writeChains (vertexSequence g) cs g.verts; edges = map (moveFromAll cs) g.edges }
+unfoldable pub absorb_chains : List LinearChain → Graph → Graph
+absorb_chains cs g = record { k = g.k; verts = write_chains (vertex_sequence g) cs g.verts; edges = map (move_from_all cs) g.edges }
 
 -- each of the chains becomes its first vertex
-unfoldable pub mergeLinearChains : List LinearChain → Graph → Graph
-mergeLinearChains cs g = removeVerticesById (goneOf cs) (absorbChains cs g)
+unfoldable pub merge_linear_chains : List LinearChain → Graph → Graph
+merge_linear_chains cs g = remove_vertices_by_id (gone_of cs) (absorb_chains cs g)
 
 -- each chain is a rewrite
-unfoldable pub zipAll : Work → Work
-zipAll w =
-    let cs = chainsOf w.graph in
-    record { graph = mergeLinearChains cs w.graph; rewrites = length cs + w.rewrites }
+unfoldable pub zip_all : Work → Work
+zip_all w =
+    let cs = chains_of w.graph in
+    record { graph = merge_linear_chains cs w.graph; rewrites = length cs + w.rewrites }

@@ -4,10 +4,10 @@ use mathlib.Core.List.{List}
 use Prim.Native.Nat.{ℕ, ◌+◌, ◌/◌, ◌≤◌, ◌<◌}
 use native.Mathlib.Omega.{arith}
 use lib.ListN.{length}
-use Rattle.defs.specs.Forms.{Form, sgr1, sgr2, formOf, limits}
-use Rattle.defs.specs.Record.{verticesOf, edgesOf, bytes_of}
+use Rattle.defs.specs.Forms.{Form, sgr1, sgr2, form_of, limits}
+use Rattle.defs.specs.Record.{vertices_of, edges_of, bytes_of}
 use Rattle.form.specs.declared.Form as Code
-use Rattle.form.specs.Coded.{formIs, wordLimit}
+use Rattle.form.specs.Coded.{form_is, word_limit}
 use Rattle.form.proofs.FormLaws.{sizes, limits-small}
 use Rattle.record.specs.Headed.{Headed}
 use Rattle.record.proofs.Sequences.{length-least}
@@ -24,12 +24,12 @@ module _ (bs : List ℕ) where
   -- for every record, within the limits of SGR2
   pub all-to-read : FewToRead 32768 65536 bs
   all-to-read =
-      let most = limits-small (formOf bs) in
+      let most = limits-small (form_of bs) in
       record { vertices = λ W. omega (arith, W.vertices, most.vertices); edges = λ W. omega (arith, W.edges, most.edges) }
 
   pub all-to-rewrite : FewToRewrite 163840 262144 bs
   all-to-rewrite =
-      let most = limits-small (formOf bs) in
+      let most = limits-small (form_of bs) in
       record {
         reading = record { vertices = λ W. omega (arith, W.vertices, most.vertices); edges = λ W. omega (arith, W.edges, most.edges) };
         vertices = λ W k. omega (arith, W.vertices, most.vertices);
@@ -38,7 +38,7 @@ module _ (bs : List ℕ) where
       }
 
   -- for every record of SGR1, within its own
-  module _ (e : formOf bs ≡ sgr1) where
+  module _ (e : form_of bs ≡ sgr1) where
     pub first-to-read : FewToRead 2048 4096 bs
     first-to-read = record {
       vertices = λ W. omega (arith, W.vertices, (first-limits e).0);
@@ -68,13 +68,13 @@ module _ (bs : List ℕ) where
   }
 
   -- for a record whose counts say so; past the small class by its length it has a header
-  pub long-headed : {form : Code.Form} → formIs form ≡ formOf bs → 1024 < length bs → Headed form bs
-  long-headed is l = record { is = is; long = omega (arith, (sizes (formOf bs)).header-most) }
+  pub long-headed : {form : Code.Form} → form_is form ≡ form_of bs → 1024 < length bs → Headed form bs
+  long-headed is l = record { is = is; long = omega (arith, (sizes (form_of bs)).header-most) }
 
-  pub counts-read : {v e b : ℕ} → v ≡ verticesOf bs → e ≡ edgesOf bs → b ≡ bytes_of bs → CountedAt (v + b) (e + b / 4) bs
+  pub counts-read : {v e b : ℕ} → v ≡ vertices_of bs → e ≡ edges_of bs → b ≡ bytes_of bs → CountedAt (v + b) (e + b / 4) bs
   counts-read v e b = record { weight_is = λ i. v i + b i; surplus-is = λ i. e i + b i / 4 }
 
-  pub counted-to-read : {v e : ℕ} → verticesOf bs ≤ v → edgesOf bs ≤ e → FewToRead v e bs
+  pub counted-to-read : {v e : ℕ} → vertices_of bs ≤ v → edges_of bs ≤ e → FewToRead v e bs
   counted-to-read v e = record { vertices = λ W. v; edges = λ W. e }
 
   pub counted-to-rewrite : {w s v e : ℕ} → CountedAt w s bs → w < v → s + v ≤ e → FewToRewrite v e bs
@@ -106,13 +106,13 @@ module _ {v e : ℕ} {bs es vs heads nexts nodes mp : List ℕ} (F : FewToRead v
   pub room-to-mark : {marks : List ℕ} → SizedToMark v e es vs heads nexts nodes mp marks → RoomToMark bs es vs heads nexts nodes mp marks
   room-to-mark Z = record { reading = room-to-read Z.reading; marks-room = λ W. omega (arith, F.vertices W, Z.marks-is) }
 
-fits-second : {f : Form} {e : ℕ} → f ≡ sgr2 → e ≤ 262144 → e < wordLimit f
-unfolding wordLimit
-fits-second q h = omega (arith, ap wordLimit q)
+fits-second : {f : Form} {e : ℕ} → f ≡ sgr2 → e ≤ 262144 → e < word_limit f
+unfolding word_limit
+fits-second q h = omega (arith, ap word_limit q)
 
 module _ {v e : ℕ} {bs es vs p heads nexts nodes mp : List ℕ} (F : FewToRewrite v e bs) (more_edges : v ≤ e) where
   -- of v vertices and e edges, which fit a record of this form
-  module _ (few : v ≤ 163840) (few-edges : e ≤ 262144) (fits : e < wordLimit (formOf bs)) where
+  module _ (few : v ≤ 163840) (few-edges : e ≤ 262144) (fits : e < word_limit (form_of bs)) where
     graph-lent : SizedGraph v e es vs p heads nexts nodes mp → LentGraph bs es vs p heads nexts nodes mp
     graph-lent Z = record {
       room = record {
@@ -158,14 +158,14 @@ module _ {v e : ℕ} {bs es vs p heads nexts nodes mp : List ℕ} (F : FewToRewr
   -- what fits 16 bits fits both forms,
   module _ (few : e < 65536) where
     pub both-graph : SizedGraph v e es vs p heads nexts nodes mp → LentGraph bs es vs p heads nexts nodes mp
-    both-graph = graph-lent (omega arith) (omega arith) (omega (arith, (sizes (formOf bs)).limit-least))
+    both-graph = graph-lent (omega arith) (omega arith) (omega (arith, (sizes (form_of bs)).limit-least))
 
     pub both-lent : {starts tried sig : List ℕ} → Sized v e es vs p heads nexts nodes mp starts tried sig
         → Lent bs es vs p heads nexts nodes mp starts tried sig
-    both-lent = sized-lent (omega arith) (omega arith) (omega (arith, (sizes (formOf bs)).limit-least))
+    both-lent = sized-lent (omega arith) (omega arith) (omega (arith, (sizes (form_of bs)).limit-least))
 
   -- and more fits SGR2 alone
-  module _ (second : formOf bs ≡ sgr2) (few : v ≤ 163840) (few-edges : e ≤ 262144) where
+  module _ (second : form_of bs ≡ sgr2) (few : v ≤ 163840) (few-edges : e ≤ 262144) where
     pub second-graph : SizedGraph v e es vs p heads nexts nodes mp → LentGraph bs es vs p heads nexts nodes mp
     second-graph = graph-lent few few-edges (fits-second second few-edges)
 

@@ -8,22 +8,22 @@ use lib.Dec.{eqb, ltb}
 use lib.ListN.{length}
 use borrow.Author.Tests.{le-ltb}
 use Rattle.defs.specs.Forms.{Form, sgr1, sgr2, limits}
-use Rattle.defs.specs.SeqGraph.{Graph, nodeCount}
-use Rattle.defs.specs.Simplify.{sequenceBytes}
-use Rattle.defs.specs.Record.{RecordKind, kmerGraph, sequenceGraph, recordKindNumber, verticesOf, wholeLength, encode, decode}
-use Rattle.defs.specs.Refusals.{Takes, refusalOf, hasCycle, layoutCauses, doubled, recordCauses, recordRefusal}
-use Rattle.form.specs.Coded.{wordLimit}
+use Rattle.defs.specs.SeqGraph.{Graph, node_count}
+use Rattle.defs.specs.Simplify.{sequence_bytes}
+use Rattle.defs.specs.Record.{RecordKind, kmer_graph, sequence_graph, record_kind_number, vertices_of, whole_length, encode, decode}
+use Rattle.defs.specs.Refusals.{Takes, refusal_of, has_cycle, layout_causes, doubled, record_causes, record_refusal}
+use Rattle.form.specs.Coded.{word_limit}
 use Rattle.form.proofs.FormLaws.{between}
 use Rattle.codec.specs.Encodable.{Encodable}
 use Rattle.codec.proofs.Encoded.{form-written, vertices-read}
 use Rattle.codec.proofs.RoundTrip.{decode-encode}
-use Rattle.reread.specs.GraphCauses.{wrongKind, graphPastLimit, otherKmers, endsPast, graphLayoutCauses}
+use Rattle.reread.specs.GraphCauses.{wrong_kind, graph_past_limit, other_kmers, ends_past, graph_layout_causes}
 use Rattle.reread.proofs.Told.{layout-causes-told, doubled-told}
 use Rattle.both_forms.specs.BothForms.{SameGraphBothForms, JudgedAlike, OneGraph}
 
 -- what fits the fields of SGR1 fits those of SGR2
 pub wider : {g : Graph} (f : Form) → Encodable sgr1 g → Encodable f g
-unfolding wordLimit
+unfolding word_limit
 wider sgr1 E = E
 wider sgr2 E = record {
   k = E.k;
@@ -43,16 +43,16 @@ one-graph kind status {g} E = record {
 }
 
 -- sequences of fewer than 65,536 bytes each
-most_bytes : (vs : List (List ℕ)) → ((s : List ℕ) → Memᴰ s vs → length s < 65536) → sequenceBytes vs ≤ 65536 * length vs
-unfolding sequenceBytes
+most_bytes : (vs : List (List ℕ)) → ((s : List ℕ) → Memᴰ s vs → length s < 65536) → sequence_bytes vs ≤ 65536 * length vs
+unfolding sequence_bytes
 most_bytes [] h = omega arith
 most_bytes (v ∷ vs) h = omega (arith, h v (Memᴰ.head refl), most_bytes vs (λ s m. h s (Memᴰ.tail m)))
 
 -- the limit of bytes, which is one of kind 1
-bytes-within : (kind : RecordKind) {m b : ℕ} → (recordKindNumber kind ≡ 1 → b ≤ m) → (eqb (recordKindNumber kind) 1 && ltb m b) ≡ false
-unfolding recordKindNumber
-bytes-within kmerGraph h = refl
-bytes-within sequenceGraph {m} {b} h = le-ltb m b (h refl)
+bytes-within : (kind : RecordKind) {m b : ℕ} → (record_kind_number kind ≡ 1 → b ≤ m) → (eqb (record_kind_number kind) 1 && ltb m b) ≡ false
+unfolding record_kind_number
+bytes-within kmer_graph h = refl
+bytes-within sequence_graph {m} {b} h = le-ltb m b (h refl)
 
 module _ (kind : RecordKind) (status : ℕ) (g : Graph) (ok : SameGraphBothForms kind g) where
   abbrev record-in : Form → List ℕ
@@ -61,18 +61,18 @@ module _ (kind : RecordKind) (status : ℕ) (g : Graph) (ok : SameGraphBothForms
   pub fits_in : (f : Form) → Encodable f g
   fits_in f = wider f ok.fits
 
-  few_bytes : sequenceBytes g.verts ≤ 134217728
-  unfolding wordLimit nodeCount limits
+  few_bytes : sequence_bytes g.verts ≤ 134217728
+  unfolding word_limit node_count limits
   few_bytes = omega (arith, most_bytes g.verts ok.fits.lengths, ok.vertices)
 
-  short-in : (f : Form) → wholeLength f (nodeCount g) (length g.edges) (sequenceBytes g.verts) < 4294967296
+  short-in : (f : Form) → whole_length f (node_count g) (length g.edges) (sequence_bytes g.verts) < 4294967296
   unfolding limits
   short-in f =
-      let B = between f (nodeCount g) (length g.edges) (sequenceBytes g.verts) in
+      let B = between f (node_count g) (length g.edges) (sequence_bytes g.verts) in
       omega (arith, ok.vertices, ok.edges, few_bytes, B.whole_is, B.bytes_most, B.edges_most)
 
   -- within SGR1's limits of input it is within those of either form: 3 goes by k alone
-  vertices-in : (f : Form) → nodeCount g ≤ (limits f).vertices
+  vertices-in : (f : Form) → node_count g ≤ (limits f).vertices
   unfolding limits
   vertices-in sgr1 = ok.vertices
   vertices-in sgr2 = omega (arith, ok.vertices)
@@ -82,33 +82,33 @@ module _ (kind : RecordKind) (status : ℕ) (g : Graph) (ok : SameGraphBothForms
   edges-in sgr1 = ok.edges
   edges-in sgr2 = omega (arith, ok.edges)
 
-  bytes-in : (f : Form) → recordKindNumber kind ≡ 1 → sequenceBytes g.verts ≤ (limits f).bytes
+  bytes-in : (f : Form) → record_kind_number kind ≡ 1 → sequence_bytes g.verts ≤ (limits f).bytes
   unfolding limits
   bytes-in sgr1 o = ok.bytes o
   bytes-in sgr2 o = omega (arith, ok.bytes o)
 
-  limit-told : (f : Form) → graphPastLimit f kind g ≡ (ltb g.k 2 || (ltb 128 g.k || false))
-  unfolding graphPastLimit
+  limit-told : (f : Form) → graph_past_limit f kind g ≡ (ltb g.k 2 || (ltb 128 g.k || false))
+  unfolding graph_past_limit
   limit-told f =
-      let v = le-ltb (limits f).vertices (nodeCount g) (vertices-in f) in
+      let v = le-ltb (limits f).vertices (node_count g) (vertices-in f) in
       let e = le-ltb (limits f).edges (length g.edges) (edges-in f) in
       let b = bytes-within kind (bytes-in f) in
       λ i. ltb g.k 2 || (ltb 128 g.k || (v i || (e i || b i)))
 
-  limit-same : graphPastLimit sgr1 kind g ≡ graphPastLimit sgr2 kind g
+  limit-same : graph_past_limit sgr1 kind g ≡ graph_past_limit sgr2 kind g
   limit-same = limit-told sgr1 ∙ sym (limit-told sgr2)
 
-  told_same : (t : Takes) → graphLayoutCauses sgr1 t kind status g ≡ graphLayoutCauses sgr2 t kind status g
-  unfolding graphLayoutCauses
+  told_same : (t : Takes) → graph_layout_causes sgr1 t kind status g ≡ graph_layout_causes sgr2 t kind status g
+  unfolding graph_layout_causes
   told_same t = λ i.
       record { number = 1; present = false }
-      ∷ record { number = 2; present = wrongKind t kind status }
+      ∷ record { number = 2; present = wrong_kind t kind status }
       ∷ record { number = 3; present = limit-same i }
-      ∷ record { number = 4; present = otherKmers kind g }
-      ∷ record { number = 5; present = endsPast g }
+      ∷ record { number = 4; present = other_kmers kind g }
+      ∷ record { number = 5; present = ends_past g }
       ∷ []
 
-  pub layout-same : (t : Takes) → layoutCauses t (record-in sgr1) ≡ layoutCauses t (record-in sgr2)
+  pub layout-same : (t : Takes) → layout_causes t (record-in sgr1) ≡ layout_causes t (record-in sgr2)
   layout-same t =
       layout-causes-told sgr1 kind status g (fits_in sgr1) (short-in sgr1) t
       ∙ told_same t
@@ -125,14 +125,14 @@ module _ (kind : RecordKind) (status : ℕ) (g : Graph) (ok : SameGraphBothForms
   pub graph_same : decode (record-in sgr1) ≡ decode (record-in sgr2)
   graph_same = graph-in sgr1 ∙ sym (graph-in sgr2)
 
-  pub vertices-same : verticesOf (record-in sgr1) ≡ verticesOf (record-in sgr2)
+  pub vertices-same : vertices_of (record-in sgr1) ≡ vertices_of (record-in sgr2)
   vertices-same = vertices-read sgr1 kind status g (fits_in sgr1) ∙ sym (vertices-read sgr2 kind status g (fits_in sgr2))
 
-  causes-same : (t : Takes) → recordCauses t (record-in sgr1) ≡ recordCauses t (record-in sgr2)
-  unfolding recordCauses
+  causes-same : (t : Takes) → record_causes t (record-in sgr1) ≡ record_causes t (record-in sgr2)
+  unfolding record_causes
   causes-same t = λ i.
-      layout-same t i ++ (record { number = 6; present = doubled-same i } ∷ record { number = 7; present = hasCycle (graph_same i) } ∷ [])
+      layout-same t i ++ (record { number = 6; present = doubled-same i } ∷ record { number = 7; present = has_cycle (graph_same i) } ∷ [])
 
   pub judged-alike : JudgedAlike (record-in sgr1) (record-in sgr2)
-  unfolding recordRefusal
-  judged-alike = record { graph = graph_same; causes = causes-same; refusal = λ t. ap refusalOf (causes-same t) }
+  unfolding record_refusal
+  judged-alike = record { graph = graph_same; causes = causes-same; refusal = λ t. ap refusal_of (causes-same t) }

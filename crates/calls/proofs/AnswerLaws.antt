@@ -3,8 +3,8 @@ use mathlib.Core.Path.{◌≡◌, sym, ap, ◌∙◌}
 use mathlib.Core.List.{List}
 use Prim.Native.Nat.{ℕ}
 use Rattle.defs.specs.Calls.{Response, refused, accepted, number_of, length_of, field_of}
-use Rattle.defs.specs.Simplify.{endNumber}
-use Rattle.defs.specs.Cleanup.{statusNumber}
+use Rattle.defs.specs.Simplify.{end_number}
+use Rattle.defs.specs.Cleanup.{status_number}
 use Rattle.calls.specs.Answers.{AnswersSimplify, AnswersCleanup}
 use Rattle.calls.specs.declared.Answer.{Answer}
 use Rattle.calls.proofs.ResponseLaws.{by-response}
@@ -44,7 +44,7 @@ module _ (s : Answer) (rewrites : ℕ) where
             length = length-refused e i;
             rewrites = field-refused z.rewrites e i;
             rounds = field-refused z.rounds e i;
-            end = field-refused (endNumber z.end) e i;
+            end = field-refused (end_number z.end) e i;
           })
           (λ _ e. not-accepted q o e);
     }
@@ -54,7 +54,7 @@ module _ (s : Answer) (rewrites : ℕ) where
     cleanup-refused-is status = record {
       is = λ causes result z q l f. by-response causes result
           (λ n e p. (
-            (λ i. record { number = q i; length = length-refused e i; status = field-refused (statusNumber z.status) e i }),
+            (λ i. record { number = q i; length = length-refused e i; status = field-refused (status_number z.status) e i }),
             field-refused z.rewrites e,
           ))
           (λ _ e. not-accepted q o e);
@@ -71,7 +71,7 @@ module _ (s : Answer) (rewrites : ℕ) where
             length = l i;
             rewrites = field-accepted z.rewrites e (f zero_is).0 i;
             rounds = field-accepted z.rounds e (f zero_is).1.0 i;
-            end = field-accepted (endNumber z.end) e (f zero_is).1.1 i;
+            end = field-accepted (end_number z.end) e (f zero_is).1.1 i;
           });
     }
 
@@ -84,7 +84,7 @@ module _ (s : Answer) (rewrites : ℕ) where
             (λ i. record {
               number = (sym zero_is ∙ q) i;
               length = l i;
-              status = field-accepted (statusNumber z.status) e (f zero_is).0 i;
+              status = field-accepted (status_number z.status) e (f zero_is).0 i;
             }),
             field-accepted z.rewrites e (f zero_is).1,
           ));

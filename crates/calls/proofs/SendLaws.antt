@@ -6,12 +6,12 @@ use native.Mathlib.Omega.{arith}
 use lib.ListN.{length, drop}
 use Rattle.defs.specs.Calls.{Response, refused, accepted, number_of, length_of, written_of}
 use Rattle.defs.specs.Forms.{Form}
-use Rattle.defs.specs.Record.{wholeLength, sequenceGraph, encode}
+use Rattle.defs.specs.Record.{whole_length, sequence_graph, encode}
 use Rattle.form.proofs.FormLaws.{between}
-use Rattle.memory.specs.Memory.{graph_of, vertexRoom, Room, Holds}
+use Rattle.memory.specs.Memory.{graph_of, vertex_room, Room, Holds}
 use Rattle.memory.specs.declared.Held.{Held}
 use Rattle.memory.proofs.RoomLaws.{held-vertices, held-edges, held-ends, fit-bytes}
-use Rattle.pool.specs.Pool.{bytesIn}
+use Rattle.pool.specs.Pool.{bytes_in}
 use Rattle.accept.specs.declared.Read.{Read}
 use Rattle.accept.specs.declared.Read.TheVariants as read
 use Rattle.accept.proofs.AcceptLaws.{number-graph, number-refused}
@@ -66,21 +66,21 @@ held-sendable {f} {h} {es} {vs} {p} {heads} {nexts} status s F R H = record {
     within : Within (length p) h.n vs
     within = record { at = λ u b. omega (arith, H.within.at u b, H.used-room, R.p-room) }
 
-    few : bytesIn h.n vs ≤ vertexRoom heads
+    few : bytes_in h.n vs ≤ vertex_room heads
     few = rw (bytes-are f status h.k.0 h.n h.m es vs p within) at (fit-bytes H.fit)
 
     measured : Measured f h vs
     measured = record {
       vs-room = omega (arith, held-vertices H, R.vs-room);
       small =
-          let B = between f h.n h.m (bytesIn h.n vs) in
+          let B = between f h.n h.m (bytes_in h.n vs) in
           omega (arith, held-vertices H, held-edges H, few, F.vertices-most, F.edges_most, B.whole_is, B.edges_most, B.bytes_most);
     }
 
 module _ {f : Form} {status : ℕ} {h : Held} {es vs p : List ℕ} (S : Sendable f status h es vs p) (out : List ℕ) {size : ℕ}
-    (q : size ≡ wholeLength f h.n h.m (bytesIn h.n vs)) where
+    (q : size ≡ whole_length f h.n h.m (bytes_in h.n vs)) where
   abbrev result : List ℕ
-  result = encode f sequenceGraph status (graph_of h es vs p)
+  result = encode f sequence_graph status (graph_of h es vs p)
 
   long : length result ≡ size
   long = encode-length f status h.k.0 h.n h.m es vs p S.within ∙ sym q
@@ -110,7 +110,7 @@ module _ {r : Read} {es vs p : List ℕ} where
   }
 
   pub sends-graph : {h : Held} → r ≡ read.Graph h → {f : Form} {status : ℕ} {out : List ℕ} {s : Answer} {out' : List ℕ}
-      → Responds (fits (length out) (encode f sequenceGraph status (graph_of h es vs p))) out s out' → SendsGraph f status r es vs p out s out'
+      → Responds (fits (length out) (encode f sequence_graph status (graph_of h es vs p))) out s out' → SendsGraph f status r es vs p out s out'
   sends-graph {h} ok {f} {status} {out} S = record {
     is = λ causes result M.
         responds-as (respond-fits causes (length out) result M.numbered (sym M.number ∙ number-graph ok) ∙ ap (fits (length out)) (sym (M.is h ok))) S;

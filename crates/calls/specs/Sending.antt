@@ -1,16 +1,16 @@
 -- A record that is written where it fits. Assumes nothing.
 use Rattle.std.specs.Prelude.{◌≡◌, List, [], ◌∷◌, ◌++◌, ℕ, ◌≤◌, ◌<◌, length}
 use Rattle.defs.specs.Forms.{Form}
-use Rattle.defs.specs.Record.{wholeLength, sequenceGraph, encode}
-use Rattle.defs.specs.Refusals.{Cause, refusalOf}
-use Rattle.defs.specs.Calls.{Response, outputCause, respond, number_of, length_of, written_of}
+use Rattle.defs.specs.Record.{whole_length, sequence_graph, encode}
+use Rattle.defs.specs.Refusals.{Cause, refusal_of}
+use Rattle.defs.specs.Calls.{Response, output_cause, respond, number_of, length_of, written_of}
 use Rattle.laws.proofs.Causes.{CausesNumbered}
 use Rattle.store.specs.Store.{Within}
-use Rattle.pool.specs.Pool.{bytesIn}
-use Rattle.form.specs.Coded.{wordLimit}
-use Rattle.memory.specs.Memory.{graph_of, vertexRoom, edgeRoom}
+use Rattle.pool.specs.Pool.{bytes_in}
+use Rattle.form.specs.Coded.{word_limit}
+use Rattle.memory.specs.Memory.{graph_of, vertex_room, edge_room}
 use Rattle.memory.specs.declared.Held.{Held}
-use Rattle.accept.specs.Accept.{readNumber}
+use Rattle.accept.specs.Accept.{read_number}
 use Rattle.accept.specs.declared.Read.{Read}
 use Rattle.accept.specs.declared.Read.TheVariants as read
 use Rattle.write_record.specs.Written.{Measured, RecordWritable}
@@ -20,21 +20,21 @@ use Rattle.calls.specs.declared.Answer.{Answer}
 pub record Sendable (f : Form) (status : ℕ) (h : Held) (es vs p : List ℕ) : Type 0 where
   pub measured : Measured f h vs
   pub within : Within (length p) h.n vs
-  pub writable : (out : List ℕ) → wholeLength f h.n h.m (bytesIn h.n vs) ≤ length out → RecordWritable f status h es vs p out
+  pub writable : (out : List ℕ) → whole_length f h.n h.m (bytes_in h.n vs) ≤ length out → RecordWritable f status h es vs p out
 
 -- as many vertices, bytes and edges as there is room for fit a record of this form
 pub record RoomFits (f : Form) (heads nexts : List ℕ) : Type 0 where
-  pub vertices : vertexRoom heads < wordLimit f
-  pub edges : edgeRoom nexts < wordLimit f
-  pub vertices-most : vertexRoom heads ≤ 163840
-  pub edges_most : edgeRoom nexts ≤ 262144
+  pub vertices : vertex_room heads < word_limit f
+  pub edges : edge_room nexts < word_limit f
+  pub vertices-most : vertex_room heads ≤ 163840
+  pub edges_most : edge_room nexts ≤ 262144
 
 -- causes with 11 behind them, and the response where 11 alone can be present
-abbrev pub withOutput : List Cause → ℕ → List ℕ → List Cause
-withOutput causes room result = causes ++ (outputCause room result ∷ [])
+abbrev pub with_output : List Cause → ℕ → List ℕ → List Cause
+with_output causes room result = causes ++ (output_cause room result ∷ [])
 
 unfoldable pub fits : ℕ → List ℕ → Response
-fits room result = respond (outputCause room result ∷ []) result
+fits room result = respond (output_cause room result ∷ []) result
 
 -- The promise of what a call sends: number, length and the output at exit are those of its response.
 pub record Responds (x : Response) (out : List ℕ) (s : Answer) (out' : List ℕ) : Type 0 where
@@ -46,8 +46,8 @@ pub record Responds (x : Response) (out : List ℕ) (s : Answer) (out' : List �
 -- result.
 pub record Makes (f : Form) (causes : List Cause) (status : ℕ) (result : List ℕ) (r : Read) (es vs p : List ℕ) : Type 0 where
   pub numbered : CausesNumbered causes
-  pub number : readNumber r ≡ refusalOf causes
-  pub is : (h : Held) → r ≡ read.Graph h → encode f sequenceGraph status (graph_of h es vs p) ≡ result
+  pub number : read_number r ≡ refusal_of causes
+  pub is : (h : Held) → r ≡ read.Graph h → encode f sequence_graph status (graph_of h es vs p) ≡ result
   pub refused : (n : ℕ) → r ≡ read.Refused n → n ≡ 0 → ⊥
 
 pub record GraphSendable (f : Form) (status : ℕ) (r : Read) (es vs p : List ℕ) : Type 0 where
@@ -56,4 +56,4 @@ pub record GraphSendable (f : Form) (status : ℕ) (r : Read) (es vs p : List �
 -- what is sent responds to the causes, whatever they are, and 11 behind them, with that record
 pub record SendsGraph (f : Form) (status : ℕ) (r : Read) (es vs p out : List ℕ) (s : Answer) (out' : List ℕ) : Type 0 where
   pub is : (causes : List Cause) (result : List ℕ) → Makes f causes status result r es vs p
-      → Responds (respond (withOutput causes (length out) result) result) out s out'
+      → Responds (respond (with_output causes (length out) result) result) out s out'

@@ -1,8 +1,8 @@
 // What the public calls have in common: their result structs, and what is sent: the number of a refusal, or the record of a graph where it
 // fits.
 ghost use Rattle.std.specs.Prelude.{length};
-ghost use Rattle.defs.specs.Record.{sequenceGraph, encode};
-ghost use Rattle.form.specs.Coded.{formIs};
+ghost use Rattle.defs.specs.Record.{sequence_graph, encode};
+ghost use Rattle.form.specs.Coded.{form_is};
 ghost use Rattle.memory.specs.Memory.{graph_of};
 ghost use Rattle.calls.specs.Answers.{AnswersSimplify, AnswersCleanup};
 ghost use Rattle.calls.specs.Sending.{fits, Sendable, Responds, GraphSendable, SendsGraph};
@@ -103,9 +103,9 @@ pub fn send_record(
     vs: &[u32],
     p: &[u8],
 ) -> Answer
-    requires { Sendable (formIs form) status held es.now vs.now p.now }
+    requires { Sendable (form_is form) status held es.now vs.now p.now }
     ensures { Responds (fits (length out.old)
-        (encode (formIs form) sequenceGraph status (graph_of held es.now vs.now p.now))) out.old result out.new }
+        (encode (form_is form) sequence_graph status (graph_of held es.now vs.now p.now))) out.old result out.new }
 {
     let length = write_record::record_length(form, held, vs);
     if out.len() < length {
@@ -131,8 +131,8 @@ pub fn send(
     vs: &[u32],
     p: &[u8],
 ) -> Answer
-    requires { GraphSendable (formIs form) status read es.now vs.now p.now }
-    ensures { SendsGraph (formIs form) status read es.now vs.now p.now out.old result out.new }
+    requires { GraphSendable (form_is form) status read es.now vs.now p.now }
+    ensures { SendsGraph (form_is form) status read es.now vs.now p.now out.old result out.new }
 {
     let held = match read {
         Read::Graph(held) => held,

@@ -6,13 +6,13 @@ use native.Mathlib.Omega.{arith}
 use lib.ListN.{length}
 use Rattle.defs.specs.SeqGraph.{Graph}
 use Rattle.defs.specs.Zip as Z
-use Rattle.defs.specs.Zip.{zipLinearChains}
-use Rattle.defs.specs.Simplify.{simplifyGraphFull, minTailSuffixLen}
-use Rattle.defs.specs.Cleanup.{beforeChoice, removeSingletonOrphanVertices, removeVerticesNotConnectedToRef}
+use Rattle.defs.specs.Zip.{zip_linear_chains}
+use Rattle.defs.specs.Simplify.{simplify_graph_full, min_tail_suffix_len}
+use Rattle.defs.specs.Cleanup.{before_choice, remove_singleton_orphan_vertices, remove_vertices_not_connected_to_ref}
 use Rattle.laws.proofs.Bound.{begun, zip-paid}
 use Rattle.compact.specs.Compact.{Compactable}
 use Rattle.index.specs.Index.{Indexed, Indexable}
-use Rattle.memory.specs.Memory.{graph_of, workOf, vertexRoom, Room, Holds, Simplifiable}
+use Rattle.memory.specs.Memory.{graph_of, work_of, vertex_room, Room, Holds, Simplifiable}
 use Rattle.memory.specs.declared.Held.{Held}
 use Rattle.memory.specs.declared.Work.{Work}
 use Rattle.memory.proofs.RoomLaws.{held-vertices, held-edges, held-ends, room-kept, holds_kept}
@@ -56,7 +56,7 @@ module _ {h : Held} {es vs p heads nexts nodes mp : List ℕ} (R : Room es vs p 
     ends = held-ends H;
   }
 
-  pub held-walkable : {tried : List ℕ} → vertexRoom heads ≤ length tried → Walkable h.n tried nodes
+  pub held-walkable : {tried : List ℕ} → vertex_room heads ≤ length tried → Walkable h.n tried nodes
   held-walkable l = record {
     marks-room = omega (arith, held-vertices H);
     queue-room =
@@ -134,7 +134,7 @@ reduced-lean {f} {h} {r = r} {vs' = vs'} {p = p} R H L =
     }
 
 pub full-lean : {h : Held} {es vs p heads nexts : List ℕ} {r : Simplified} {es' vs' p' : List ℕ}
-    → Full minTailSuffixLen h es vs p heads nexts r es' vs' p' → Lean (graph_of h es vs p) heads nexts → HoldsLean r.held es' vs' p' heads nexts
+    → Full min_tail_suffix_len h es vs p heads nexts r es' vs' p' → Lean (graph_of h es vs p) heads nexts → HoldsLean r.held es' vs' p' heads nexts
 full-lean F L = record { lean = lean-as F.answers.graph (lean-simplified L); within = F.holds.within; used-room = F.holds.used-room }
 
 module _ {h : Held} {es vs p heads nexts nodes mp starts tried sig : List ℕ} (C : Cleanable h es vs p heads nexts nodes mp starts tried sig) where
@@ -154,7 +154,7 @@ module _ {h : Held} {es vs p heads nexts nodes mp starts tried sig : List ℕ} (
   pub cleanable-zippable : Zippable h es vs p heads nexts nodes mp starts
   cleanable-zippable = record { room = C.room; holds = lean-holds C.holds; starts-room = C.scratch.starts-room }
 
-  pub cleanable-simplifiable : Simplifiable minTailSuffixLen h es vs p heads nexts nodes mp starts tried sig
+  pub cleanable-simplifiable : Simplifiable min_tail_suffix_len h es vs p heads nexts nodes mp starts tried sig
   cleanable-simplifiable = record {
     least-is = omega arith;
     room = C.room;
@@ -172,7 +172,7 @@ module _ {h : Held} {es vs p heads nexts nodes mp starts tried sig : List ℕ} (
 
 -- what is asked after the opening zip
 pub zipped-connectable : {w₀ w : Work} {es₀ vs₀ p₀ es vs p heads nexts nodes mp tried : List ℕ}
-    → ZippedAll w₀ es₀ vs₀ p₀ w es vs p heads nexts nodes mp → vertexRoom heads ≤ length tried
+    → ZippedAll w₀ es₀ vs₀ p₀ w es vs p heads nexts nodes mp → vertex_room heads ≤ length tried
     → Compactable w.held.n w.held.m es vs mp × (Indexed w.held.m w.held.n es heads nexts
     × (Walkable w.held.n tried nodes × (w.held.m < 4294967296)))
 zipped-connectable Q l = let Y = Q.ready in (
@@ -184,7 +184,7 @@ zipped-connectable Q l = let Y = Q.ready in (
 
 module _ {h : Held} {es vs p heads nexts : List ℕ} (H : HoldsLean h es vs p heads nexts) {z : Work} {es₁ vs₁ p₁ heads₁ nexts₁ nodes₁ mp₁ :
     List ℕ} (Q : ZippedAll (fresh h) es vs p z es₁ vs₁ p₁ heads₁ nexts₁ nodes₁ mp₁) (ld : length heads₁ ≡ length heads)
-    {a : Held} {es₂ vs₂ : List ℕ} (R : Reduced (λ (g : Graph). removeVerticesNotConnectedToRef (removeSingletonOrphanVertices g)) z.held
+    {a : Held} {es₂ vs₂ : List ℕ} (R : Reduced (λ (g : Graph). remove_vertices_not_connected_to_ref (remove_singleton_orphan_vertices g)) z.held
     es₁ vs₁ a es₂ vs₂) where
   zipped-lean : HoldsLean z.held es₁ vs₁ p₁ heads nexts
   zipped-lean = record {
@@ -196,18 +196,18 @@ module _ {h : Held} {es vs p heads nexts : List ℕ} (H : HoldsLean h es vs p he
   pub cut-lean : HoldsLean a es₂ vs₂ p₁ heads nexts
   cut-lean = reduced-lean R zipped-lean (lean-connected zipped-lean.lean)
 
-  cut-is : graph_of a es₂ vs₂ p₁ ≡ removeVerticesNotConnectedToRef (removeSingletonOrphanVertices (zipLinearChains (begun (graph_of h es vs p))).graph)
-  cut-is = R.is p₁ ∙ ap (λ (x : Z.Work). removeVerticesNotConnectedToRef (removeSingletonOrphanVertices x.graph)) Q.is
+  cut-is : graph_of a es₂ vs₂ p₁ ≡ remove_vertices_not_connected_to_ref (remove_singleton_orphan_vertices (zip_linear_chains (begun (graph_of h es vs p))).graph)
+  cut-is = R.is p₁ ∙ ap (λ (x : Z.Work). remove_vertices_not_connected_to_ref (remove_singleton_orphan_vertices x.graph)) Q.is
 
-  module _ {heads₂ nexts₂ : List ℕ} {s : Simplified} {es₃ vs₃ p₃ : List ℕ} (F : Full minTailSuffixLen a es₂ vs₂ p₁ heads₂ nexts₂ s es₃ vs₃ p₃) where
-    pub before-most : z.rewrites + s.rewrites ≤ 203 * vertexRoom heads
+  module _ {heads₂ nexts₂ : List ℕ} {s : Simplified} {es₃ vs₃ p₃ : List ℕ} (F : Full min_tail_suffix_len a es₂ vs₂ p₁ heads₂ nexts₂ s es₃ vs₃ p₃) where
+    pub before-most : z.rewrites + s.rewrites ≤ 203 * vertex_room heads
     before-most = omega (arith, Q.less, held-vertices (lean-holds H), F.answers.rewrites, lean-rewrites cut-lean.lean)
 
-    before-is : workOf record { held = s.held; rewrites = z.rewrites + s.rewrites } es₃ vs₃ p₃ ≡ beforeChoice (graph_of h es vs p)
-    unfolding beforeChoice
+    before-is : work_of record { held = s.held; rewrites = z.rewrites + s.rewrites } es₃ vs₃ p₃ ≡ before_choice (graph_of h es vs p)
+    unfolding before_choice
     before-is = λ i. record {
-      graph = (F.answers.graph ∙ ap (λ (x : Graph). (simplifyGraphFull minTailSuffixLen x).graph) cut-is) i;
-      rewrites = (ap (λ (x : Z.Work). x.rewrites) Q.is) i + (F.answers.rewrites ∙ ap (λ (x : Graph). (simplifyGraphFull minTailSuffixLen x).rewrites) cut-is) i;
+      graph = (F.answers.graph ∙ ap (λ (x : Graph). (simplify_graph_full min_tail_suffix_len x).graph) cut-is) i;
+      rewrites = (ap (λ (x : Z.Work). x.rewrites) Q.is) i + (F.answers.rewrites ∙ ap (λ (x : Graph). (simplify_graph_full min_tail_suffix_len x).rewrites) cut-is) i;
     }
 
     pub before-all : {w : Work} → w ≡ record { held = s.held; rewrites = z.rewrites + s.rewrites } → length heads₂ ≡ length heads

@@ -1,13 +1,13 @@
 -- The room of cleanup, and the graph of the choice in slices. Assumes nothing.
 use Rattle.std.specs.Prelude.{◌≡◌, List, ℕ, ◌+◌, ◌*◌, ◌/◌, ◌≤◌, ◌<◌, length}
 use Rattle.defs.specs.SeqGraph.{Graph}
-use Rattle.defs.specs.Simplify.{sequenceBytes}
-use Rattle.defs.specs.Cleanup.{beforeChoice}
+use Rattle.defs.specs.Simplify.{sequence_bytes}
+use Rattle.defs.specs.Cleanup.{before_choice}
 use Rattle.laws.proofs.Fuel.{Good}
 use Rattle.laws.proofs.Measures.{weight}
 use Rattle.laws.proofs.Branching.{branching}
 use Rattle.store.specs.Store.{Within}
-use Rattle.memory.specs.Memory.{graph_of, workOf, vertexRoom, edgeRoom, signatureRoom, Room, Holds, Scratch, Countable}
+use Rattle.memory.specs.Memory.{graph_of, work_of, vertex_room, edge_room, signature_room, Room, Holds, Scratch, Countable}
 use Rattle.memory.specs.declared.Held.{Held}
 use Rattle.memory.specs.declared.Work.{Work}
 
@@ -24,24 +24,24 @@ pub record Zippable (h : Held) (es vs p heads nexts nodes mp starts : List ℕ) 
 -- vertex more, the empty one at the end; S, a quarter of the bytes and the vertices' room are at most the edges' room.
 pub record Lean (g : Graph) (heads nexts : List ℕ) : Type 0 where
   pub good : Good g
-  pub light : weight g < vertexRoom heads
-  pub narrow : branching g + sequenceBytes g.verts / 4 + vertexRoom heads ≤ edgeRoom nexts
+  pub light : weight g < vertex_room heads
+  pub narrow : branching g + sequence_bytes g.verts / 4 + vertex_room heads ≤ edge_room nexts
 
 pub record HoldsLean (h : Held) (es vs p heads nexts : List ℕ) : Type 0 where
   pub lean : Lean (graph_of h es vs p) heads nexts
   pub within : Within h.used h.n vs
-  pub used-room : h.used ≤ vertexRoom heads
+  pub used-room : h.used ≤ vertex_room heads
 
 -- a held graph, room for its rewrites and for the lists of a round
 pub record Cleanable (h : Held) (es vs p heads nexts nodes mp starts tried sig : List ℕ) : Type 0 where
   pub room : Room es vs p heads nexts nodes mp
   pub holds : HoldsLean h es vs p heads nexts
   pub scratch : Scratch heads starts tried
-  pub sig-room : signatureRoom heads nexts ≤ length sig
+  pub sig-room : signature_room heads nexts ≤ length sig
   pub countable : Countable 501 0 heads
 
 -- the graph of the choice and the rewrites
 pub record BeforeChoice (h : Held) (es vs p heads nexts : List ℕ) (r : Work) (es' vs' p' : List ℕ) : Type 0 where
-  pub is : workOf r es' vs' p' ≡ beforeChoice (graph_of h es vs p)
+  pub is : work_of r es' vs' p' ≡ before_choice (graph_of h es vs p)
   pub holds : HoldsLean r.held es' vs' p' heads nexts
-  pub most : r.rewrites ≤ 203 * vertexRoom heads
+  pub most : r.rewrites ≤ 203 * vertex_room heads

@@ -2,7 +2,7 @@
 // reference, simplification.
 ghost use Rattle.std.specs.Prelude.{◌+◌, ◌<◌};
 ghost use Rattle.defs.specs.SeqGraph.{Graph};
-ghost use Rattle.defs.specs.Cleanup.{removeSingletonOrphanVertices, removeVerticesNotConnectedToRef};
+ghost use Rattle.defs.specs.Cleanup.{remove_singleton_orphan_vertices, remove_vertices_not_connected_to_ref};
 ghost use Rattle.compact.specs.Compact.{Compactable};
 ghost use Rattle.index.specs.Index.{Indexed};
 ghost use Rattle.zip_linear_chains.specs.Zips.{ZippedAll};
@@ -50,7 +50,7 @@ fn keep_connected(
     requires { Compactable held.n held.m es.old vs.old map.old
         × (Indexed held.m held.n es.old heads.old nexts.old
         × (Walkable held.n tried.old nodes.old × (held.m < 4294967296))) }
-    ensures { Reduced (λ (g : Graph). removeVerticesNotConnectedToRef (removeSingletonOrphanVertices g)) held es.old
+    ensures { Reduced (λ (g : Graph). remove_vertices_not_connected_to_ref (remove_singleton_orphan_vertices g)) held es.old
         vs.old result es.new vs.new }
 {
     let a = orphans::remove_singleton_orphan_vertices(held, es, vs, heads, nexts, map);

@@ -2,7 +2,7 @@
 // reference sink, simplified.
 ghost use Rattle.std.specs.Prelude.{◌≡◌, ◌+◌, ◌<◌};
 ghost use Rattle.std.proofs.Math.Option.{some};
-ghost use Rattle.defs.specs.Cleanup.{referenceSourceVertex, referenceSinkVertex};
+ghost use Rattle.defs.specs.Cleanup.{reference_source_vertex, reference_sink_vertex};
 ghost use Rattle.index.specs.Index.{Indexed};
 ghost use Rattle.memory.specs.Memory.{graph_of, Countable};
 ghost use Rattle.refs.specs.Refs.{FirstSource, FirstSink};
@@ -111,8 +111,8 @@ fn after_choice(
         sig.old × (Indexed work.held.m work.held.n es.old heads.old nexts.old
         × (Countable 202 work.rewrites heads.old × (FirstSource work.held.m work.held.n es.old source
         × FirstSink work.held.m work.held.n es.old sink))) }
-    ensures { After work (referenceSourceVertex (graph_of work.held es.old vs.old p.old))
-        (referenceSinkVertex (graph_of work.held es.old vs.old p.old)) es.old
+    ensures { After work (reference_source_vertex (graph_of work.held es.old vs.old p.old))
+        (reference_sink_vertex (graph_of work.held es.old vs.old p.old)) es.old
         vs.old p.old heads.old nexts.old result es.new vs.new p.new }
 {
     let OptionVertex::Some(s) = source else {

@@ -8,33 +8,33 @@ use native.Mathlib.Numerals.{add-one}
 use native.Mathlib.Omega.{arith}
 use lib.ListN.{length, get_or, take, drop, length-append}
 use lib.Seq.{take-add, drop-drop, take-append_seam, drop-append-add}
-use Rattle.defs.specs.Lists.{concat, tabFrom, tab, sum}
+use Rattle.defs.specs.Lists.{concat, tab_from, tab, sum}
 use Rattle.tabs.proofs.Tabs.{tab-snoc, tab-ext}
 use Rattle.tabs.proofs.SumTabs.{sum-suc, concat-snoc}
-use Rattle.le.proofs.LeLaws.{getD-middle}
+use Rattle.le.proofs.LeLaws.{get_or-middle}
 
 module _ {A : Type 0} where
-  tabFrom-shift : (s n : ℕ) (f : ℕ → A) → tabFrom (suc s) n f ≡ tabFrom s n (λ i. f (suc i))
-  unfolding tabFrom
-  tabFrom-shift s zero f = refl
-  tabFrom-shift s (suc n) f = ap (λ (r : List A). f (suc s) ∷ r) (tabFrom-shift (suc s) n f)
+  tab_from-shift : (s n : ℕ) (f : ℕ → A) → tab_from (suc s) n f ≡ tab_from s n (λ i. f (suc i))
+  unfolding tab_from
+  tab_from-shift s zero f = refl
+  tab_from-shift s (suc n) f = ap (λ (r : List A). f (suc s) ∷ r) (tab_from-shift (suc s) n f)
 
   tab-cons : (n : ℕ) (f : ℕ → A) → tab (suc n) f ≡ f 0 ∷ tab n (λ i. f (suc i))
-  unfolding tabFrom
-  tab-cons n f = ap (λ (r : List A). f 0 ∷ r) (tabFrom-shift 0 n f)
+  unfolding tab_from
+  tab-cons n f = ap (λ (r : List A). f 0 ∷ r) (tab_from-shift 0 n f)
 
   concat-more : (n : ℕ) (f : ℕ → List A) → concat (tab (suc n) f) ≡ concat (tab n f) ++ f n
   concat-more n f = ap (λ (k : ℕ). concat (tab k f)) (sym (add-one n)) ∙ ap concat (tab-snoc n f) ∙ concat-snoc (tab n f) (f n)
 
 pub sum-const : (n w : ℕ) → sum (tab n (λ _. w)) ≡ w * n
-unfolding tabFrom sum
+unfolding tab_from sum
 sum-const zero w = sym (mul-zero w)
 sum-const (suc n) w = sum-suc n (λ _. w) ∙ omega (arith, sum-const n w, mul-suc w n)
 
 module _ {A : Type 0} (bs : List A) (s : ℕ) where
   -- parts of lengths l 0, l 1, .. one behind the other are one part
   pub concat-parts : (l : ℕ → ℕ) (n : ℕ) → concat (tab n (λ i. take (l i) (drop (s + sum (tab i l)) bs))) ≡ take (sum (tab n l)) (drop s bs)
-  unfolding tabFrom concat sum
+  unfolding tab_from concat sum
   concat-parts l zero = refl
   concat-parts l (suc n) =
       concat-more n (λ i. take (l i) (drop (s + sum (tab i l)) bs))
@@ -53,7 +53,7 @@ module _ {A : Type 0} (bs : List A) (s : ℕ) where
 -- a member is the part behind those before it
 pub part-of-concat : {A : Type 0} (vs : List (List A)) (i : ℕ) → i < length vs
     → take (length (get_or vs i [])) (drop (sum (tab i (λ j. length (get_or vs j [])))) (concat vs)) ≡ get_or vs i []
-unfolding concat tabFrom sum
+unfolding concat tab_from sum
 part-of-concat [] i h = absurd (not-suc-le-zero h)
 part-of-concat (v ∷ vs) zero h = take-append_seam v (concat vs)
 part-of-concat (v ∷ vs) (suc i) h =
@@ -66,7 +66,7 @@ pub record Shows (bs : List ℕ) (s : ℕ) (m : List ℕ) : Type 0 where
   pub at : (j : ℕ) → j < length m → get_or bs (s + j) 0 ≡ get_or m j 0
 
 pub shows-middle : (a m b : List ℕ) (s : ℕ) → length a ≡ s → Shows (a ++ m ++ b) s m
-shows-middle a m b s e = record { at = λ j h. getD-middle a m b s j e h }
+shows-middle a m b s e = record { at = λ j h. get_or-middle a m b s j e h }
 
 module _ {A : Type 0} (f : A → List ℕ) (w : ℕ) (width : (x : A) → length (f x) ≡ w) where
   pub length_fields : (xs : List A) → length (concat (map f xs)) ≡ w * length xs

@@ -8,19 +8,19 @@ use native.Mathlib.Omega.{arith}
 use lib.ListN.{length, get_or, take, drop, length-append}
 use lib.Seq.{drop-append-add}
 use Rattle.defs.specs.Lists.{concat, tab, sum, same_list}
-use Rattle.defs.specs.Forms.{Form, sgr1, sgr2, mark, formOf, word_size, places, lengthsAt, edgeSize}
-use Rattle.defs.specs.SeqGraph.{Edge, Graph, nodeCount}
-use Rattle.defs.specs.Simplify.{sequenceBytes}
-use Rattle.defs.specs.Record.{RecordKind, recordKindNumber, le16, le32, u16At, u32_at, word_bytes, word_at, k_of, verticesOf, edgesOf}
-use Rattle.defs.specs.Record.{edges_at, bytes_at, wholeLength, flagOf, flagIsRef, flagIsCapped, encodeEdge, encodeHeader, encode}
-use Rattle.defs.specs.Record.{length_at, sequenceStart, sequenceAt, edgeStart, flagAt, edge_at}
+use Rattle.defs.specs.Forms.{Form, sgr1, sgr2, mark, form_of, word_size, places, lengths_at, edge_size}
+use Rattle.defs.specs.SeqGraph.{Edge, Graph, node_count}
+use Rattle.defs.specs.Simplify.{sequence_bytes}
+use Rattle.defs.specs.Record.{RecordKind, record_kind_number, le16, le32, u16_at, u32_at, word_bytes, word_at, k_of, vertices_of, edges_of}
+use Rattle.defs.specs.Record.{edges_at, bytes_at, whole_length, flag_of, flag_is_ref, flag_is_capped, encode_edge, encode_header, encode}
+use Rattle.defs.specs.Record.{length_at, sequence_start, sequence_at, edge_start, flag_at, edge_at}
 use Rattle.laws.proofs.ListLaws.{at_mem}
 use Rattle.laws.proofs.Flags.{flag-says-ref, flag-says-capped}
 use Rattle.tabs.proofs.Tabs.{tab-ext}
 use Rattle.le.proofs.LeLaws.{value-of-digits}
-use Rattle.form.specs.Coded.{wordLimit}
+use Rattle.form.specs.Coded.{word_limit}
 use Rattle.form.proofs.FormLaws.{sizes, length-word}
-use Rattle.record.proofs.Fields.{lengthAt-is, edgeStart-is, from_is, to_is, support-is, flagAt-is, isRef-is, capped_is, sequenceStart-is, sequenceAt-is}
+use Rattle.record.proofs.Fields.{length_at-is, edge_start-is, from_is, to_is, support-is, flag_at-is, is_ref-is, capped_is, sequence_start-is, sequence_at-is}
 use Rattle.codec.specs.Encodable.{EncodableEdge, Encodable}
 use Rattle.codec.proofs.Concat.{Shows, shows-field, length_fields, part-of-concat}
 
@@ -35,7 +35,7 @@ module _ (bs : List ℕ) (s : ℕ) (m : List ℕ) (shown : Shows bs s m) where
       omega (arith, shown.at j (omega arith), shown-next j 1 (omega arith), shown-next j 2 (omega arith), shown-next j 3 (omega arith))
 
   word-shown : (f : Form) (j : ℕ) → j + word_size f ≤ length m → word_at f bs (s + j) ≡ word_at f m j
-  unfolding word_at word_size u16At
+  unfolding word_at word_size u16_at
   word-shown sgr1 j h = omega (arith, shown.at j (omega arith), shown-next j 1 (omega arith))
   word-shown sgr2 j h = u32-shown j h
 
@@ -44,69 +44,69 @@ module _ (bs : List ℕ) (s : ℕ) (m : List ℕ) (shown : Shows bs s m) where
 
 -- the header, whatever stands behind it
 module _ (kind status k v e b : ℕ) where
-  header-length : (f : Form) → length (encodeHeader f kind status k v e b) ≡ lengthsAt f
-  unfolding encodeHeader mark word_bytes lengthsAt le16 le32
+  header-length : (f : Form) → length (encode_header f kind status k v e b) ≡ lengths_at f
+  unfolding encode_header mark word_bytes lengths_at le16 le32
   header-length sgr1 = refl
   header-length sgr2 = refl
 
   module _ (rest : List ℕ) where
-    header-form : (f : Form) → formOf (encodeHeader f kind status k v e b ++ rest) ≡ f
-    unfolding encodeHeader mark formOf same_list
+    header-form : (f : Form) → form_of (encode_header f kind status k v e b ++ rest) ≡ f
+    unfolding encode_header mark form_of same_list
     header-form sgr1 = refl
     header-form sgr2 = refl
 
-    header-k : (f : Form) → k < 65536 → k_of (encodeHeader f kind status k v e b ++ rest) ≡ k
-    unfolding encodeHeader mark le16 u16At
+    header-k : (f : Form) → k < 65536 → k_of (encode_header f kind status k v e b ++ rest) ≡ k
+    unfolding encode_header mark le16 u16_at
     header-k sgr1 h = omega arith
     header-k sgr2 h = omega arith
 
-    header-vertices : (f : Form) → v < wordLimit f → verticesOf (encodeHeader f kind status k v e b ++ rest) ≡ v
-    unfolding encodeHeader mark formOf same_list verticesOf places wordLimit word_bytes word_at le16 le32 u16At u32_at
+    header-vertices : (f : Form) → v < word_limit f → vertices_of (encode_header f kind status k v e b ++ rest) ≡ v
+    unfolding encode_header mark form_of same_list vertices_of places word_limit word_bytes word_at le16 le32 u16_at u32_at
     header-vertices sgr1 h = omega arith
     header-vertices sgr2 h = value-of-digits v h
 
-    header-edges : (f : Form) → e < wordLimit f → edgesOf (encodeHeader f kind status k v e b ++ rest) ≡ e
-    unfolding encodeHeader mark formOf same_list edgesOf places wordLimit word_bytes word_at le16 le32 u16At u32_at
+    header-edges : (f : Form) → e < word_limit f → edges_of (encode_header f kind status k v e b ++ rest) ≡ e
+    unfolding encode_header mark form_of same_list edges_of places word_limit word_bytes word_at le16 le32 u16_at u32_at
     header-edges sgr1 h = omega arith
     header-edges sgr2 h = value-of-digits e h
 
-word-own : (f : Form) (n : ℕ) → n < wordLimit f → word_at f (word_bytes f n) 0 ≡ n
-unfolding word_at word_bytes wordLimit u16At u32_at le16 le32
+word-own : (f : Form) (n : ℕ) → n < word_limit f → word_at f (word_bytes f n) 0 ≡ n
+unfolding word_at word_bytes word_limit u16_at u32_at le16 le32
 word-own sgr1 n h = omega arith
 word-own sgr2 n h = value-of-digits n h
 
 -- an edge's bytes
 module _ (e : Edge) where
-  edge-width : (f : Form) → length (encodeEdge f e) ≡ edgeSize f
-  unfolding encodeEdge word_bytes edgeSize le16 le32
+  edge-width : (f : Form) → length (encode_edge f e) ≡ edge_size f
+  unfolding encode_edge word_bytes edge_size le16 le32
   edge-width sgr1 = refl
   edge-width sgr2 = refl
 
-  edge-from : (f : Form) → EncodableEdge f e → word_at f (encodeEdge f e) 0 ≡ e.from
-  unfolding encodeEdge word_bytes word_at wordLimit le16 le32 u16At u32_at
+  edge-from : (f : Form) → EncodableEdge f e → word_at f (encode_edge f e) 0 ≡ e.from
+  unfolding encode_edge word_bytes word_at word_limit le16 le32 u16_at u32_at
   edge-from sgr1 ok = omega (arith, ok.from)
   edge-from sgr2 ok = value-of-digits e.from ok.from
 
-  edge_to : (f : Form) → EncodableEdge f e → word_at f (encodeEdge f e) (word_size f) ≡ e.to
-  unfolding encodeEdge word_bytes word_at word_size wordLimit le16 le32 u16At u32_at
+  edge_to : (f : Form) → EncodableEdge f e → word_at f (encode_edge f e) (word_size f) ≡ e.to
+  unfolding encode_edge word_bytes word_at word_size word_limit le16 le32 u16_at u32_at
   edge_to sgr1 ok = omega (arith, ok.to)
   edge_to sgr2 ok = value-of-digits e.to ok.to
 
-  edge-support : (f : Form) → EncodableEdge f e → u32_at (encodeEdge f e) (2 * word_size f) ≡ e.support
-  unfolding encodeEdge word_bytes word_size le16 le32 u32_at
+  edge-support : (f : Form) → EncodableEdge f e → u32_at (encode_edge f e) (2 * word_size f) ≡ e.support
+  unfolding encode_edge word_bytes word_size le16 le32 u32_at
   edge-support sgr1 ok = value-of-digits e.support ok.support
   edge-support sgr2 ok = value-of-digits e.support ok.support
 
-  edge-flag : (f : Form) → get_or (encodeEdge f e) (2 * word_size f + 4) 0 ≡ flagOf e
-  unfolding encodeEdge word_bytes word_size le16 le32
+  edge-flag : (f : Form) → get_or (encode_edge f e) (2 * word_size f + 4) 0 ≡ flag_of e
+  unfolding encode_edge word_bytes word_size le16 le32
   edge-flag sgr1 = refl
   edge-flag sgr2 = refl
 
-same-edge : (e f : Edge) → e.from ≡ f.from → e.to ≡ f.to → e.support ≡ f.support → e.isRef ≡ f.isRef → e.capped ≡ f.capped → e ≡ f
-same-edge e f a b s r c = λ i. record { from = a i; to = b i; support = s i; isRef = r i; capped = c i }
+same-edge : (e f : Edge) → e.from ≡ f.from → e.to ≡ f.to → e.support ≡ f.support → e.is_ref ≡ f.is_ref → e.capped ≡ f.capped → e ≡ f
+same-edge e f a b s r c = λ i. record { from = a i; to = b i; support = s i; is_ref = r i; capped = c i }
 
-length-concat : (vs : List (List ℕ)) → length (concat vs) ≡ sequenceBytes vs
-unfolding concat sequenceBytes
+length-concat : (vs : List (List ℕ)) → length (concat vs) ≡ sequence_bytes vs
+unfolding concat sequence_bytes
 length-concat [] = refl
 length-concat (v ∷ vs) = length-append v (concat vs) ∙ ap (λ (n : ℕ). length v + n) (length-concat vs)
 
@@ -116,13 +116,13 @@ module _ (f : Form) (kind : RecordKind) (status : ℕ) (g : Graph) where
   bs = encode f kind status g
 
   header : List ℕ
-  header = encodeHeader f (recordKindNumber kind) status g.k (nodeCount g) (length g.edges) (sequenceBytes g.verts)
+  header = encode_header f (record_kind_number kind) status g.k (node_count g) (length g.edges) (sequence_bytes g.verts)
 
   lengths : List ℕ
   lengths = concat (map (λ v. word_bytes f (length v)) g.verts)
 
   edges : List ℕ
-  edges = concat (map (encodeEdge f) g.edges)
+  edges = concat (map (encode_edge f) g.edges)
 
   bytes : List ℕ
   bytes = concat g.verts
@@ -141,136 +141,136 @@ module _ (f : Form) (kind : RecordKind) (status : ℕ) (g : Graph) where
 
   -- what is read of the header, whatever stands behind it, is read of the record
   pub of-header : {X : Type 0} (read : List ℕ → X) {x : X}
-      → ((rest : List ℕ) → read (encodeHeader f (recordKindNumber kind) status g.k (nodeCount g) (length g.edges) (sequenceBytes g.verts) ++ rest) ≡ x)
+      → ((rest : List ℕ) → read (encode_header f (record_kind_number kind) status g.k (node_count g) (length g.edges) (sequence_bytes g.verts) ++ rest) ≡ x)
       → read bs ≡ x
   unfolding header
   of-header read h = ap read behind-header ∙ h _
 
   -- the record is of the form that it was written in
-  pub form-written : formOf bs ≡ f
-  form-written = of-header formOf (λ rest. header-form _ _ _ _ _ _ rest f)
+  pub form-written : form_of bs ≡ f
+  form-written = of-header form_of (λ rest. header-form _ _ _ _ _ _ rest f)
 
-  header_is : length header ≡ lengthsAt f
+  header_is : length header ≡ lengths_at f
   unfolding header
-  header_is = header-length (recordKindNumber kind) status g.k (nodeCount g) (length g.edges) (sequenceBytes g.verts) f
+  header_is = header-length (record_kind_number kind) status g.k (node_count g) (length g.edges) (sequence_bytes g.verts) f
 
-  lengths-is : length lengths ≡ word_size f * nodeCount g
-  unfolding lengths nodeCount
+  lengths-is : length lengths ≡ word_size f * node_count g
+  unfolding lengths node_count
   lengths-is = length_fields (λ v. word_bytes f (length v)) (word_size f) (λ v. length-word f (length v)) g.verts
 
-  edges-is : length edges ≡ edgeSize f * length g.edges
+  edges-is : length edges ≡ edge_size f * length g.edges
   unfolding edges
-  edges-is = length_fields (encodeEdge f) (edgeSize f) (λ e. edge-width e f) g.edges
+  edges-is = length_fields (encode_edge f) (edge_size f) (λ e. edge-width e f) g.edges
 
   -- where the edges and the bytes start
-  before-edges : length (header ++ lengths) ≡ edges_at f (nodeCount g)
+  before-edges : length (header ++ lengths) ≡ edges_at f (node_count g)
   unfolding edges_at
   before-edges = length-append header lengths ∙ (λ i. header_is i + lengths-is i)
 
-  before-bytes : length (header ++ lengths ++ edges) ≡ bytes_at f (nodeCount g) (length g.edges)
+  before-bytes : length (header ++ lengths ++ edges) ≡ bytes_at f (node_count g) (length g.edges)
   unfolding bytes_at
   before-bytes = length-append (header ++ lengths) edges ∙ (λ i. before-edges i + edges-is i)
 
-  pub length-written : length bs ≡ wholeLength f (nodeCount g) (length g.edges) (sequenceBytes g.verts)
-  unfolding wholeLength bytes
+  pub length-written : length bs ≡ whole_length f (node_count g) (length g.edges) (sequence_bytes g.verts)
+  unfolding whole_length bytes
   length-written =
       ap length around-edges ∙ length-append (header ++ lengths ++ edges) bytes ∙ (λ i. before-bytes i + length-concat g.verts i)
 
-  length-shown : (i : ℕ) → i < nodeCount g → Shows bs (edges_at f i) (word_bytes f (length (get_or g.verts i [])))
-  unfolding lengths nodeCount edges_at
+  length-shown : (i : ℕ) → i < node_count g → Shows bs (edges_at f i) (word_bytes f (length (get_or g.verts i [])))
+  unfolding lengths node_count edges_at
   length-shown i h =
       rw around-lengths
-      (shows-field (λ v. word_bytes f (length v)) (word_size f) (λ v. length-word f (length v)) header (edges ++ bytes) (lengthsAt f) g.verts [] i header_is h)
+      (shows-field (λ v. word_bytes f (length v)) (word_size f) (λ v. length-word f (length v)) header (edges ++ bytes) (lengths_at f) g.verts [] i header_is h)
 
   module _ (ok : Encodable f g) where
     pub k-read : k_of bs ≡ g.k
     k-read = of-header (λ l. k_of l) (λ rest. header-k _ _ _ _ _ _ rest f ok.k)
 
-    pub vertices-read : verticesOf bs ≡ nodeCount g
-    vertices-read = of-header verticesOf (λ rest. header-vertices _ _ _ _ _ _ rest f ok.vertices)
+    pub vertices-read : vertices_of bs ≡ node_count g
+    vertices-read = of-header vertices_of (λ rest. header-vertices _ _ _ _ _ _ rest f ok.vertices)
 
-    pub edges-read : edgesOf bs ≡ length g.edges
-    edges-read = of-header edgesOf (λ rest. header-edges _ _ _ _ _ _ rest f ok.edges)
+    pub edges-read : edges_of bs ≡ length g.edges
+    edges-read = of-header edges_of (λ rest. header-edges _ _ _ _ _ _ rest f ok.edges)
 
-    pub length-read : (i : ℕ) → i < nodeCount g → length_at bs i ≡ length (get_or g.verts i [])
-    unfolding nodeCount
+    pub length-read : (i : ℕ) → i < node_count g → length_at bs i ≡ length (get_or g.verts i [])
+    unfolding node_count
     length-read i h =
         let n = length (get_or g.verts i []) in
-        lengthAt-is bs i
+        length_at-is bs i
         ∙ ap (λ (x : Form). word_at x bs (edges_at x i)) form-written
         ∙ word_first bs (edges_at f i) _ (length-shown i h) f (omega (arith, length-word f n))
         ∙ word-own f n (ok.lengths _ (at_mem [] g.verts i h))
 
     -- an edge starts where it was written
-    start_is : (i : ℕ) → edgeStart bs i ≡ bytes_at f (nodeCount g) i
-    start_is i = edgeStart-is bs i ∙ (λ j. bytes_at (form-written j) (vertices-read j) i)
+    start_is : (i : ℕ) → edge_start bs i ≡ bytes_at f (node_count g) i
+    start_is i = edge_start-is bs i ∙ (λ j. bytes_at (form-written j) (vertices-read j) i)
 
-    edge-shown : (d : Edge) (i : ℕ) → i < length g.edges → Shows bs (edgeStart bs i) (encodeEdge f (get_or g.edges i d))
+    edge-shown : (d : Edge) (i : ℕ) → i < length g.edges → Shows bs (edge_start bs i) (encode_edge f (get_or g.edges i d))
     unfolding edges bytes_at
     edge-shown d i h =
         rw (start_is i, around-edges)
-        (shows-field (encodeEdge f) (edgeSize f) (λ e. edge-width e f) (header ++ lengths) bytes (edges_at f (nodeCount g)) g.edges d i before-edges h)
+        (shows-field (encode_edge f) (edge_size f) (λ e. edge-width e f) (header ++ lengths) bytes (edges_at f (node_count g)) g.edges d i before-edges h)
 
     module _ (d : Edge) (i : ℕ) (h : i < length g.edges) where
       abbrev here : Edge
       here = get_or g.edges i d
 
       -- its parts lie in its bytes
-      part-inside : {n : ℕ} → n ≤ 2 * word_size f + 5 → n ≤ length (encodeEdge f here)
+      part-inside : {n : ℕ} → n ≤ 2 * word_size f + 5 → n ≤ length (encode_edge f here)
       part-inside l = omega (arith, edge-width here f, (sizes f).edge-holds)
 
-      from-shown : (edge_at bs i).from ≡ word_at f (encodeEdge f here) 0
+      from-shown : (edge_at bs i).from ≡ word_at f (encode_edge f here) 0
       from-shown =
           from_is bs i
-          ∙ ap (λ (x : Form). word_at x bs (edgeStart bs i)) form-written
+          ∙ ap (λ (x : Form). word_at x bs (edge_start bs i)) form-written
           ∙ word_first bs _ _ (edge-shown d i h) f (part-inside (omega arith))
 
-      to-shown : (edge_at bs i).to ≡ word_at f (encodeEdge f here) (word_size f)
+      to-shown : (edge_at bs i).to ≡ word_at f (encode_edge f here) (word_size f)
       to-shown =
           to_is bs i
-          ∙ ap (λ (x : Form). word_at x bs (edgeStart bs i + word_size x)) form-written
+          ∙ ap (λ (x : Form). word_at x bs (edge_start bs i + word_size x)) form-written
           ∙ word-shown bs _ _ (edge-shown d i h) f (word_size f) (part-inside (omega arith))
 
-      support-shown : (edge_at bs i).support ≡ u32_at (encodeEdge f here) (2 * word_size f)
+      support-shown : (edge_at bs i).support ≡ u32_at (encode_edge f here) (2 * word_size f)
       support-shown =
           support-is bs i
-          ∙ ap (λ (x : Form). u32_at bs (edgeStart bs i + 2 * word_size x)) form-written
+          ∙ ap (λ (x : Form). u32_at bs (edge_start bs i + 2 * word_size x)) form-written
           ∙ u32-shown bs _ _ (edge-shown d i h) (2 * word_size f) (part-inside (omega arith))
 
-      pub flag-read : flagAt bs i ≡ flagOf here
+      pub flag-read : flag_at bs i ≡ flag_of here
       flag-read =
-          flagAt-is bs i
-          ∙ ap (λ (x : Form). get_or bs (edgeStart bs i + 2 * word_size x + 4) 0) form-written
+          flag_at-is bs i
+          ∙ ap (λ (x : Form). get_or bs (edge_start bs i + 2 * word_size x + 4) 0) form-written
           ∙ shown-next bs _ _ (edge-shown d i h) (2 * word_size f) 4 (part-inside (omega arith))
           ∙ edge-flag here f
 
       pub edge-read : edge_at bs i ≡ get_or g.edges i d
-      unfolding flagOf
+      unfolding flag_of
       edge-read =
           let fits : EncodableEdge f here = ok.each _ (at_mem d g.edges i h) in
           same-edge _ _
           (from-shown ∙ edge-from here f fits)
           (to-shown ∙ edge_to here f fits)
           (support-shown ∙ edge-support here f fits)
-          (isRef-is bs i ∙ ap flagIsRef flag-read ∙ flag-says-ref here.isRef here.capped)
-          (capped_is bs i ∙ ap flagIsCapped flag-read ∙ flag-says-capped here.isRef here.capped)
+          (is_ref-is bs i ∙ ap flag_is_ref flag-read ∙ flag-says-ref here.is_ref here.capped)
+          (capped_is bs i ∙ ap flag_is_capped flag-read ∙ flag-says-capped here.is_ref here.capped)
 
-    start-read : (i : ℕ) → i < nodeCount g → sequenceStart bs i ≡ length (header ++ lengths ++ edges) + sum (tab i (λ j. length (get_or g.verts j [])))
+    start-read : (i : ℕ) → i < node_count g → sequence_start bs i ≡ length (header ++ lengths ++ edges) + sum (tab i (λ j. length (get_or g.verts j [])))
     start-read i h =
         let sums : sum (tab i (length_at bs)) ≡ sum (tab i (λ j. length (get_or g.verts j []))) =
         ap sum (tab-ext i _ _ (λ j below. length-read j (omega arith))) in
-        sequenceStart-is bs i
+        sequence_start-is bs i
         ∙ (λ j. bytes_at (form-written j) (vertices-read j) (edges-read j) + sums j)
         ∙ ap (λ (n : ℕ). n + sum (tab i (λ j. length (get_or g.verts j [])))) (sym before-bytes)
 
-    pub sequence-read : (i : ℕ) → i < nodeCount g → sequenceAt bs i ≡ get_or g.verts i []
-    unfolding bytes nodeCount
+    pub sequence-read : (i : ℕ) → i < node_count g → sequence_at bs i ≡ get_or g.verts i []
+    unfolding bytes node_count
     sequence-read i h =
         let c : List ℕ = concat g.verts in
         let p : ℕ = sum (tab i (λ j. length (get_or g.verts j []))) in
         let q : ℕ = length (get_or g.verts i []) in
-        sequenceAt-is bs i
-        ∙ ap (λ (n : ℕ). take n (drop (sequenceStart bs i) bs)) (length-read i h)
+        sequence_at-is bs i
+        ∙ ap (λ (n : ℕ). take n (drop (sequence_start bs i) bs)) (length-read i h)
         ∙ ap (λ (n : ℕ). take q (drop n bs)) (start-read i h)
         ∙ ap (λ (l : List ℕ). take q (drop (length (header ++ lengths ++ edges) + p) l)) around-edges
         ∙ ap (λ (l : List ℕ). take q l) (drop-append-add (header ++ lengths ++ edges) c p)

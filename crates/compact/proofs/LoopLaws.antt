@@ -13,15 +13,15 @@ use lib.Seq.{get_or-set_same, get_or-set_other}
 use borrow.Author.Tests.{eq-eqb, ne_eqb, eqb-true, eqb-false, not-true, not-false}
 use borrow.Author.Count.{below_none, below_more}
 use Rattle.defs.specs.Lists.{tab}
-use Rattle.tabs.proofs.Tabs.{tab-snoc, tab-ext, tab-zero, length-tab, getD-tab}
-use Rattle.defs.specs.Lists.{bit, elem_of, keepIf, keepAt, rank}
-use Rattle.defs.specs.SeqGraph.{Edge, Graph, Change, applyChange, remapEdge, addOrUpdateEdge, addOrUpdateEdges}
+use Rattle.tabs.proofs.Tabs.{tab-snoc, tab-ext, tab-zero, length-tab, get_or-tab}
+use Rattle.defs.specs.Lists.{bit, elem_of, keep_if, keep_at, rank}
+use Rattle.defs.specs.SeqGraph.{Edge, Graph, Change, apply_change, remap_edge, add_or_update_edge, add_or_update_edges}
 use Rattle.laws.proofs.ListLaws.{clash, rank-yes, rank-no, and_split}
-use Rattle.laws.proofs.Walks.{byTest}
-use Rattle.store.specs.Store.{is_set, edge, edgeIn, edgesIn, putEdge, putVertex, seqIn, seqsIn, graphIn, numsIn, EndsBelow, Within, keptBy, Numbered}
+use Rattle.laws.proofs.Walks.{by_test}
+use Rattle.store.specs.Store.{is_set, edge, edge_in, edges_in, put_edge, put_vertex, seq_in, seqs_in, graph_in, nums_in, EndsBelow, Within, kept_by, Numbered}
 use Rattle.store.proofs.EdgeLaws.{put-push, put_other, length-put}
 use Rattle.store.proofs.VertexLaws.{put-start, put-len, put_rest, length-put-vertex}
-use Rattle.tabs.proofs.ListTabs.{tab-append, keepIf-tab-yes, keepIf-tab-no, keepAt-tab-yes, keepAt-tab-no, mem-tab, of-mem-tab, elemOf-snoc}
+use Rattle.tabs.proofs.ListTabs.{tab-append, keep_if-tab-yes, keep_if-tab-no, keep_at-tab-yes, keep_at-tab-no, mem-tab, of-mem-tab, elem_of-snoc}
 use Rattle.tabs.proofs.Ranks.{rank_same}
 use Rattle.compact.specs.Compact.{BothSet, Cleared, Marked, Renumbered, VertsClosed, EdgesClosed, unmarked}
 
@@ -63,7 +63,7 @@ cleared F h = record { none = filling-end F h; same = F.same }
 pub record MarkingGone (n g : ℕ) (gone mp₀ mp : List ℕ) (i : ℕ) : Type 0 where
   pub high : i ≤ g
   pub len : length mp ≡ length mp₀
-  pub is : Marked (numsIn i gone) n mp
+  pub is : Marked (nums_in i gone) n mp
 
 module _ {n g : ℕ} {gone mp₀ : List ℕ} where
   pub marking-start : (mp : List ℕ) → length mp ≡ length mp₀ → ((k : ℕ) → k < n → get_or mp k 0 ≡ 0) → MarkingGone n g gone mp₀ mp 0
@@ -77,10 +77,10 @@ module _ {n g : ℕ} {gone mp₀ : List ℕ} where
     high = omega arith;
     len = length-set mp _ _ ∙ M.len;
     is = record {
-      at = λ v c. rw (tab-snoc i (λ (j : ℕ). get_or gone j 0), elemOf-snoc v (numsIn i gone) (get_or gone i 0)) (elim (ℕ_discrete v (get_or gone i 0)) [
+      at = λ v c. rw (tab-snoc i (λ (j : ℕ). get_or gone j 0), elem_of-snoc v (nums_in i gone) (get_or gone i 0)) (elim (ℕ_discrete v (get_or gone i 0)) [
         | yes e ↦ rw (eq-eqb v (get_or gone i 0) e) (ap (λ (x : ℕ). get_or (set mp (get_or gone i 0) 1) x 0) e
-            ∙ get_or-set_same mp (get_or gone i 0) 1 0 (omega arith) ∙ or-true (elem_of v (numsIn i gone)))
-        | no ne ↦ rw (ne_eqb v (get_or gone i 0) ne) (get_or-set_other mp (get_or gone i 0) v 1 0 ne ∙ M.is.at v c ∙ or-false (elem_of v (numsIn i gone)))
+            ∙ get_or-set_same mp (get_or gone i 0) 1 0 (omega arith) ∙ or-true (elem_of v (nums_in i gone)))
+        | no ne ↦ rw (ne_eqb v (get_or gone i 0) ne) (get_or-set_other mp (get_or gone i 0) v 1 0 ne ∙ M.is.at v c ∙ or-false (elem_of v (nums_in i gone)))
       ]);
     };
   }
@@ -93,7 +93,7 @@ module _ {n g : ℕ} {gone mp₀ : List ℕ} where
       or-false true = refl
       or-false false = refl
 
-  pub marking-end : {mp : List ℕ} {i : ℕ} → MarkingGone n g gone mp₀ mp i → g ≤ i → Marked (numsIn g gone) n mp
+  pub marking-end : {mp : List ℕ} {i : ℕ} → MarkingGone n g gone mp₀ mp i → g ≤ i → Marked (nums_in g gone) n mp
   marking-end {mp} {i} M h = let e : i ≡ g = omega arith in rw e at M.is
 
 -- ---- numbers
@@ -167,13 +167,13 @@ module _ {n : ℕ} {mp₀ : List ℕ} where
   pub numbering-end : {mp : List ℕ} {v j : ℕ} → Numbering n mp₀ mp v j → n ≤ v → n ≤ length mp₀ → Renumbered mp₀ n mp
   numbering-end {mp} {v} {j} N h r = record { numbered = record { room = omega (arith, N.len); is = is }; same = same }
     where
-      same : (k : ℕ) → k < n → keptBy mp k ≡ unmarked mp₀ k
-      same k b = byTest (unmarked mp₀ k)
+      same : (k : ℕ) → k < n → kept_by mp k ≡ unmarked mp₀ k
+      same k b = by_test (unmarked mp₀ k)
           (λ t. ap not (ne_eqb (get_or mp k 0) 0 (λ q. omega (arith, q, N.stay k (omega arith) t))) ∙ sym t)
           (λ t. ap not (eq-eqb (get_or mp k 0) 0 (N.go k (omega arith) t)) ∙ sym t)
 
-      is : (k : ℕ) → k < n → keptBy mp k ≡ true → get_or mp k 0 ≡ suc (rank (keptBy mp) k)
-      is k b t = N.stay k (omega arith) (sym (same k b) ∙ t) ∙ ap suc (sym (rank_same (keptBy mp) (unmarked mp₀) k (λ u c. same u (omega arith))))
+      is : (k : ℕ) → k < n → kept_by mp k ≡ true → get_or mp k 0 ≡ suc (rank (kept_by mp) k)
+      is k b t = N.stay k (omega arith) (sym (same k b) ∙ t) ∙ ap suc (sym (rank_same (kept_by mp) (unmarked mp₀) k (λ u c. same u (omega arith))))
 
 -- ---- closing the vertices up
 
@@ -181,18 +181,18 @@ pub record ClosingV (mp : List ℕ) (n : ℕ) (vs₀ vs : List ℕ) (i j : ℕ) 
   pub high : i ≤ n
   pub low : j ≤ i
   pub len : length vs ≡ length vs₀
-  pub is : (p : List ℕ) → seqsIn j vs p ≡ keepAt (keptBy mp) 0 (seqsIn i vs₀ p)
+  pub is : (p : List ℕ) → seqs_in j vs p ≡ keep_at (kept_by mp) 0 (seqs_in i vs₀ p)
   pub within : (used : ℕ) → Within used n vs₀ → Within used j vs
   pub rest : (k : ℕ) → 2 * i ≤ k → get_or vs k 0 ≡ get_or vs₀ k 0
 
 module _ {mp : List ℕ} {n : ℕ} {vs₀ : List ℕ} where
   pub closing-v-start : ClosingV mp n vs₀ vs₀ 0 0
-  unfolding keepAt
+  unfolding keep_at
   closing-v-start = record {
     high = omega arith;
     low = omega arith;
     len = refl;
-    is = λ p. tab-zero _ ∙ sym (ap (keepAt (keptBy mp) 0) (tab-zero _));
+    is = λ p. tab-zero _ ∙ sym (ap (keep_at (kept_by mp) 0) (tab-zero _));
     within = λ used w. record { at = λ v h. absurd (omega arith) };
     rest = λ k h. refl;
   }
@@ -203,20 +203,20 @@ module _ {mp : List ℕ} {n : ℕ} {vs₀ : List ℕ} where
       high = omega arith;
       low = omega arith;
       len = C.len;
-      is = λ p. C.is p ∙ sym (keepAt-tab-no (keptBy mp) i (seqIn vs₀ p) (ap not (eq-eqb _ _ z)));
+      is = λ p. C.is p ∙ sym (keep_at-tab-no (kept_by mp) i (seq_in vs₀ p) (ap not (eq-eqb _ _ z)));
       within = C.within;
       rest = λ k b. C.rest k (omega arith);
     }
 
     pub closing-v-keep : {vs' : List ℕ} {a b : ℕ} → 2 * n ≤ length vs₀ → (get_or mp i 0 ≡ 0 → ⊥) → a ≡ get_or vs (2 * i) 0
-        → b ≡ get_or vs (2 * i + 1) 0 → vs' ≡ putVertex vs j a b → ClosingV mp n vs₀ vs' (i + 1) (j + 1)
+        → b ≡ get_or vs (2 * i + 1) 0 → vs' ≡ put_vertex vs j a b → ClosingV mp n vs₀ vs' (i + 1) (j + 1)
     closing-v-keep {vs'} {a} {b} r z ha hb q = record {
       high = omega arith;
       low = omega arith;
       len = ap length q ∙ length-put-vertex vs j a b ∙ C.len;
-      is = λ p. tab-snoc j _ ∙ (λ x. tab-ext j (seqIn vs' p) (seqIn vs p) (λ k b. old p k b) x ++ (new p x ∷ []))
-          ∙ ap (λ (l : List (List ℕ)). l ++ (seqIn vs₀ p i ∷ [])) (C.is p)
-          ∙ sym (keepAt-tab-yes (keptBy mp) i (seqIn vs₀ p) (ap not (ne_eqb _ _ z)));
+      is = λ p. tab-snoc j _ ∙ (λ x. tab-ext j (seq_in vs' p) (seq_in vs p) (λ k b. old p k b) x ++ (new p x ∷ []))
+          ∙ ap (λ (l : List (List ℕ)). l ++ (seq_in vs₀ p i ∷ [])) (C.is p)
+          ∙ sym (keep_at-tab-yes (kept_by mp) i (seq_in vs₀ p) (ap not (ne_eqb _ _ z)));
       within = λ used w. record {
         at = λ v b. elim (ℕ_discrete v j) [
           | yes e ↦ rw e (omega (arith, start, size, w.at i h))
@@ -243,37 +243,37 @@ module _ {mp : List ℕ} {n : ℕ} {vs₀ : List ℕ} where
         size : get_or vs' (2 * j + 1) 0 ≡ get_or vs₀ (2 * i + 1) 0
         size = ap (λ (l : List ℕ). get_or l (2 * j + 1) 0) q ∙ put-len vs j a b room ∙ hb ∙ C.rest (2 * i + 1) (omega arith)
 
-        new : (p : List ℕ) → seqIn vs' p j ≡ seqIn vs₀ p i
+        new : (p : List ℕ) → seq_in vs' p j ≡ seq_in vs₀ p i
         new p = λ x. Rattle.store.specs.Store.part p (start x) (size x)
 
-        old : (p : List ℕ) (k : ℕ) → k < j → seqIn vs' p k ≡ seqIn vs p k
+        old : (p : List ℕ) (k : ℕ) → k < j → seq_in vs' p k ≡ seq_in vs p k
         old p k b = λ x. Rattle.store.specs.Store.part p (at (2 * k) (λ q. omega arith) (λ q. omega arith) x)
             (at (2 * k + 1) (λ q. omega arith) (λ q. omega arith) x)
 
   pub closing-v-end : {vs : List ℕ} {i j : ℕ} → ClosingV mp n vs₀ vs i j → n ≤ i → VertsClosed mp n vs₀ j vs
   closing-v-end {vs} {i} {j} C h = let e : i ≡ n = omega arith in
-      record { most = omega arith; is = λ p. C.is p ∙ ap (λ (x : ℕ). keepAt (keptBy mp) 0 (seqsIn x vs₀ p)) e; within = C.within }
+      record { most = omega arith; is = λ p. C.is p ∙ ap (λ (x : ℕ). keep_at (kept_by mp) 0 (seqs_in x vs₀ p)) e; within = C.within }
 
 -- ---- closing the edges up
 
 abbrev staying : List ℕ → Edge → Bool
-staying mp e = keptBy mp e.from && keptBy mp e.to
+staying mp e = kept_by mp e.from && kept_by mp e.to
 
 pub record ClosingE (mp : List ℕ) (m : ℕ) (es₀ es : List ℕ) (i j : ℕ) : Type 0 where
   pub high : i ≤ m
   pub low : j ≤ i
   pub len : length es ≡ length es₀
-  pub is : edgesIn j es ≡ map (remapEdge (keptBy mp)) (keepIf (staying mp) (edgesIn i es₀))
+  pub is : edges_in j es ≡ map (remap_edge (kept_by mp)) (keep_if (staying mp) (edges_in i es₀))
   pub rest : (k : ℕ) → 4 * i ≤ k → get_or es k 0 ≡ get_or es₀ k 0
 
 module _ {mp : List ℕ} {m : ℕ} {es₀ : List ℕ} where
   pub closing-e-start : ClosingE mp m es₀ es₀ 0 0
-  unfolding keepIf
+  unfolding keep_if
   closing-e-start = record {
     high = omega arith;
     low = omega arith;
     len = refl;
-    is = tab-zero _ ∙ sym (ap (λ (l : List Edge). map (remapEdge (keptBy mp)) (keepIf (staying mp) l)) (tab-zero _));
+    is = tab-zero _ ∙ sym (ap (λ (l : List Edge). map (remap_edge (kept_by mp)) (keep_if (staying mp) l)) (tab-zero _));
     rest = λ k h. refl;
   }
 
@@ -287,49 +287,49 @@ module _ {mp : List ℕ} {m : ℕ} {es₀ : List ℕ} where
     pub closing-e-ends : {n : ℕ} → EndsBelow n m es₀ → (fr < n) × (to < n)
     closing-e-ends E = (omega (arith, from-was, (E.at i h).0), omega (arith, to-was, (E.at i h).1))
 
-    pub closing-e-drop : keptBy mp fr && keptBy mp to ≡ false → ClosingE mp m es₀ es (i + 1) j
+    pub closing-e-drop : kept_by mp fr && kept_by mp to ≡ false → ClosingE mp m es₀ es (i + 1) j
     closing-e-drop t = record {
       high = omega arith;
       low = omega arith;
       len = C.len;
-      is = C.is ∙ sym (ap (map (remapEdge (keptBy mp))) (keepIf-tab-no (staying mp) i (edgeIn es₀) (rw (← from-was, ← to-was) t)));
+      is = C.is ∙ sym (ap (map (remap_edge (kept_by mp))) (keep_if-tab-no (staying mp) i (edge_in es₀) (rw (← from-was, ← to-was) t)));
       rest = λ k b. C.rest k (omega arith);
     }
 
-    pub closing-e-keep : {es' : List ℕ} {n s f : ℕ} → 4 * m ≤ length es₀ → Numbered n mp → EndsBelow n m es₀ → keptBy mp fr && keptBy mp to ≡ true
-        → s ≡ get_or es (4 * i + 2) 0 → f ≡ get_or es (4 * i + 3) 0 → es' ≡ putEdge es j (get_or mp fr 0 - 1) (get_or mp to 0 - 1) s f
+    pub closing-e-keep : {es' : List ℕ} {n s f : ℕ} → 4 * m ≤ length es₀ → Numbered n mp → EndsBelow n m es₀ → kept_by mp fr && kept_by mp to ≡ true
+        → s ≡ get_or es (4 * i + 2) 0 → f ≡ get_or es (4 * i + 3) 0 → es' ≡ put_edge es j (get_or mp fr 0 - 1) (get_or mp to 0 - 1) s f
         → ClosingE mp m es₀ es' (i + 1) (j + 1)
-    unfolding remapEdge
+    unfolding remap_edge
     closing-e-keep {es'} {n} {s} {f} r N E t hs hg q = record {
       high = omega arith;
       low = omega arith;
       len = ap length q ∙ length-put es j _ _ s f ∙ C.len;
-      is = ap (edgesIn (j + 1)) q ∙ put-push j es _ _ s f (omega (arith, C.len))
+      is = ap (edges_in (j + 1)) q ∙ put-push j es _ _ s f (omega (arith, C.len))
           ∙ (λ x. C.is x ++ (new x ∷ []))
-          ∙ sym (ap (map (remapEdge (keptBy mp))) (keepIf-tab-yes (staying mp) i (edgeIn es₀) (rw (← from-was, ← to-was) t))
-          ∙ map-append (remapEdge (keptBy mp)) (keepIf (staying mp) (edgesIn i es₀)) (edgeIn es₀ i ∷ []));
+          ∙ sym (ap (map (remap_edge (kept_by mp))) (keep_if-tab-yes (staying mp) i (edge_in es₀) (rw (← from-was, ← to-was) t))
+          ∙ map-append (remap_edge (kept_by mp)) (keep_if (staying mp) (edges_in i es₀)) (edge_in es₀ i ∷ []));
       rest = λ k b. rw q (Rattle.store.proofs.EdgeLaws.put-at es j _ _ s f k (λ z. omega arith) (λ z. omega arith) (λ z. omega arith) (λ z.
           omega arith) ∙ C.rest k (omega arith));
     }
       where
-        yes : (keptBy mp fr ≡ true) × (keptBy mp to ≡ true)
+        yes : (kept_by mp fr ≡ true) × (kept_by mp to ≡ true)
         yes = and_split _ _ t
 
         below : (fr < n) × (to < n)
         below = closing-e-ends E
 
-        a-is : get_or mp fr 0 - 1 ≡ rank (keptBy mp) (get_or es₀ (4 * i) 0)
-        a-is = omega (arith, N.is fr below.0 yes.0) ∙ ap (rank (keptBy mp)) from-was
+        a-is : get_or mp fr 0 - 1 ≡ rank (kept_by mp) (get_or es₀ (4 * i) 0)
+        a-is = omega (arith, N.is fr below.0 yes.0) ∙ ap (rank (kept_by mp)) from-was
 
-        b-is : get_or mp to 0 - 1 ≡ rank (keptBy mp) (get_or es₀ (4 * i + 1) 0)
-        b-is = omega (arith, N.is to below.1 yes.1) ∙ ap (rank (keptBy mp)) to-was
+        b-is : get_or mp to 0 - 1 ≡ rank (kept_by mp) (get_or es₀ (4 * i + 1) 0)
+        b-is = omega (arith, N.is to below.1 yes.1) ∙ ap (rank (kept_by mp)) to-was
 
-        new : edge (get_or mp fr 0 - 1) (get_or mp to 0 - 1) s f ≡ remapEdge (keptBy mp) (edgeIn es₀ i)
+        new : edge (get_or mp fr 0 - 1) (get_or mp to 0 - 1) s f ≡ remap_edge (kept_by mp) (edge_in es₀ i)
         new = λ x. edge (a-is x) (b-is x) ((hs ∙ C.rest (4 * i + 2) (omega arith)) x) ((hg ∙ C.rest (4 * i + 3) (omega arith)) x)
 
   pub closing-e-end : {es : List ℕ} {i j : ℕ} → ClosingE mp m es₀ es i j → m ≤ i → EdgesClosed mp m es₀ j es
   closing-e-end {es} {i} {j} C h = let e : i ≡ m = omega arith in
-      record { most = omega arith; is = C.is ∙ ap (λ (x : ℕ). map (remapEdge (keptBy mp)) (keepIf (staying mp) (edgesIn x es₀))) e }
+      record { most = omega arith; is = C.is ∙ ap (λ (x : ℕ). map (remap_edge (kept_by mp)) (keep_if (staying mp) (edges_in x es₀))) e }
 
 pub closing-e-from : {mp es₀ es : List ℕ} {m n i j fr : ℕ} → ClosingE mp m es₀ es i j → i < m → fr ≡ get_or es (4 * i) 0 → EndsBelow n m es₀ → fr < n
 closing-e-from {i = i} C h hf E = omega (arith, hf, C.rest (4 * i) (omega arith), (E.at i h).0)

@@ -1,9 +1,9 @@
 -- What closing up does to the slices. Assumes nothing.
 use Rattle.std.specs.Prelude.{◌≡◌, Bool, true, not, ◌&&◌, List, [], ◌∷◌, ◌++◌, map, ℕ, suc, ◌+◌, ◌*◌, ◌≤◌, ◌<◌, length, get_or, eqb}
-use Rattle.defs.specs.Lists.{bit, elem_of, keepIf, keepAt, rank}
-use Rattle.defs.specs.SeqGraph.{Edge, Graph, remapEdge, compactVertices, keeps, removeVerticesById}
+use Rattle.defs.specs.Lists.{bit, elem_of, keep_if, keep_at, rank}
+use Rattle.defs.specs.SeqGraph.{Edge, Graph, remap_edge, compact_vertices, keeps, remove_vertices_by_id}
 use Rattle.compact.specs.declared.Counts.{Counts}
-use Rattle.store.specs.Store.{is_set, edgeIn, edgesIn, seqIn, seqsIn, graphIn, numsIn, EndsBelow, Within, keptBy, Numbered}
+use Rattle.store.specs.Store.{is_set, edge_in, edges_in, seq_in, seqs_in, graph_in, nums_in, EndsBelow, Within, kept_by, Numbered}
 
 pub record BothSet (a b : ℕ) (r : Bool) : Type 0 where
   pub is : r ≡ is_set a && is_set b
@@ -22,18 +22,18 @@ pub record Marked (gone : List ℕ) (n : ℕ) (mp : List ℕ) : Type 0 where
 -- the marks of n vertices became new numbers
 pub record Renumbered (mp₀ : List ℕ) (n : ℕ) (mp : List ℕ) : Type 0 where
   pub numbered : Numbered n mp
-  pub same : (v : ℕ) → v < n → keptBy mp v ≡ eqb (get_or mp₀ v 0) 0
+  pub same : (v : ℕ) → v < n → kept_by mp v ≡ eqb (get_or mp₀ v 0) 0
 
 -- of n vertices r are left: those that stay, in order
 pub record VertsClosed (mp : List ℕ) (n : ℕ) (vs : List ℕ) (r : ℕ) (vs' : List ℕ) : Type 0 where
   pub most : r ≤ n
-  pub is : (p : List ℕ) → seqsIn r vs' p ≡ keepAt (keptBy mp) 0 (seqsIn n vs p)
+  pub is : (p : List ℕ) → seqs_in r vs' p ≡ keep_at (kept_by mp) 0 (seqs_in n vs p)
   pub within : (used : ℕ) → Within used n vs → Within used r vs'
 
 -- of m edges r are left: those whose ends stay, in order, under their new numbers
 pub record EdgesClosed (mp : List ℕ) (m : ℕ) (es : List ℕ) (r : ℕ) (es' : List ℕ) : Type 0 where
   pub most : r ≤ m
-  pub is : edgesIn r es' ≡ map (remapEdge (keptBy mp)) (keepIf (λ (e : Edge). keptBy mp e.from && keptBy mp e.to) (edgesIn m es))
+  pub is : edges_in r es' ≡ map (remap_edge (kept_by mp)) (keep_if (λ (e : Edge). kept_by mp e.from && kept_by mp e.to) (edges_in m es))
 
 -- the vertices without a mark stay
 abbrev pub unmarked : List ℕ → ℕ → Bool
@@ -53,7 +53,7 @@ pub record Compacted (n m : ℕ) (es vs mp : List ℕ) (r : Counts) (es' vs' mp'
   pub most-m : r.m ≤ m
   pub ends : EndsBelow r.n r.m es'
   pub within : (used : ℕ) → Within used n vs → Within used r.n vs'
-  pub is : (k : ℕ) (p : List ℕ) → graphIn k r.n r.m es' vs' p ≡ compactVertices (unmarked mp) (graphIn k n m es vs p)
+  pub is : (k : ℕ) (p : List ℕ) → graph_in k r.n r.m es' vs' p ≡ compact_vertices (unmarked mp) (graph_in k n m es vs p)
   pub renumbered : Renumbered mp n mp'
 
 -- g numbers of vertices below n
@@ -67,6 +67,6 @@ pub record Removed (n m : ℕ) (es vs gone : List ℕ) (r : Counts) (es' vs' mp'
   pub most-m : r.m ≤ m
   pub ends : EndsBelow r.n r.m es'
   pub within : (used : ℕ) → Within used n vs → Within used r.n vs'
-  pub is : (k : ℕ) (p : List ℕ) → graphIn k r.n r.m es' vs' p ≡ removeVerticesById gone (graphIn k n m es vs p)
+  pub is : (k : ℕ) (p : List ℕ) → graph_in k r.n r.m es' vs' p ≡ remove_vertices_by_id gone (graph_in k n m es vs p)
   pub numbered : Numbered n mp'
-  pub kept : (v : ℕ) → v < n → keptBy mp' v ≡ keeps gone v
+  pub kept : (v : ℕ) → v < n → kept_by mp' v ≡ keeps gone v

@@ -1,6 +1,6 @@
 // Vertices that go: the numbers of the others close up, in place (`compact_vertices_and_remap_edges`).
 ghost use Rattle.std.specs.Prelude.{◌≡◌, ℕ, ◌+◌, ◌*◌, ◌<◌, ◌≤◌, length, get_or};
-ghost use Rattle.store.specs.Store.{numsIn, EndsBelow, Numbered};
+ghost use Rattle.store.specs.Store.{nums_in, EndsBelow, Numbered};
 ghost use Rattle.compact.specs.Compact.{BothSet, Cleared, Marked, Renumbered, VertsClosed, EdgesClosed, Compactable, Compacted, Below, Removed};
 
 #[derive(Drop)]
@@ -37,7 +37,7 @@ pub fn clear_marks(marks: &mut [u8], from: usize, to: usize)
 pub fn mark_gone(map: &mut [u32], n: usize, gone: &[u32], g: usize)
     requires n_in_bounds { (n ≤ length map.old) × (g ≤ length gone.now) }
     requires by_index { (k : ℕ) → k < g → get_or gone.now k 0 < n }
-    ensures { Marked (numsIn g gone.now) n map.new }
+    ensures { Marked (nums_in g gone.now) n map.new }
 {
     fill(map, n, 0);
     let mut i = 0;
@@ -142,7 +142,7 @@ pub fn remove_vertices_by_id(
     map: &mut [u32],
 ) -> Counts
     requires { Compactable n m es.old vs.old map.old × Below gone.now g n }
-    ensures { Removed n m es.old vs.old (numsIn g gone.now) result es.new vs.new map.new }
+    ensures { Removed n m es.old vs.old (nums_in g gone.now) result es.new vs.new map.new }
 {
     mark_gone(map, n, gone, g);
     compact_vertices(es, vs, n, m, map)

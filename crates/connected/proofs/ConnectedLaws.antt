@@ -10,8 +10,8 @@ use lib.ListN.{length, get_or, set, length-set}
 use lib.Seq.{get_or-set_same, get_or-set_other}
 use borrow.Author.Tests.{eq-eqb, ne_eqb}
 use Rattle.defs.specs.Lists.{elem_of}
-use Rattle.defs.specs.SeqGraph.{Graph, nodeCount, compactVertices}
-use Rattle.defs.specs.Cleanup.{forward, backward, either, reached, removeVerticesNotConnectedToRef, removePathsNotConnectedToRef}
+use Rattle.defs.specs.SeqGraph.{Graph, node_count, compact_vertices}
+use Rattle.defs.specs.Cleanup.{forward, backward, either, reached, remove_vertices_not_connected_to_ref, remove_paths_not_connected_to_ref}
 use Rattle.store.specs.Store.{is_set, EndsBelow}
 use Rattle.compact.specs.Compact.{unmarked}
 use Rattle.compact.proofs.CompactLaws.{restrict-same, order-in}
@@ -21,7 +21,7 @@ use Rattle.refs.specs.declared.OptionVertex.TheVariants.{Some, None}
 use Rattle.refs.proofs.RefLaws.{source-found, source-missing}
 use Rattle.memory.specs.Memory.{graph_of}
 use Rattle.memory.specs.declared.Held.{Held}
-use Rattle.reach.specs.Reach.{step_of, walkStep, Reached}
+use Rattle.reach.specs.Reach.{step_of, walk_step, Reached}
 use Rattle.orphans.specs.Orphans.{Reduced}
 use Rattle.orphans.proofs.OrphanLaws.{bounded-in}
 use Rattle.connected.specs.Connected.{Missed, Unreached}
@@ -84,31 +84,31 @@ pub reduced-same : {f : Graph → Graph} (h : Held) {es vs : List ℕ} → EndsB
 reduced-same h E same = record { is = λ p. sym (same p); most-n = omega arith; most-m = omega arith; ends = E; within = λ used W. W; used-is = refl }
 
 pub no-source-stays : (h : Held) (es vs : List ℕ) {r : OptionVertex} → FirstSource h.m h.n es r → r ≡ None → (p : List ℕ)
-    → removeVerticesNotConnectedToRef (graph_of h es vs p) ≡ graph_of h es vs p
-unfolding removeVerticesNotConnectedToRef
-no-source-stays h es vs F l p = rw (source-missing F l h.k.0 vs p, removeVerticesNotConnectedToRef)
+    → remove_vertices_not_connected_to_ref (graph_of h es vs p) ≡ graph_of h es vs p
+unfolding remove_vertices_not_connected_to_ref
+no-source-stays h es vs F l p = rw (source-missing F l h.k.0 vs p, remove_vertices_not_connected_to_ref)
 
 module _ (h : Held) (es vs : List ℕ) (E : EndsBelow h.n h.m es) (mp : List ℕ) (clear : (v : ℕ) → v < h.n → get_or mp v 0 ≡ 0) where
   stays : (v : ℕ) → v < h.n → unmarked mp v ≡ true
   stays v b = eq-eqb (get_or mp v 0) 0 (clear v b)
 
-  below : (p : List ℕ) (v : ℕ) → v < nodeCount (graph_of h es vs p) → v < h.n
+  below : (p : List ℕ) (v : ℕ) → v < node_count (graph_of h es vs p) → v < h.n
   below p v l = omega (arith, l, order-in h.k.0 h.n h.m es vs p)
 
   pub connected-stay : {r : OptionVertex} {s : ℕ} {mp' : List ℕ} → FirstSource h.m h.n es r → r ≡ Some s
-      → Unreached 2 h.m h.n es s mp mp' → (p : List ℕ) → compactVertices (unmarked mp') (graph_of h es vs p)
-      ≡ removeVerticesNotConnectedToRef (graph_of h es vs p)
-  unfolding removeVerticesNotConnectedToRef walkStep step_of
+      → Unreached 2 h.m h.n es s mp mp' → (p : List ℕ) → compact_vertices (unmarked mp') (graph_of h es vs p)
+      ≡ remove_vertices_not_connected_to_ref (graph_of h es vs p)
+  unfolding remove_vertices_not_connected_to_ref walk_step step_of
   connected-stay {s = s} {mp'} F l U p =
       let g = graph_of h es vs p in
       restrict-same (unmarked mp') (λ (v : ℕ). elem_of v (reached either g s)) g
       (λ v b. U.at h.k.0 vs p v (below p v b) ∙ ap (λ (x : Bool). x && elem_of v (reached either g s)) (stays v (below p v b)))
       (bounded-in {es = es} E h.k.0 vs p)
-      ∙ rw (source-found F l h.k.0 vs p, removeVerticesNotConnectedToRef)
+      ∙ rw (source-found F l h.k.0 vs p, remove_vertices_not_connected_to_ref)
 
   pub paths-stay : {s t : ℕ} {mp₁ mp₂ : List ℕ} → Unreached 0 h.m h.n es s mp mp₁ → Unreached 1 h.m h.n es t mp₁ mp₂
-      → (p : List ℕ) → compactVertices (unmarked mp₂) (graph_of h es vs p) ≡ removePathsNotConnectedToRef (graph_of h es vs p) s t
-  unfolding removePathsNotConnectedToRef walkStep step_of
+      → (p : List ℕ) → compact_vertices (unmarked mp₂) (graph_of h es vs p) ≡ remove_paths_not_connected_to_ref (graph_of h es vs p) s t
+  unfolding remove_paths_not_connected_to_ref walk_step step_of
   paths-stay {s} {t} {mp₁} {mp₂} A B p =
       let g = graph_of h es vs p in
       restrict-same (unmarked mp₂) (λ (v : ℕ). elem_of v (reached forward g s) && elem_of v (reached backward g t)) g

@@ -1,7 +1,7 @@
 // What no walk along the edges reaches goes (`remove_vertices_not_connected_to_ref`, `remove_paths_not_connected_to_ref`).
 ghost use Rattle.std.specs.Prelude.{◌+◌, ◌<◌, ◌≤◌, length};
 ghost use Rattle.defs.specs.SeqGraph.{Graph};
-ghost use Rattle.defs.specs.Cleanup.{removeVerticesNotConnectedToRef, removePathsNotConnectedToRef};
+ghost use Rattle.defs.specs.Cleanup.{remove_vertices_not_connected_to_ref, remove_paths_not_connected_to_ref};
 ghost use Rattle.compact.specs.Compact.{Compactable};
 ghost use Rattle.index.specs.Index.{Indexed};
 ghost use Rattle.reach.specs.Reach.{Walkable};
@@ -59,7 +59,7 @@ pub fn remove_vertices_not_connected_to_ref(
 ) -> Held
     requires { Compactable held.n held.m es.old vs.old map.old
         × (Indexed held.m held.n es.old heads.now nexts.now × Walkable held.n tried.old nodes.old) }
-    ensures { Reduced removeVerticesNotConnectedToRef held es.old vs.old result es.new vs.new }
+    ensures { Reduced remove_vertices_not_connected_to_ref held es.old vs.old result es.new vs.new }
 {
     let n = held.n;
     let m = held.m;
@@ -86,7 +86,7 @@ pub fn remove_paths_not_connected_to_ref(
 ) -> Held
     requires { (s < held.n) × ((t < held.n) × (Compactable held.n held.m es.old vs.old map.old
         × (Indexed held.m held.n es.old heads.now nexts.now × Walkable held.n tried.old nodes.old))) }
-    ensures { Reduced (λ (g : Graph). removePathsNotConnectedToRef g s t) held es.old vs.old result es.new
+    ensures { Reduced (λ (g : Graph). remove_paths_not_connected_to_ref g s t) held es.old vs.old result es.new
         vs.new }
 {
     let n = held.n;

@@ -8,9 +8,9 @@ use lib.ListN.{length, get_or, set, length-set}
 use lib.Seq.{get_or-set_same, get_or-set_other}
 use Rattle.defs.specs.Lists.{tab}
 use Rattle.defs.specs.SeqGraph.{Edge}
-use Rattle.defs.specs.Assembly.{additionalSequence, fromAssemblyGraph}
-use Rattle.tabs.proofs.Tabs.{tab-ext, getD-tab}
-use Rattle.store.specs.Store.{edge, edgeIn, edgesIn, putEdge, graphIn, EndsBelow, Within}
+use Rattle.defs.specs.Assembly.{additional_sequence, from_assembly_graph}
+use Rattle.tabs.proofs.Tabs.{tab-ext, get_or-tab}
+use Rattle.store.specs.Store.{edge, edge_in, edges_in, put_edge, graph_in, EndsBelow, Within}
 use Rattle.compact.proofs.CompactLaws.{order-in}
 use Rattle.store.proofs.EdgeLaws.{length-put, put_same, put_other}
 use Rattle.sort.specs.Sort.{Permutation, Sortable}
@@ -49,7 +49,7 @@ module _ {n : ℕ} {order place₀ : List ℕ} (N : Permutation n order) {place 
 pub record CopyingEdges (m : ℕ) (es order out₀ out : List ℕ) (i : ℕ) : Type 0 where
   pub high : i ≤ m
   pub len : length out ≡ length out₀
-  pub done : (j : ℕ) → j < i → edgeIn out j ≡ edgeIn es (get_or order j 0)
+  pub done : (j : ℕ) → j < i → edge_in out j ≡ edge_in es (get_or order j 0)
 
 pub copying-start : {m : ℕ} {es order out : List ℕ} → CopyingEdges m es order out out 0
 copying-start = record { high = omega arith; len = refl; done = λ j b. absurd (omega arith) }
@@ -57,18 +57,18 @@ copying-start = record { high = omega arith; len = refl; done = λ j b. absurd (
 module _ {m : ℕ} {es order out₀ out : List ℕ} {i : ℕ} (C : CopyingEdges m es order out₀ out i) where
   pub copying-more : {a b s r : ℕ} {out' : List ℕ} → 4 * m ≤ length out₀ → i < m → a ≡ get_or es (4 * get_or order i 0) 0 → b
       ≡ get_or es (4 * get_or order i 0 + 1) 0 → s ≡ get_or es (4 * get_or order i 0 + 2) 0 → r ≡ get_or es (4 * get_or order i 0 + 3) 0
-      → out' ≡ putEdge out i a b s r → CopyingEdges m es order out₀ out' (i + 1)
+      → out' ≡ put_edge out i a b s r → CopyingEdges m es order out₀ out' (i + 1)
   copying-more {a} {b} {s} {r} {out'} room h qa qb qs qr e = record {
     high = omega arith;
     len = ap length e ∙ length-put out i a b s r ∙ C.len;
     done = λ j c. elim (ℕ_discrete j i) [
-      | yes q ↦ rw q (ap (λ (l : List ℕ). edgeIn l i) e ∙ put_same out i a b s r (omega (arith, C.len)) ∙ (λ x. edge (qa x) (qb x) (qs x) (qr x)))
-      | no ne ↦ ap (λ (l : List ℕ). edgeIn l j) e ∙ put_other out i a b s r j ne ∙ C.done j (omega arith)
+      | yes q ↦ rw q (ap (λ (l : List ℕ). edge_in l i) e ∙ put_same out i a b s r (omega (arith, C.len)) ∙ (λ x. edge (qa x) (qb x) (qs x) (qr x)))
+      | no ne ↦ ap (λ (l : List ℕ). edge_in l j) e ∙ put_other out i a b s r j ne ∙ C.done j (omega arith)
     ];
   }
 
-  pub copying-end : m ≤ i → edgesIn m out ≡ tab m (λ (j : ℕ). edgeIn es (get_or order j 0))
-  copying-end h = tab-ext m (edgeIn out) (λ (j : ℕ). edgeIn es (get_or order j 0)) (λ j b. C.done j (omega arith))
+  pub copying-end : m ≤ i → edges_in m out ≡ tab m (λ (j : ℕ). edge_in es (get_or order j 0))
+  copying-end h = tab-ext m (edge_in out) (λ (j : ℕ). edge_in es (get_or order j 0)) (λ j b. C.done j (omega arith))
 
 -- ---- all together
 
@@ -86,19 +86,19 @@ module _ {m n : ℕ} {es order scratch place out : List ℕ} (C : Convertible m 
   }
 
   -- an edge of `out` is one of es
-  copied-ends : {place₁ order' out' : List ℕ} → EdgeOrder m es place₁ order' → edgesIn m out'
-      ≡ tab m (λ (j : ℕ). edgeIn es (get_or order' j 0)) → EndsBelow n m out'
+  copied-ends : {place₁ order' out' : List ℕ} → EdgeOrder m es place₁ order' → edges_in m out'
+      ≡ tab m (λ (j : ℕ). edge_in es (get_or order' j 0)) → EndsBelow n m out'
   copied-ends {order' = order'} {out' = out'} O e = record {
     at = λ j b. let z = C.ends.at (get_or order' j 0) (O.numbers.below j b) in
         let q = same j b in (omega (arith, z.0, ap (λ (x : Edge). x.from) q), omega (arith, z.1, ap (λ (x : Edge). x.to) q));
   }
     where
-      same : (j : ℕ) → j < m → edgeIn out' j ≡ edgeIn es (get_or order' j 0)
-      same j b = sym (getD-tab m (edgeIn out') j (edge 0 0 0 0) b) ∙ ap (λ (l : List Edge). get_or l j (edge 0 0 0 0)) e
-          ∙ getD-tab m (λ (j : ℕ). edgeIn es (get_or order' j 0)) j (edge 0 0 0 0) b
+      same : (j : ℕ) → j < m → edge_in out' j ≡ edge_in es (get_or order' j 0)
+      same j b = sym (get_or-tab m (edge_in out') j (edge 0 0 0 0) b) ∙ ap (λ (l : List Edge). get_or l j (edge 0 0 0 0)) e
+          ∙ get_or-tab m (λ (j : ℕ). edge_in es (get_or order' j 0)) j (edge 0 0 0 0) b
 
   pub edges-done : {place₁ order₂ out' : List ℕ} → Places n order place₁ → EdgeOrder m es place₁ order₂
-      → edgesIn m out' ≡ tab m (λ (j : ℕ). edgeIn es (get_or order₂ j 0)) → EdgesSorted m n es order out'
+      → edges_in m out' ≡ tab m (λ (j : ℕ). edge_in es (get_or order₂ j 0)) → EdgesSorted m n es order out'
   edges-done P O e = record {
     is = λ k vs p S K. e ∙ places-sorted S K P k C.ends O;
     ends = copied-ends O e;
@@ -106,11 +106,11 @@ module _ {m n : ℕ} {es order scratch place out : List ℕ} (C : Convertible m 
 
 -- the sorted edges and the additional sequences are the converted graph
 pub converted : {m n : ℕ} {es vs vs' order out : List ℕ} (k : ℕ) (p : List ℕ) → Within (length p) n vs → Separate m n es vs p
-    → KmerOrder n vs p order → Trimmed m n es vs vs' → EdgesSorted m n es order out → graphIn k n m out vs' p
-    ≡ fromAssemblyGraph (graphIn k n m es vs p)
-unfolding fromAssemblyGraph
+    → KmerOrder n vs p order → Trimmed m n es vs vs' → EdgesSorted m n es order out → graph_in k n m out vs' p
+    ≡ from_assembly_graph (graph_in k n m es vs p)
+unfolding from_assembly_graph
 converted {m} {n} {es} {vs} {vs'} k p W A K T S = λ i. record {
   k = k;
-  verts = (T.is k p W ∙ ap (λ (x : ℕ). tab x (additionalSequence (graphIn k n m es vs p))) (sym (order-in k n m es vs p))) i;
+  verts = (T.is k p W ∙ ap (λ (x : ℕ). tab x (additional_sequence (graph_in k n m es vs p))) (sym (order-in k n m es vs p))) i;
   edges = S.is k vs p A K i;
 }

@@ -8,12 +8,12 @@ use native.Mathlib.Decide.{ℕ_discrete}
 use lib.ListN.{length, get_or, drop}
 use lib.Dec.{eqb}
 use borrow.Author.Tests.{eq-eqb, ne_eqb}
-use Rattle.defs.specs.SeqGraph.{vertexSequence}
-use Rattle.defs.specs.Assembly.{additionalSequence}
-use Rattle.tabs.proofs.Tabs.{tab-ext, getD-tab}
-use Rattle.store.specs.Store.{part, seqIn, graphIn, putVertex}
+use Rattle.defs.specs.SeqGraph.{vertex_sequence}
+use Rattle.defs.specs.Assembly.{additional_sequence}
+use Rattle.tabs.proofs.Tabs.{tab-ext, get_or-tab}
+use Rattle.store.specs.Store.{part, seq_in, graph_in, put_vertex}
 use Rattle.store.proofs.VertexLaws.{last-part, put-start, put-len, put_rest, length-put-vertex}
-use Rattle.index.specs.Index.{edgeEnd, incidentEdges, Indexed}
+use Rattle.index.specs.Index.{edge_end, incident_edges, Indexed}
 use Rattle.index.proofs.IndexLaws.{in-degree-is, at_none, at_first}
 use Rattle.convert.specs.Convert.{Trimmable, Trimmed}
 
@@ -21,8 +21,8 @@ use Rattle.convert.specs.Convert.{Trimmable, Trimmed}
 
 -- a vertex has its place: the k-mer's, or its last byte's
 pub record TrimmedPlace (m : ℕ) (es vs₀ vs : List ℕ) (u : ℕ) : Type 0 where
-  pub start : get_or vs (2 * u) 0 ≡ cond (eqb (length (incidentEdges (edgeEnd 1 es) m u)) 0) (get_or vs₀ (2 * u) 0) (get_or vs₀ (2 * u) 0 + (get_or vs₀ (2 * u + 1) 0 - 1))
-  pub len : get_or vs (2 * u + 1) 0 ≡ cond (eqb (length (incidentEdges (edgeEnd 1 es) m u)) 0) (get_or vs₀ (2 * u + 1) 0) 1
+  pub start : get_or vs (2 * u) 0 ≡ cond (eqb (length (incident_edges (edge_end 1 es) m u)) 0) (get_or vs₀ (2 * u) 0) (get_or vs₀ (2 * u) 0 + (get_or vs₀ (2 * u + 1) 0 - 1))
+  pub len : get_or vs (2 * u + 1) 0 ≡ cond (eqb (length (incident_edges (edge_end 1 es) m u)) 0) (get_or vs₀ (2 * u + 1) 0) 1
 
 pub record Trimming (m n : ℕ) (es vs₀ vs : List ℕ) (v : ℕ) : Type 0 where
   pub high : v ≤ n
@@ -36,11 +36,11 @@ trimming-start = record { high = omega arith; size = refl; done = λ u b. absurd
 
 module _ {m n : ℕ} {es heads nexts vs₀ : List ℕ} (T : Trimmable n vs₀) (I : Indexed m n es heads nexts) {vs : List ℕ} {v : ℕ} (W :
     Trimming m n es vs₀ vs v) (h : v < n) where
-  none_in : m ≤ get_or heads (2 * v + 1) 0 → eqb (length (incidentEdges (edgeEnd 1 es) m v)) 0 ≡ true
+  none_in : m ≤ get_or heads (2 * v + 1) 0 → eqb (length (incident_edges (edge_end 1 es) m v)) 0 ≡ true
   none_in b = eq-eqb _ 0 (ap length (at_none (I.index 1 (omega arith)) h (get_or heads (2 * v + 1) 0) refl b))
 
-  some_in : get_or heads (2 * v + 1) 0 < m → eqb (length (incidentEdges (edgeEnd 1 es) m v)) 0 ≡ false
-  some_in b = ne_eqb _ 0 (λ (z : length (incidentEdges (edgeEnd 1 es) m v) ≡ 0).
+  some_in : get_or heads (2 * v + 1) 0 < m → eqb (length (incident_edges (edge_end 1 es) m v)) 0 ≡ false
+  some_in b = ne_eqb _ 0 (λ (z : length (incident_edges (edge_end 1 es) m v) ≡ 0).
       omega (arith, ap length (at_first (I.index 1 (omega arith)) h (get_or heads (2 * v + 1) 0) refl b)))
 
   pub trimming-kept : m ≤ get_or heads (2 * v + 1) 0 → Trimming m n es vs₀ vs (v + 1)
@@ -62,7 +62,7 @@ module _ {m n : ℕ} {es heads nexts vs₀ : List ℕ} (T : Trimmable n vs₀) (
   )
 
   pub trimming-last : {vs' : List ℕ} {start len : ℕ} → get_or heads (2 * v + 1) 0 < m → start ≡ get_or vs (2 * v) 0 → len ≡ get_or vs (2 * v + 1) 0
-      → vs' ≡ putVertex vs v (start + (len - 1)) 1 → Trimming m n es vs₀ vs' (v + 1)
+      → vs' ≡ put_vertex vs v (start + (len - 1)) 1 → Trimming m n es vs₀ vs' (v + 1)
   trimming-last {vs'} b qs ql e = record {
     high = omega arith;
     size = ap length e ∙ length-put-vertex vs v _ 1 ∙ W.size;
@@ -92,7 +92,7 @@ module _ {m n : ℕ} {es heads nexts vs₀ : List ℕ} (T : Trimmable n vs₀) (
 placed-seq : (b : Bool) (vs₀ vs p : List ℕ) (u : ℕ) → get_or vs₀ (2 * u) 0 + get_or vs₀ (2 * u + 1) 0 ≤ length p → 1 ≤ get_or vs₀ (2 * u + 1) 0
     → get_or vs (2 * u) 0 ≡ cond b (get_or vs₀ (2 * u) 0) (get_or vs₀ (2 * u) 0 + (get_or vs₀ (2 * u + 1) 0 - 1)) → get_or vs (2 * u + 1) 0
     ≡ cond b (get_or vs₀ (2 * u + 1) 0) 1
-    → seqIn vs p u ≡ cond b (seqIn vs₀ p u) (drop (length (seqIn vs₀ p u) - 1) (seqIn vs₀ p u))
+    → seq_in vs p u ≡ cond b (seq_in vs₀ p u) (drop (length (seq_in vs₀ p u) - 1) (seq_in vs₀ p u))
 placed-seq true vs₀ vs p u w o a b = λ i. part p (a i) (b i)
 placed-seq false vs₀ vs p u w o a b = (λ i. part p (a i) (b i)) ∙ last-part p (get_or vs₀ (2 * u) 0) (get_or vs₀ (2 * u + 1) 0) 1 w o
 
@@ -106,18 +106,18 @@ placed-shorter false l l' o q = omega arith
 
 pub trimming-end : {m n : ℕ} {es vs₀ vs : List ℕ} {v : ℕ} → Trimmable n vs₀ → Trimming m n es vs₀ vs v → n ≤ v → Trimmed m n es vs₀ vs
 trimming-end {m} {n} {es} {vs₀} {vs} {v} T W h = record {
-  is = λ k p w. tab-ext n (seqIn vs p) (additionalSequence (graphIn k n m es vs₀ p)) (λ u b. let P = W.done u (omega arith) in
-      placed-seq (eqb (length (incidentEdges (edgeEnd 1 es) m u)) 0) vs₀ vs p u (w.at u b) (T.whole u b) P.start P.len ∙ sym (additional k p u b));
+  is = λ k p w. tab-ext n (seq_in vs p) (additional_sequence (graph_in k n m es vs₀ p)) (λ u b. let P = W.done u (omega arith) in
+      placed-seq (eqb (length (incident_edges (edge_end 1 es) m u)) 0) vs₀ vs p u (w.at u b) (T.whole u b) P.start P.len ∙ sym (additional k p u b));
   shorter = λ u b. let P = W.done u (omega arith) in placed-shorter
-      (eqb (length (incidentEdges (edgeEnd 1 es) m u)) 0) _ _ (T.whole u b) P.len;
+      (eqb (length (incident_edges (edge_end 1 es) m u)) 0) _ _ (T.whole u b) P.len;
   within = λ used w. record {
     at = λ u b. let P = W.done u (omega arith) in placed-within
-        (eqb (length (incidentEdges (edgeEnd 1 es) m u)) 0) _ _ _ _ used (w.at u b) (T.whole u b) P.start P.len;
+        (eqb (length (incident_edges (edge_end 1 es) m u)) 0) _ _ _ _ used (w.at u b) (T.whole u b) P.start P.len;
   };
 }
   where
-    additional : (k : ℕ) (p : List ℕ) (u : ℕ) → u < n → additionalSequence (graphIn k n m es vs₀ p) u
-        ≡ cond (eqb (length (incidentEdges (edgeEnd 1 es) m u)) 0) (seqIn vs₀ p u) (drop (length (seqIn vs₀ p u) - 1) (seqIn vs₀ p u))
-    additional k p u b = unfold additionalSequence vertexSequence in
-        (λ i. cond (eqb (in-degree-is k n m es vs₀ p u i) 0) (getD-tab n (seqIn vs₀ p) u [] b i)
-        (drop (length (getD-tab n (seqIn vs₀ p) u [] b i) - 1) (getD-tab n (seqIn vs₀ p) u [] b i)))
+    additional : (k : ℕ) (p : List ℕ) (u : ℕ) → u < n → additional_sequence (graph_in k n m es vs₀ p) u
+        ≡ cond (eqb (length (incident_edges (edge_end 1 es) m u)) 0) (seq_in vs₀ p u) (drop (length (seq_in vs₀ p u) - 1) (seq_in vs₀ p u))
+    additional k p u b = unfold additional_sequence vertex_sequence in
+        (λ i. cond (eqb (in-degree-is k n m es vs₀ p u i) 0) (get_or-tab n (seq_in vs₀ p) u [] b i)
+        (drop (length (get_or-tab n (seq_in vs₀ p) u [] b i) - 1) (get_or-tab n (seq_in vs₀ p) u [] b i)))

@@ -1,8 +1,8 @@
 -- The vertices of a k-mer graph that is converted. Assumes nothing.
 use Rattle.std.specs.Prelude.{◌≡◌, List, ℕ, ◌+◌, ◌*◌, ◌≤◌, ◌<◌, length, get_or}
 use Rattle.defs.specs.Lists.{tab}
-use Rattle.defs.specs.Assembly.{additionalSequence, edgesSorted}
-use Rattle.store.specs.Store.{edgesIn, seqIn, seqsIn, graphIn, EndsBelow, Within}
+use Rattle.defs.specs.Assembly.{additional_sequence, edges_sorted}
+use Rattle.store.specs.Store.{edges_in, seq_in, seqs_in, graph_in, EndsBelow, Within}
 use Rattle.sort.specs.Sort.{Permutation}
 use Rattle.kmer_order.specs.Order.{KmerOrder}
 
@@ -14,13 +14,13 @@ pub record Trimmable (n : ℕ) (vs : List ℕ) : Type 0 where
 
 -- each vertex has its additional sequence, within its old one
 pub record Trimmed (m n : ℕ) (es vs vs' : List ℕ) : Type 0 where
-  pub is : (k : ℕ) (p : List ℕ) → Within (length p) n vs → seqsIn n vs' p ≡ tab n (additionalSequence (graphIn k n m es vs p))
+  pub is : (k : ℕ) (p : List ℕ) → Within (length p) n vs → seqs_in n vs' p ≡ tab n (additional_sequence (graph_in k n m es vs p))
   pub within : (used : ℕ) → Within used n vs → Within used n vs'
   pub shorter : (v : ℕ) → v < n → get_or vs' (2 * v + 1) 0 ≤ get_or vs (2 * v + 1) 0
 
 -- the k-mers are distinct, and no edge is there twice
 pub record Separate (m n : ℕ) (es vs p : List ℕ) : Type 0 where
-  pub kmers : (u v : ℕ) → u < n → v < n → seqIn vs p u ≡ seqIn vs p v → u ≡ v
+  pub kmers : (u v : ℕ) → u < n → v < n → seq_in vs p u ≡ seq_in vs p v → u ≡ v
   pub edges : (a b : ℕ) → a < m → b < m → get_or es (4 * a) 0 ≡ get_or es (4 * b) 0 → get_or es (4 * a + 1) 0 ≡ get_or es (4 * b + 1) 0 → a ≡ b
 
 -- place has where each number stands in the order
@@ -47,5 +47,5 @@ pub record Convertible (m n : ℕ) (es order scratch place out : List ℕ) : Typ
 
 -- the edges, in the order of the k-mers where the vertices were in that order
 pub record EdgesSorted (m n : ℕ) (es order out : List ℕ) : Type 0 where
-  pub is : (k : ℕ) (vs p : List ℕ) → Separate m n es vs p → KmerOrder n vs p order → edgesIn m out ≡ edgesSorted (graphIn k n m es vs p)
+  pub is : (k : ℕ) (vs p : List ℕ) → Separate m n es vs p → KmerOrder n vs p order → edges_in m out ≡ edges_sorted (graph_in k n m es vs p)
   pub ends : EndsBelow n m out

@@ -3,7 +3,7 @@
 ghost use Rattle.std.specs.Prelude.{◌≡◌, ℕ, ◌+◌, ◌*◌, ◌<◌, ◌≤◌, length, get_or};
 ghost use Rattle.index.specs.Index.{Indexed};
 ghost use Rattle.defs.specs.Lists.{tab};
-ghost use Rattle.store.specs.Store.{edgeIn, edgesIn};
+ghost use Rattle.store.specs.Store.{edge_in, edges_in};
 ghost use Rattle.sort.specs.Sort.{Permutation};
 ghost use Rattle.convert.specs.Convert.{Trimmable, Trimmed, Places, EdgesCopyable, Convertible, EdgesSorted};
 
@@ -47,7 +47,7 @@ fn put_places(order: &[u32], n: usize, place: &mut [u32])
 // Copies the m edges in the order of their numbers.
 fn copy_edges(es: &[u32], order: &[u32], m: usize, out: &mut [u32])
     requires { EdgesCopyable m es.now order.now out.old }
-    ensures { edgesIn m out.new ≡ tab m (λ (i : ℕ). edgeIn es.now (get_or order.now i 0)) }
+    ensures { edges_in m out.new ≡ tab m (λ (i : ℕ). edge_in es.now (get_or order.now i 0)) }
 {
     let mut i = 0;
     while i < m {

@@ -9,16 +9,16 @@ use mathlib.Core.List.Memᴰ
 use mathlib.Core.List.{List, [], ◌∷◌, Memᴰ}
 use lib.ListN.{length}
 use Rattle.defs.specs.Lists.{any_of, elem_of, up_from}
-use Rattle.defs.specs.SeqGraph.{Graph, nodeCount, outgoingNodes}
+use Rattle.defs.specs.SeqGraph.{Graph, node_count, outgoing_nodes}
 use Rattle.defs.specs.Cleanup.{forward, reached}
-use Rattle.defs.specs.Refusals.{hasCycle}
+use Rattle.defs.specs.Refusals.{has_cycle}
 use Rattle.defs.specs.Strings.{HasEdge}
-use Rattle.laws.proofs.Walks.{byTest}
+use Rattle.laws.proofs.Walks.{by_test}
 use Rattle.laws.proofs.ListLaws.{clash}
-use Rattle.laws.proofs.Edges.{elemOf-true, elemOf-mem}
+use Rattle.laws.proofs.Edges.{elem_of-true, elem_of-mem}
 use Rattle.laws.proofs.Counts.{Distinct}
 use Rattle.laws.proofs.Nets.{Ranks, Bounded}
-use Rattle.laws.proofs.Cycles.{Walk, one, more, Closed, anyOf-true, anyOf-mem, mem-upFrom, distinct-length, ranked-open, rounds, ranked-or-closed}
+use Rattle.laws.proofs.Cycles.{Walk, one, more, Closed, any_of-true, any_of-mem, mem-up_from, distinct-length, ranked-open, rounds, ranked-or-closed}
 use Rattle.laws.proofs.Reach.{Hop, Way, of-reached, hop-edge, edge-hop, short-reached}
 use Rattle.laws.proofs.Diamonds.{mem-outs, of-mem-outs}
 
@@ -28,16 +28,16 @@ module _ (g : Graph) where
   way-walk zero u v w h e = one (rw e at h)
   way-walk (suc n) u v w h (x, k, y) = more h (way-walk n v x w (hop-edge g v x k) y)
 
-  pub cycle-closed : hasCycle g ≡ true → Closed g
-  unfolding hasCycle
+  pub cycle-closed : has_cycle g ≡ true → Closed g
+  unfolding has_cycle
   cycle-closed t =
-      let x = anyOf-true (λ (v : ℕ). any_of (λ (w : ℕ). elem_of v (reached forward g w)) (outgoingNodes g v)) (up_from 0 (nodeCount g)) t in
-      let y = anyOf-true (λ (w : ℕ). elem_of x.0 (reached forward g w)) (outgoingNodes g x.0) x.2 in
+      let x = any_of-true (λ (v : ℕ). any_of (λ (w : ℕ). elem_of v (reached forward g w)) (outgoing_nodes g v)) (up_from 0 (node_count g)) t in
+      let y = any_of-true (λ (w : ℕ). elem_of x.0 (reached forward g w)) (outgoing_nodes g x.0) x.2 in
       let r = of-reached forward g y.0 x.0 y.2 in
       (x.0, way-walk r.0 x.0 y.0 x.0 (of-mem-outs g x.0 y.0 y.1) r.1)
 
-  pub ranked-no-cycle : (r : ℕ → ℕ) → Ranks g r → hasCycle g ≡ false
-  ranked-no-cycle r ranks = byTest (hasCycle g) (λ t. absurd (ranked-open g r ranks (cycle-closed t))) (λ t. t)
+  pub ranked-no-cycle : (r : ℕ → ℕ) → Ranks g r → has_cycle g ≡ false
+  ranked-no-cycle r ranks = by_test (has_cycle g) (λ t. absurd (ranked-open g r ranks (cycle-closed t))) (λ t. t)
 
   -- ---- a closed walk is found
 
@@ -62,10 +62,10 @@ module _ (g : Graph) where
     vs : List ℕ
     chain : Chain u vs v
     distinct : Distinct (u ∷ vs)
-    below : (x : ℕ) → Memᴰ x (u ∷ vs) → x < nodeCount g
+    below : (x : ℕ) → Memᴰ x (u ∷ vs) → x < node_count g
 
   -- its part from one of its vertices on
-  simple-from : (u v : ℕ) (vs : List ℕ) → Chain u vs v → Distinct (u ∷ vs) → ((x : ℕ) → Memᴰ x (u ∷ vs) → x < nodeCount g) → (x : ℕ)
+  simple-from : (u v : ℕ) (vs : List ℕ) → Chain u vs v → Distinct (u ∷ vs) → ((x : ℕ) → Memᴰ x (u ∷ vs) → x < node_count g) → (x : ℕ)
       → Memᴰ x (u ∷ vs) → Simple x v
   unfolding Chain
   simple-from u v [] c d b x m = ⊎_elim (λ (q : x ≡ u). rw q (record { vs = []; chain = c; distinct = d; below = b })) (λ k.
@@ -76,21 +76,21 @@ module _ (g : Graph) where
       (Memᴰ.cases_cons m)
 
   module _ (bounded : Bounded g) where
-    hop-below : (u v : ℕ) → Hop forward g u v → (u < nodeCount g) × (v < nodeCount g)
+    hop-below : (u v : ℕ) → Hop forward g u v → (u < node_count g) × (v < node_count g)
     hop-below u v k = let h = hop-edge g u v k in rw (h.2, h.3) at (bounded h.0 h.1)
 
     simple-more : (u w v : ℕ) → Hop forward g u w → Simple w v → Simple u v
     unfolding Chain
-    simple-more u w v k s = byTest (elem_of u (w ∷ s.vs))
-        (λ t. simple-from w v s.vs s.chain s.distinct s.below u (elemOf-true u (w ∷ s.vs) t))
+    simple-more u w v k s = by_test (elem_of u (w ∷ s.vs))
+        (λ t. simple-from w v s.vs s.chain s.distinct s.below u (elem_of-true u (w ∷ s.vs) t))
         (λ t. record {
           vs = w ∷ s.vs;
           chain = (k, s.chain);
-          distinct = (λ m. clash (elemOf-mem u (w ∷ s.vs) m) t, s.distinct);
+          distinct = (λ m. clash (elem_of-mem u (w ∷ s.vs) m) t, s.distinct);
           below = λ x m. ⊎_elim (λ (q : x ≡ u). rw q (hop-below u w k).0) (λ i. s.below x i) (Memᴰ.cases_cons m);
         })
 
-    simple : (n u v : ℕ) → u < nodeCount g → Way forward g n u v → Simple u v
+    simple : (n u v : ℕ) → u < node_count g → Way forward g n u v → Simple u v
     unfolding Chain
     simple zero u v h e = record {
       vs = [];
@@ -100,21 +100,21 @@ module _ (g : Graph) where
     }
     simple (suc n) u v h (w, k, y) = simple-more u w v k (simple n w v (hop-below u w k).1 y)
 
-    way-reached : (n u v : ℕ) → u < nodeCount g → Way forward g n u v → elem_of v (reached forward g u) ≡ true
+    way-reached : (n u v : ℕ) → u < node_count g → Way forward g n u v → elem_of v (reached forward g u) ≡ true
     way-reached n u v h w =
         let s = simple n u v h w in
         short-reached forward g (λ u v k. (hop-below u v k).1) (length s.vs) u v
-        (omega (arith, distinct-length (nodeCount g) (u ∷ s.vs) s.distinct s.below)) h
+        (omega (arith, distinct-length (node_count g) (u ∷ s.vs) s.distinct s.below)) h
         (chain-way u v s.vs s.chain)
 
-    pub closed-cycle : Closed g → hasCycle g ≡ true
-    unfolding hasCycle
+    pub closed-cycle : Closed g → has_cycle g ≡ true
+    unfolding has_cycle
     closed-cycle (v, k) =
         let r = walk-way k in
         let b = hop-below v r.0 (edge-hop g v r.0 r.1) in
-        anyOf-mem (λ (v : ℕ). any_of (λ (w : ℕ). elem_of v (reached forward g w)) (outgoingNodes g v)) (up_from 0 (nodeCount g))
-        (mem-upFrom 0 (nodeCount g) v (omega arith) (omega (arith, b.0)))
-        (anyOf-mem (λ (w : ℕ). elem_of v (reached forward g w)) (outgoingNodes g v) (mem-outs g v r.0 r.1) (way-reached r.2 r.0 v b.1 r.3))
+        any_of-mem (λ (v : ℕ). any_of (λ (w : ℕ). elem_of v (reached forward g w)) (outgoing_nodes g v)) (up_from 0 (node_count g))
+        (mem-up_from 0 (node_count g) v (omega arith) (omega (arith, b.0)))
+        (any_of-mem (λ (w : ℕ). elem_of v (reached forward g w)) (outgoing_nodes g v) (mem-outs g v r.0 r.1) (way-reached r.2 r.0 v b.1 r.3))
 
-    pub no-cycle-ranked : hasCycle g ≡ false → Ranks g (rounds g bounded)
+    pub no-cycle-ranked : has_cycle g ≡ false → Ranks g (rounds g bounded)
     no-cycle-ranked t = ⊎_elim (λ r. r) (λ c. clash (closed-cycle c) t) (ranked-or-closed g bounded)

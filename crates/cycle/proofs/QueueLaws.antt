@@ -18,7 +18,7 @@ use Rattle.defs.specs.Lists.{tab, rank}
 use Rattle.tabs.proofs.Tabs.{length-tab, set_more, and-no-left, and-no-right}
 use Rattle.tabs.proofs.ListTabs.{of-mem-tab}
 use Rattle.store.specs.Store.{EndsBelow}
-use Rattle.index.specs.Index.{edgeEnd}
+use Rattle.index.specs.Index.{edge_end}
 use Rattle.index.proofs.IndexLaws.{end_below}
 use Rattle.cycle.specs.Peel.{stands, entering, Queued}
 use Rattle.tabs.proofs.Ranks.{rank_same, rank_less, rank-none, distinct-tab}
@@ -75,43 +75,43 @@ stands-turn h m p e l = by_order p h
 -- ---- an edge that enters v
 
 module _ (es : List ℕ) (place : ℕ → ℕ) (h c v e : ℕ) where
-  pub entering-yes : edgeEnd 1 es e ≡ v → stands h c (place (edgeEnd 0 es e)) e ≡ true → entering es place h c v e ≡ true
+  pub entering-yes : edge_end 1 es e ≡ v → stands h c (place (edge_end 0 es e)) e ≡ true → entering es place h c v e ≡ true
   unfolding entering
   entering-yes q t = and-true _ _ (eq-eqb _ _ q) t
 
-  pub of-entering : entering es place h c v e ≡ true → (edgeEnd 1 es e ≡ v) × (stands h c (place (edgeEnd 0 es e)) e ≡ true)
+  pub of-entering : entering es place h c v e ≡ true → (edge_end 1 es e ≡ v) × (stands h c (place (edge_end 0 es e)) e ≡ true)
   unfolding entering
   of-entering t = let s = and_split _ _ t in (eqb-true _ _ s.0, s.1)
 
-  pub entering-no : stands h c (place (edgeEnd 0 es e)) e ≡ false → entering es place h c v e ≡ false
+  pub entering-no : stands h c (place (edge_end 0 es e)) e ≡ false → entering es place h c v e ≡ false
   unfolding entering
-  entering-no f = and-no-right (eqb (edgeEnd 1 es e) v) f
+  entering-no f = and-no-right (eqb (edge_end 1 es e) v) f
 
-  entering-other : (edgeEnd 1 es e ≡ v → ⊥) → entering es place h c v e ≡ false
+  entering-other : (edge_end 1 es e ≡ v → ⊥) → entering es place h c v e ≡ false
   unfolding entering
   entering-other ne = and-no-left _ (ne_eqb _ _ ne)
 
   -- no edge into v stands
-  not-entering : edgeEnd 1 es e ≡ v → entering es place h c v e ≡ false → stands h c (place (edgeEnd 0 es e)) e ≡ false
+  not-entering : edge_end 1 es e ≡ v → entering es place h c v e ≡ false → stands h c (place (edge_end 0 es e)) e ≡ false
   unfolding entering
-  not-entering q f = rw (eq-eqb (edgeEnd 1 es e) v q) at f
+  not-entering q f = rw (eq-eqb (edge_end 1 es e) v q) at f
 
-entering-same : (es : List ℕ) (place place' : ℕ → ℕ) (h c h' c' v e : ℕ) → stands h c (place (edgeEnd 0 es e)) e ≡ stands h' c' (place' (edgeEnd 0 es e)) e
+entering-same : (es : List ℕ) (place place' : ℕ → ℕ) (h c h' c' v e : ℕ) → stands h c (place (edge_end 0 es e)) e ≡ stands h' c' (place' (edge_end 0 es e)) e
     → entering es place h c v e ≡ entering es place' h' c' v e
 unfolding entering
-entering-same es place place' h c h' c' v e q = ap (λ (b : Bool). eqb (edgeEnd 1 es e) v && b) q
+entering-same es place place' h c h' c' v e q = ap (λ (b : Bool). eqb (edge_end 1 es e) v && b) q
 
 -- ---- a place more
 
-unfoldable pub placeAt : (ℕ → ℕ) → ℕ → ℕ → ℕ → ℕ
-placeAt place v t x = cond (eqb x v) t (place x)
+unfoldable pub place_at : (ℕ → ℕ) → ℕ → ℕ → ℕ → ℕ
+place_at place v t x = cond (eqb x v) t (place x)
 
-pub at_same : (place : ℕ → ℕ) (v t : ℕ) → placeAt place v t v ≡ t
-unfolding placeAt
+pub at_same : (place : ℕ → ℕ) (v t : ℕ) → place_at place v t v ≡ t
+unfolding place_at
 at_same place v t = rw (eq-eqb v v refl)
 
-pub at_other : (place : ℕ → ℕ) (v t x : ℕ) → (x ≡ v → ⊥) → placeAt place v t x ≡ place x
-unfolding placeAt
+pub at_other : (place : ℕ → ℕ) (v t x : ℕ) → (x ≡ v → ⊥) → place_at place v t x ≡ place x
+unfolding place_at
 at_other place v t x ne = rw (ne_eqb x v ne)
 
 module _ {m n : ℕ} {es degrees queue : List ℕ} {place : ℕ → ℕ} {h c tail : ℕ} (Q : Queued m n es degrees queue place h c tail) where
@@ -138,7 +138,7 @@ module _ {m n : ℕ} {es degrees queue : List ℕ} {place : ℕ → ℕ} {h c ta
         length-tab tail (λ (i : ℕ). get_or queue i 0),
       )
 
-  pub queued-as : {h' c' : ℕ} → h' ≤ tail → ((e : ℕ) → e < m → stands h c (place (edgeEnd 0 es e)) e ≡ stands h' c' (place (edgeEnd 0 es e)) e)
+  pub queued-as : {h' c' : ℕ} → h' ≤ tail → ((e : ℕ) → e < m → stands h c (place (edge_end 0 es e)) e ≡ stands h' c' (place (edge_end 0 es e)) e)
       → Queued m n es degrees queue place h' c' tail
   queued-as {h'} {c'} l same = record {
     high = l;
@@ -158,101 +158,101 @@ module _ {m n : ℕ} {es degrees queue : List ℕ} {place : ℕ → ℕ} {h c ta
     fits : tail < n
     fits = queue-room v b new
 
-    still : (x : ℕ) → x < n → (x ≡ v → ⊥) → placeAt place v tail x < tail + 1 → place x < tail
+    still : (x : ℕ) → x < n → (x ≡ v → ⊥) → place_at place v tail x < tail + 1 → place x < tail
     still x k ne l = by_order tail (place x)
         (λ o. absurd (omega (arith, Q.out x k o, at_other place v tail x ne, fits)))
         (λ o. o)
 
-    push-placed : (i : ℕ) → i < tail + 1 → placeAt place v tail (get_or (set queue tail v) i 0) ≡ i
-    push-placed = set_more (λ i x. placeAt place v tail x ≡ i) queue tail v (omega (arith, fits))
+    push-placed : (i : ℕ) → i < tail + 1 → place_at place v tail (get_or (set queue tail v) i 0) ≡ i
+    push-placed = set_more (λ i x. place_at place v tail x ≡ i) queue tail v (omega (arith, fits))
         (λ i k. at_other place v tail (get_or queue i 0) (λ q. omega (arith, ap place q, Q.placed i k)) ∙ Q.placed i k)
         (at_same place v tail)
 
-    push-found : (x : ℕ) → x < n → placeAt place v tail x < tail + 1 → get_or (set queue tail v) (placeAt place v tail x) 0 ≡ x
+    push-found : (x : ℕ) → x < n → place_at place v tail x < tail + 1 → get_or (set queue tail v) (place_at place v tail x) 0 ≡ x
     push-found x k l = elim (ℕ_discrete x v) [
       | yes q ↦ rw (q, at_same place v tail) (get_or-set_same queue tail v 0 (omega (arith, fits)))
       | no ne ↦ rw (at_other place v tail x ne) (get_or-set_other queue tail (place x) v 0 (λ z. omega (arith, still x k ne l)) ∙ Q.found x k (still x k ne l))
     ]
 
-    push-out : (x : ℕ) → x < n → tail + 1 ≤ placeAt place v tail x → n ≤ placeAt place v tail x
+    push-out : (x : ℕ) → x < n → tail + 1 ≤ place_at place v tail x → n ≤ place_at place v tail x
     push-out x k l = elim (ℕ_discrete x v) [
-      | yes q ↦ absurd (omega (arith, ap (placeAt place v tail) q, at_same place v tail))
+      | yes q ↦ absurd (omega (arith, ap (place_at place v tail) q, at_same place v tail))
       | no ne ↦ omega (arith, at_other place v tail x ne, Q.out x k (omega (arith, at_other place v tail x ne)))
     ]
 
-    stands-pushed : (e : ℕ) → e < m → stands h c (place (edgeEnd 0 es e)) e ≡ stands h c (placeAt place v tail (edgeEnd 0 es e)) e
-    stands-pushed e k = elim (ℕ_discrete (edgeEnd 0 es e) v) [
-      | yes q ↦ stands-later h c (place (edgeEnd 0 es e)) e (omega (arith, ap place q, Q.out v b new, fits, Q.high)) ∙ sym (elim (ℕ_discrete tail h) [
-        | yes t ↦ stands_same h c (placeAt place v tail (edgeEnd 0 es e)) e (ap (placeAt place v tail) q ∙ at_same place v tail ∙ t) (omega (arith, first t))
-        | no ne ↦ stands-later h c (placeAt place v tail (edgeEnd 0 es e)) e (omega (arith, ap (placeAt place v tail) q, at_same place v tail, Q.high))
+    stands-pushed : (e : ℕ) → e < m → stands h c (place (edge_end 0 es e)) e ≡ stands h c (place_at place v tail (edge_end 0 es e)) e
+    stands-pushed e k = elim (ℕ_discrete (edge_end 0 es e) v) [
+      | yes q ↦ stands-later h c (place (edge_end 0 es e)) e (omega (arith, ap place q, Q.out v b new, fits, Q.high)) ∙ sym (elim (ℕ_discrete tail h) [
+        | yes t ↦ stands_same h c (place_at place v tail (edge_end 0 es e)) e (ap (place_at place v tail) q ∙ at_same place v tail ∙ t) (omega (arith, first t))
+        | no ne ↦ stands-later h c (place_at place v tail (edge_end 0 es e)) e (omega (arith, ap (place_at place v tail) q, at_same place v tail, Q.high))
       ])
-      | no ne ↦ ap (λ (p : ℕ). stands h c p e) (sym (at_other place v tail (edgeEnd 0 es e) ne))
+      | no ne ↦ ap (λ (p : ℕ). stands h c p e) (sym (at_other place v tail (edge_end 0 es e) ne))
     ]
 
-    push-done : (x : ℕ) → x < n → placeAt place v tail x < tail + 1 → get_or degrees x 0 ≡ 0
+    push-done : (x : ℕ) → x < n → place_at place v tail x < tail + 1 → get_or degrees x 0 ≡ 0
     push-done x k l = elim (ℕ_discrete x v) [ yes q ↦ rw q none | no ne ↦ Q.done x k (still x k ne l) ]
 
     -- an edge into v comes from a vertex that has lost its edges
-    push-before : (e : ℕ) → e < m → edgeEnd 1 es e ≡ v → place (edgeEnd 0 es e) < tail
+    push-before : (e : ℕ) → e < m → edge_end 1 es e ≡ v → place (edge_end 0 es e) < tail
     push-before e k q =
-        stands-no h c (place (edgeEnd 0 es e)) e (not-entering es place h c v e q (rank-none (entering es place h c v) m e (sym (Q.count v b) ∙ none) k))
+        stands-no h c (place (edge_end 0 es e)) e (not-entering es place h c v e q (rank-none (entering es place h c v) m e (sym (Q.count v b) ∙ none) k))
         (λ l. omega (arith, Q.high))
         (λ z l. by_order tail h (λ o. absurd (omega (arith, first (omega (arith, Q.high))))) (λ o. omega arith))
 
-    push-order : (e : ℕ) → e < m → placeAt place v tail (edgeEnd 1 es e) < tail + 1 → placeAt place v tail (edgeEnd 0 es e) < placeAt place v tail (edgeEnd 1 es e)
-    push-order e k l = elim (ℕ_discrete (edgeEnd 1 es e) v) [
+    push-order : (e : ℕ) → e < m → place_at place v tail (edge_end 1 es e) < tail + 1 → place_at place v tail (edge_end 0 es e) < place_at place v tail (edge_end 1 es e)
+    push-order e k l = elim (ℕ_discrete (edge_end 1 es e) v) [
       | yes q ↦ (let o = push-before e k q in
-          let f = at_other place v tail (edgeEnd 0 es e) (λ z. omega (arith, ap place z)) in
-          omega (arith, ap (placeAt place v tail) q, at_same place v tail))
-      | no ne ↦ (let s = still (edgeEnd 1 es e) (end_below 1 E e k (omega arith)) ne l in
+          let f = at_other place v tail (edge_end 0 es e) (λ z. omega (arith, ap place z)) in
+          omega (arith, ap (place_at place v tail) q, at_same place v tail))
+      | no ne ↦ (let s = still (edge_end 1 es e) (end_below 1 E e k (omega arith)) ne l in
           let o = Q.order e k s in
-          let f = at_other place v tail (edgeEnd 0 es e) (λ z. omega (arith, ap place z)) in
-          omega (arith, at_other place v tail (edgeEnd 1 es e) ne))
+          let f = at_other place v tail (edge_end 0 es e) (λ z. omega (arith, ap place z)) in
+          omega (arith, at_other place v tail (edge_end 1 es e) ne))
     ]
 
-    pub queued-push : Queued m n es degrees (set queue tail v) (placeAt place v tail) h c (tail + 1)
+    pub queued-push : Queued m n es degrees (set queue tail v) (place_at place v tail) h c (tail + 1)
     queued-push = record {
       high = omega (arith, Q.high);
       vertex = set_more (λ i x. x < n) queue tail v (omega (arith, fits)) Q.vertex b;
       placed = push-placed;
       found = push-found;
       out = push-out;
-      count = λ x k. Q.count x k ∙ rank_same (entering es place h c x) (entering es (placeAt place v tail) h c x) m (λ e j.
-          entering-same es place (placeAt place v tail) h c h c x e (stands-pushed e j));
+      count = λ x k. Q.count x k ∙ rank_same (entering es place h c x) (entering es (place_at place v tail) h c x) m (λ e j.
+          entering-same es place (place_at place v tail) h c h c x e (stands-pushed e j));
       done = push-done;
       order = push-order;
     }
 
   -- ---- the edge d from the vertex at h goes
-  module _ {d c' : ℕ} (below : edgeEnd 1 es d < n) (k : d < m) (at-h : place (edgeEnd 0 es d) ≡ h) (l : c ≤ d) (l' : d < c') (room : n ≤ length degrees)
-      (same : (e : ℕ) → e < m → (e ≡ d → ⊥) → stands h c (place (edgeEnd 0 es e)) e ≡ stands h c' (place (edgeEnd 0 es e)) e) where
-    one_less : rank (entering es place h c (edgeEnd 1 es d)) m ≡ suc (rank (entering es place h c' (edgeEnd 1 es d)) m)
-    one_less = rank_less (entering es place h c (edgeEnd 1 es d)) (entering es place h c' (edgeEnd 1 es d)) m d k
-        (entering-yes es place h c (edgeEnd 1 es d) d refl (stands_same h c (place (edgeEnd 0 es d)) d at-h l))
-        (entering-no es place h c' (edgeEnd 1 es d) d (stands-passed h c' (place (edgeEnd 0 es d)) d at-h l'))
-        (λ e j ne. entering-same es place place h c h c' (edgeEnd 1 es d) e (same e j ne))
+  module _ {d c' : ℕ} (below : edge_end 1 es d < n) (k : d < m) (at-h : place (edge_end 0 es d) ≡ h) (l : c ≤ d) (l' : d < c') (room : n ≤ length degrees)
+      (same : (e : ℕ) → e < m → (e ≡ d → ⊥) → stands h c (place (edge_end 0 es e)) e ≡ stands h c' (place (edge_end 0 es e)) e) where
+    one_less : rank (entering es place h c (edge_end 1 es d)) m ≡ suc (rank (entering es place h c' (edge_end 1 es d)) m)
+    one_less = rank_less (entering es place h c (edge_end 1 es d)) (entering es place h c' (edge_end 1 es d)) m d k
+        (entering-yes es place h c (edge_end 1 es d) d refl (stands_same h c (place (edge_end 0 es d)) d at-h l))
+        (entering-no es place h c' (edge_end 1 es d) d (stands-passed h c' (place (edge_end 0 es d)) d at-h l'))
+        (λ e j ne. entering-same es place place h c h c' (edge_end 1 es d) e (same e j ne))
 
     -- the vertex that it enters was not queued
-    pub entered-some : 0 < get_or degrees (edgeEnd 1 es d) 0
-    entered-some = omega (arith, Q.count (edgeEnd 1 es d) below, one_less)
+    pub entered-some : 0 < get_or degrees (edge_end 1 es d) 0
+    entered-some = omega (arith, Q.count (edge_end 1 es d) below, one_less)
 
-    pub entered-out : tail ≤ place (edgeEnd 1 es d)
-    entered-out = by_order tail (place (edgeEnd 1 es d)) (λ o. o) (λ o. absurd (omega (arith, Q.done (edgeEnd 1 es d) below o, entered-some)))
+    pub entered-out : tail ≤ place (edge_end 1 es d)
+    entered-out = by_order tail (place (edge_end 1 es d)) (λ o. o) (λ o. absurd (omega (arith, Q.done (edge_end 1 es d) below o, entered-some)))
 
-    take_count : (v : ℕ) → v < n → get_or (set degrees (edgeEnd 1 es d) (get_or degrees (edgeEnd 1 es d) 0 - 1)) v 0 ≡ rank (entering es place h c' v) m
-    take_count v b = elim (ℕ_discrete v (edgeEnd 1 es d)) [
-      | yes q ↦ rw q (get_or-set_same degrees (edgeEnd 1 es d) _ 0 (omega arith) ∙ omega (arith, Q.count (edgeEnd 1 es d) below, one_less))
-      | no ne ↦ get_or-set_other degrees (edgeEnd 1 es d) v _ 0 ne ∙ Q.count v b ∙ rank_same (entering es place h c v) (entering es place h c' v) m (other v ne)
+    take_count : (v : ℕ) → v < n → get_or (set degrees (edge_end 1 es d) (get_or degrees (edge_end 1 es d) 0 - 1)) v 0 ≡ rank (entering es place h c' v) m
+    take_count v b = elim (ℕ_discrete v (edge_end 1 es d)) [
+      | yes q ↦ rw q (get_or-set_same degrees (edge_end 1 es d) _ 0 (omega arith) ∙ omega (arith, Q.count (edge_end 1 es d) below, one_less))
+      | no ne ↦ get_or-set_other degrees (edge_end 1 es d) v _ 0 ne ∙ Q.count v b ∙ rank_same (entering es place h c v) (entering es place h c' v) m (other v ne)
     ]
       where
-        other : (v : ℕ) → (v ≡ edgeEnd 1 es d → ⊥) → (e : ℕ) → e < m → entering es place h c v e ≡ entering es place h c' v e
+        other : (v : ℕ) → (v ≡ edge_end 1 es d → ⊥) → (e : ℕ) → e < m → entering es place h c v e ≡ entering es place h c' v e
         other v ne e j = elim (ℕ_discrete e d) [
-          | yes q ↦ (let o : edgeEnd 1 es e ≡ v → ⊥ = λ z. ne (sym z ∙ ap (edgeEnd 1 es) q) in entering-other es place h c v e o
+          | yes q ↦ (let o : edge_end 1 es e ≡ v → ⊥ = λ z. ne (sym z ∙ ap (edge_end 1 es) q) in entering-other es place h c v e o
               ∙ sym (entering-other es place h c' v e o))
           | no nd ↦ entering-same es place place h c h c' v e (same e j nd)
         ]
 
-    pub queued-take : Queued m n es (set degrees (edgeEnd 1 es d) (get_or degrees (edgeEnd 1 es d) 0 - 1)) queue place h c' tail
+    pub queued-take : Queued m n es (set degrees (edge_end 1 es d) (get_or degrees (edge_end 1 es d) 0 - 1)) queue place h c' tail
     queued-take = record {
       high = Q.high;
       vertex = Q.vertex;
@@ -260,6 +260,6 @@ module _ {m n : ℕ} {es degrees queue : List ℕ} {place : ℕ → ℕ} {h c ta
       found = Q.found;
       out = Q.out;
       count = take_count;
-      done = λ v b o. get_or-set_other degrees (edgeEnd 1 es d) v _ 0 (λ z. omega (arith, entered-out, ap place z)) ∙ Q.done v b o;
+      done = λ v b o. get_or-set_other degrees (edge_end 1 es d) v _ 0 (λ z. omega (arith, entered-out, ap place z)) ∙ Q.done v b o;
       order = Q.order;
     }

@@ -3,15 +3,15 @@
 -- Assumes nothing.
 use Rattle.std.specs.Prelude.{ℕ, zero, suc, Bool, true, false, cond, not, List, [], ◌∷◌, ◌++◌, eqb, ltb, leb, length, drop}
 use Rattle.std.proofs.Math.Option.{Option, none, some}
-use Rattle.defs.specs.SeqGraph.{vertexSequence}
-use Rattle.defs.specs.Simplify.{Simplified, sequenceBytes, simplifyGraphFull, minTailSuffixLen, endNumber}
-use Rattle.defs.specs.Cleanup.{Cleaned, statusNumber, cleanupSeqGraph, cleanNonRefPaths}
-use Rattle.defs.specs.Forms.{formOf, limits}
-use Rattle.defs.specs.Record.{sequenceGraph, verticesOf, encode, decode}
-use Rattle.defs.specs.Refusals.{Cause, refusalOf, kmerOnly, sequenceOnly, bothKinds}
-use Rattle.defs.specs.Refusals.{layoutCauses, doubledCause, overlapCause, cycleCause, recordCauses}
-use Rattle.defs.specs.Assembly.{fromAssemblyGraph}
-use Rattle.defs.specs.Paths.{isPathOf, pathBasesBytes, referencePathBytes}
+use Rattle.defs.specs.SeqGraph.{vertex_sequence}
+use Rattle.defs.specs.Simplify.{Simplified, sequence_bytes, simplify_graph_full, min_tail_suffix_len, end_number}
+use Rattle.defs.specs.Cleanup.{Cleaned, status_number, cleanup_seq_graph, clean_non_ref_paths}
+use Rattle.defs.specs.Forms.{form_of, limits}
+use Rattle.defs.specs.Record.{sequence_graph, vertices_of, encode, decode}
+use Rattle.defs.specs.Refusals.{Cause, refusal_of, kmer_only, sequence_only, both_kinds}
+use Rattle.defs.specs.Refusals.{layout_causes, doubled_cause, overlap_cause, cycle_cause, record_causes}
+use Rattle.defs.specs.Assembly.{from_assembly_graph}
+use Rattle.defs.specs.Paths.{is_path_of, path_bases_bytes, reference_path_bytes}
 use Rattle.defs.specs.Tallies.{CountedCall}
 
 -- What a call makes of its input: a refusal, or the bytes of its result.
@@ -38,21 +38,21 @@ written_of (refused n) out = out
 written_of (accepted r) out = r ++ drop (length r) out
 
 -- 18: a caller above 15, asked before all else
-unfoldable pub callerCause : ℕ → Cause
-callerCause caller = record { number = 18; present = ltb 15 caller }
+unfoldable pub caller_cause : ℕ → Cause
+caller_cause caller = record { number = 18; present = ltb 15 caller }
 
 -- 11: the output is shorter than the result
-unfoldable pub outputCause : ℕ → List ℕ → Cause
-outputCause room result = record { number = 11; present = ltb room (length result) }
+unfoldable pub output_cause : ℕ → List ℕ → Cause
+output_cause room result = record { number = 11; present = ltb room (length result) }
 
 -- a number other than 0 refuses
-unfoldable pub respondTo : ℕ → List ℕ → Response
-respondTo zero result = accepted result
-respondTo (suc n) result = refused (suc n)
+unfoldable pub respond_to : ℕ → List ℕ → Response
+respond_to zero result = accepted result
+respond_to (suc n) result = refused (suc n)
 
 -- the first of the call's causes that is present refuses, by its number; where none is, the result is the answer
 unfoldable pub respond : List Cause → List ℕ → Response
-respond causes result = respondTo (refusalOf causes) result
+respond causes result = respond_to (refusal_of causes) result
 
 -- number and length: the answer of conversion, of clean_non_ref_paths and of the two string calls
 pub record Answer : Type 0 where
@@ -63,53 +63,53 @@ unfoldable pub answer : Response → Answer
 answer r = record { number = number_of r; length = length_of r }
 
 -- what is counted of a call that, where it is answered, made so many rewrites
-unfoldable pub countedOf : ℕ → Response → ℕ → CountedCall
-countedOf caller r rewrites = record { caller = caller; number = number_of r; rewrites = field_of r rewrites }
+unfoldable pub counted_of : ℕ → Response → ℕ → CountedCall
+counted_of caller r rewrites = record { caller = caller; number = number_of r; rewrites = field_of r rewrites }
 
 -- vertex_sequence: 1 to 7, 9; the number for the lent cell, and the part handed back
-abbrev pub vertexCause : List ℕ → ℕ → Cause
-vertexCause bs v = record { number = 9; present = leb (verticesOf bs) v }
+abbrev pub vertex_cause : List ℕ → ℕ → Cause
+vertex_cause bs v = record { number = 9; present = leb (vertices_of bs) v }
 
-unfoldable pub vertexSequenceCauses : List ℕ → ℕ → List Cause
-vertexSequenceCauses bs v = recordCauses bothKinds bs ++ (vertexCause bs v ∷ [])
+unfoldable pub vertex_sequence_causes : List ℕ → ℕ → List Cause
+vertex_sequence_causes bs v = record_causes both_kinds bs ++ (vertex_cause bs v ∷ [])
 
-unfoldable pub vertexSequenceNumber : List ℕ → ℕ → ℕ
-vertexSequenceNumber bs v = refusalOf (vertexSequenceCauses bs v)
+unfoldable pub vertex_sequence_number : List ℕ → ℕ → ℕ
+vertex_sequence_number bs v = refusal_of (vertex_sequence_causes bs v)
 
-unfoldable pub vertexSequencePart : List ℕ → ℕ → List ℕ
-vertexSequencePart bs v = cond (eqb (vertexSequenceNumber bs v) 0) (vertexSequence (decode bs) v) []
+unfoldable pub vertex_sequence_part : List ℕ → ℕ → List ℕ
+vertex_sequence_part bs v = cond (eqb (vertex_sequence_number bs v) 0) (vertex_sequence (decode bs) v) []
 
 -- from_assembly_graph: 18, 1 to 6, 15, 7, 8, 11; 8 where the converted graph has more bytes than a record of this form may
-abbrev pub bytesCause : List ℕ → Cause
-bytesCause bs = record { number = 8; present = ltb (limits (formOf bs)).bytes (sequenceBytes (fromAssemblyGraph (decode bs)).verts) }
+abbrev pub bytes_cause : List ℕ → Cause
+bytes_cause bs = record { number = 8; present = ltb (limits (form_of bs)).bytes (sequence_bytes (from_assembly_graph (decode bs)).verts) }
 
-unfoldable pub conversionCauses : List ℕ → List Cause
-conversionCauses bs = layoutCauses kmerOnly bs ++ (doubledCause bs ∷ overlapCause bs ∷ cycleCause bs ∷ bytesCause bs ∷ [])
+unfoldable pub conversion_causes : List ℕ → List Cause
+conversion_causes bs = layout_causes kmer_only bs ++ (doubled_cause bs ∷ overlap_cause bs ∷ cycle_cause bs ∷ bytes_cause bs ∷ [])
 
-abbrev pub convertedRecord : List ℕ → List ℕ
-convertedRecord bs = encode (formOf bs) sequenceGraph 0 (fromAssemblyGraph (decode bs))
+abbrev pub converted_record : List ℕ → List ℕ
+converted_record bs = encode (form_of bs) sequence_graph 0 (from_assembly_graph (decode bs))
 
-unfoldable pub fromAssemblyGraphCauses : List ℕ → ℕ → ℕ → List Cause
-fromAssemblyGraphCauses bs room caller = callerCause caller ∷ (conversionCauses bs ++ (outputCause room (convertedRecord bs) ∷ []))
+unfoldable pub from_assembly_graph_causes : List ℕ → ℕ → ℕ → List Cause
+from_assembly_graph_causes bs room caller = caller_cause caller ∷ (conversion_causes bs ++ (output_cause room (converted_record bs) ∷ []))
 
-unfoldable pub fromAssemblyGraphResponse : List ℕ → ℕ → ℕ → Response
-fromAssemblyGraphResponse bs room caller = respond (fromAssemblyGraphCauses bs room caller) (convertedRecord bs)
+unfoldable pub from_assembly_graph_response : List ℕ → ℕ → ℕ → Response
+from_assembly_graph_response bs room caller = respond (from_assembly_graph_causes bs room caller) (converted_record bs)
 
-unfoldable pub fromAssemblyGraphAnswer : List ℕ → ℕ → ℕ → Answer
-fromAssemblyGraphAnswer bs room caller = answer (fromAssemblyGraphResponse bs room caller)
+unfoldable pub from_assembly_graph_answer : List ℕ → ℕ → ℕ → Answer
+from_assembly_graph_answer bs room caller = answer (from_assembly_graph_response bs room caller)
 
-unfoldable pub fromAssemblyGraphCounted : List ℕ → ℕ → ℕ → CountedCall
-fromAssemblyGraphCounted bs room caller = countedOf caller (fromAssemblyGraphResponse bs room caller) 0
+unfoldable pub from_assembly_graph_counted : List ℕ → ℕ → ℕ → CountedCall
+from_assembly_graph_counted bs room caller = counted_of caller (from_assembly_graph_response bs room caller) 0
 
 -- simplify_graph: 18, 1 to 7, 11
-abbrev pub simplifiedRecord : List ℕ → List ℕ
-simplifiedRecord bs = encode (formOf bs) sequenceGraph 0 (simplifyGraphFull minTailSuffixLen (decode bs)).graph
+abbrev pub simplified_record : List ℕ → List ℕ
+simplified_record bs = encode (form_of bs) sequence_graph 0 (simplify_graph_full min_tail_suffix_len (decode bs)).graph
 
-unfoldable pub simplifyGraphCauses : List ℕ → ℕ → ℕ → List Cause
-simplifyGraphCauses bs room caller = callerCause caller ∷ (recordCauses sequenceOnly bs ++ (outputCause room (simplifiedRecord bs) ∷ []))
+unfoldable pub simplify_graph_causes : List ℕ → ℕ → ℕ → List Cause
+simplify_graph_causes bs room caller = caller_cause caller ∷ (record_causes sequence_only bs ++ (output_cause room (simplified_record bs) ∷ []))
 
-unfoldable pub simplifyGraphResponse : List ℕ → ℕ → ℕ → Response
-simplifyGraphResponse bs room caller = respond (simplifyGraphCauses bs room caller) (simplifiedRecord bs)
+unfoldable pub simplify_graph_response : List ℕ → ℕ → ℕ → Response
+simplify_graph_response bs room caller = respond (simplify_graph_causes bs room caller) (simplified_record bs)
 
 pub record SimplifyAnswer : Type 0 where
   pub number : ℕ
@@ -118,99 +118,99 @@ pub record SimplifyAnswer : Type 0 where
   pub rounds : ℕ
   pub end : ℕ
 
-abbrev pub simplifyAnswer : Response → Simplified → SimplifyAnswer
-simplifyAnswer r s = record {
+abbrev pub simplify_answer : Response → Simplified → SimplifyAnswer
+simplify_answer r s = record {
   number = number_of r;
   length = length_of r;
   rewrites = field_of r s.rewrites;
   rounds = field_of r s.rounds;
-  end = field_of r (endNumber s.end);
+  end = field_of r (end_number s.end);
 }
 
-unfoldable pub simplifyGraphAnswer : List ℕ → ℕ → ℕ → SimplifyAnswer
-simplifyGraphAnswer bs room caller = simplifyAnswer (simplifyGraphResponse bs room caller) (simplifyGraphFull minTailSuffixLen (decode bs))
+unfoldable pub simplify_graph_answer : List ℕ → ℕ → ℕ → SimplifyAnswer
+simplify_graph_answer bs room caller = simplify_answer (simplify_graph_response bs room caller) (simplify_graph_full min_tail_suffix_len (decode bs))
 
-unfoldable pub simplifyGraphCounted : List ℕ → ℕ → ℕ → CountedCall
-simplifyGraphCounted bs room caller = countedOf caller (simplifyGraphResponse bs room caller) (simplifyGraphFull minTailSuffixLen (decode bs)).rewrites
+unfoldable pub simplify_graph_counted : List ℕ → ℕ → ℕ → CountedCall
+simplify_graph_counted bs room caller = counted_of caller (simplify_graph_response bs room caller) (simplify_graph_full min_tail_suffix_len (decode bs)).rewrites
 
 -- cleanup_seq_graph: 18, 1 to 7, 11; its rewrites are counted and not answered
-abbrev pub cleanedRecord : List ℕ → List ℕ
-cleanedRecord bs = let c = cleanupSeqGraph (decode bs) in encode (formOf bs) sequenceGraph (statusNumber c.status) c.graph
+abbrev pub cleaned_record : List ℕ → List ℕ
+cleaned_record bs = let c = cleanup_seq_graph (decode bs) in encode (form_of bs) sequence_graph (status_number c.status) c.graph
 
-unfoldable pub cleanupSeqGraphCauses : List ℕ → ℕ → ℕ → List Cause
-cleanupSeqGraphCauses bs room caller = callerCause caller ∷ (recordCauses sequenceOnly bs ++ (outputCause room (cleanedRecord bs) ∷ []))
+unfoldable pub cleanup_seq_graph_causes : List ℕ → ℕ → ℕ → List Cause
+cleanup_seq_graph_causes bs room caller = caller_cause caller ∷ (record_causes sequence_only bs ++ (output_cause room (cleaned_record bs) ∷ []))
 
-unfoldable pub cleanupSeqGraphResponse : List ℕ → ℕ → ℕ → Response
-cleanupSeqGraphResponse bs room caller = respond (cleanupSeqGraphCauses bs room caller) (cleanedRecord bs)
+unfoldable pub cleanup_seq_graph_response : List ℕ → ℕ → ℕ → Response
+cleanup_seq_graph_response bs room caller = respond (cleanup_seq_graph_causes bs room caller) (cleaned_record bs)
 
 pub record CleanupAnswer : Type 0 where
   pub number : ℕ
   pub length : ℕ
   pub status : ℕ
 
-abbrev pub cleanupAnswer : Response → Cleaned → CleanupAnswer
-cleanupAnswer r c = record { number = number_of r; length = length_of r; status = field_of r (statusNumber c.status) }
+abbrev pub cleanup_answer : Response → Cleaned → CleanupAnswer
+cleanup_answer r c = record { number = number_of r; length = length_of r; status = field_of r (status_number c.status) }
 
-unfoldable pub cleanupSeqGraphAnswer : List ℕ → ℕ → ℕ → CleanupAnswer
-cleanupSeqGraphAnswer bs room caller = cleanupAnswer (cleanupSeqGraphResponse bs room caller) (cleanupSeqGraph (decode bs))
+unfoldable pub cleanup_seq_graph_answer : List ℕ → ℕ → ℕ → CleanupAnswer
+cleanup_seq_graph_answer bs room caller = cleanup_answer (cleanup_seq_graph_response bs room caller) (cleanup_seq_graph (decode bs))
 
-unfoldable pub cleanupSeqGraphCounted : List ℕ → ℕ → ℕ → CountedCall
-cleanupSeqGraphCounted bs room caller = countedOf caller (cleanupSeqGraphResponse bs room caller) (cleanupSeqGraph (decode bs)).rewrites
+unfoldable pub cleanup_seq_graph_counted : List ℕ → ℕ → ℕ → CountedCall
+cleanup_seq_graph_counted bs room caller = counted_of caller (cleanup_seq_graph_response bs room caller) (cleanup_seq_graph (decode bs)).rewrites
 
 -- clean_non_ref_paths: 18, 1 to 7, 11
-abbrev pub reducedRecord : List ℕ → List ℕ
-reducedRecord bs = encode (formOf bs) sequenceGraph 0 (cleanNonRefPaths (decode bs))
+abbrev pub reduced_record : List ℕ → List ℕ
+reduced_record bs = encode (form_of bs) sequence_graph 0 (clean_non_ref_paths (decode bs))
 
-unfoldable pub cleanNonRefPathsCauses : List ℕ → ℕ → ℕ → List Cause
-cleanNonRefPathsCauses bs room caller = callerCause caller ∷ (recordCauses sequenceOnly bs ++ (outputCause room (reducedRecord bs) ∷ []))
+unfoldable pub clean_non_ref_paths_causes : List ℕ → ℕ → ℕ → List Cause
+clean_non_ref_paths_causes bs room caller = caller_cause caller ∷ (record_causes sequence_only bs ++ (output_cause room (reduced_record bs) ∷ []))
 
-unfoldable pub cleanNonRefPathsResponse : List ℕ → ℕ → ℕ → Response
-cleanNonRefPathsResponse bs room caller = respond (cleanNonRefPathsCauses bs room caller) (reducedRecord bs)
+unfoldable pub clean_non_ref_paths_response : List ℕ → ℕ → ℕ → Response
+clean_non_ref_paths_response bs room caller = respond (clean_non_ref_paths_causes bs room caller) (reduced_record bs)
 
-unfoldable pub cleanNonRefPathsAnswer : List ℕ → ℕ → ℕ → Answer
-cleanNonRefPathsAnswer bs room caller = answer (cleanNonRefPathsResponse bs room caller)
+unfoldable pub clean_non_ref_paths_answer : List ℕ → ℕ → ℕ → Answer
+clean_non_ref_paths_answer bs room caller = answer (clean_non_ref_paths_response bs room caller)
 
-unfoldable pub cleanNonRefPathsCounted : List ℕ → ℕ → ℕ → CountedCall
-cleanNonRefPathsCounted bs room caller = countedOf caller (cleanNonRefPathsResponse bs room caller) 0
+unfoldable pub clean_non_ref_paths_counted : List ℕ → ℕ → ℕ → CountedCall
+clean_non_ref_paths_counted bs room caller = counted_of caller (clean_non_ref_paths_response bs room caller) 0
 
 -- reference_path_bytes: 18, 1 to 7, 10, 11; 10 where there is no reference path
-unfoldable pub isNothing : Option (List ℕ) → Bool
-isNothing none = true
-isNothing (some s) = false
+unfoldable pub is_nothing : Option (List ℕ) → Bool
+is_nothing none = true
+is_nothing (some s) = false
 
-unfoldable pub bytesOrNone : Option (List ℕ) → List ℕ
-bytesOrNone none = []
-bytesOrNone (some s) = s
+unfoldable pub bytes_or_none : Option (List ℕ) → List ℕ
+bytes_or_none none = []
+bytes_or_none (some s) = s
 
-abbrev pub referenceCause : List ℕ → Cause
-referenceCause bs = record { number = 10; present = isNothing (referencePathBytes (decode bs)) }
+abbrev pub reference_cause : List ℕ → Cause
+reference_cause bs = record { number = 10; present = is_nothing (reference_path_bytes (decode bs)) }
 
-abbrev pub referenceBytes : List ℕ → List ℕ
-referenceBytes bs = bytesOrNone (referencePathBytes (decode bs))
+abbrev pub reference_bytes : List ℕ → List ℕ
+reference_bytes bs = bytes_or_none (reference_path_bytes (decode bs))
 
-unfoldable pub referencePathBytesCauses : List ℕ → ℕ → ℕ → List Cause
-referencePathBytesCauses bs room caller =
-    callerCause caller ∷ (recordCauses sequenceOnly bs ++ (referenceCause bs ∷ outputCause room (referenceBytes bs) ∷ []))
+unfoldable pub reference_path_bytes_causes : List ℕ → ℕ → ℕ → List Cause
+reference_path_bytes_causes bs room caller =
+    caller_cause caller ∷ (record_causes sequence_only bs ++ (reference_cause bs ∷ output_cause room (reference_bytes bs) ∷ []))
 
-unfoldable pub referencePathBytesResponse : List ℕ → ℕ → ℕ → Response
-referencePathBytesResponse bs room caller = respond (referencePathBytesCauses bs room caller) (referenceBytes bs)
+unfoldable pub reference_path_bytes_response : List ℕ → ℕ → ℕ → Response
+reference_path_bytes_response bs room caller = respond (reference_path_bytes_causes bs room caller) (reference_bytes bs)
 
-unfoldable pub referencePathBytesCounted : List ℕ → ℕ → ℕ → CountedCall
-referencePathBytesCounted bs room caller = countedOf caller (referencePathBytesResponse bs room caller) 0
+unfoldable pub reference_path_bytes_counted : List ℕ → ℕ → ℕ → CountedCall
+reference_path_bytes_counted bs room caller = counted_of caller (reference_path_bytes_response bs room caller) 0
 
 -- path_bases_bytes: 18, 1 to 7, 9, 11; 9 where the start or the list of edges is no path
-abbrev pub pathCause : List ℕ → ℕ → List ℕ → Cause
-pathCause bs start edges = record { number = 9; present = not (isPathOf (decode bs) start edges) }
+abbrev pub path_cause : List ℕ → ℕ → List ℕ → Cause
+path_cause bs start edges = record { number = 9; present = not (is_path_of (decode bs) start edges) }
 
-abbrev pub pathBytes : List ℕ → ℕ → List ℕ → List ℕ
-pathBytes bs start edges = pathBasesBytes (decode bs) start edges
+abbrev pub path_bytes : List ℕ → ℕ → List ℕ → List ℕ
+path_bytes bs start edges = path_bases_bytes (decode bs) start edges
 
-unfoldable pub pathBasesBytesCauses : List ℕ → ℕ → List ℕ → ℕ → ℕ → List Cause
-pathBasesBytesCauses bs start edges room caller =
-    callerCause caller ∷ (recordCauses sequenceOnly bs ++ (pathCause bs start edges ∷ outputCause room (pathBytes bs start edges) ∷ []))
+unfoldable pub path_bases_bytes_causes : List ℕ → ℕ → List ℕ → ℕ → ℕ → List Cause
+path_bases_bytes_causes bs start edges room caller =
+    caller_cause caller ∷ (record_causes sequence_only bs ++ (path_cause bs start edges ∷ output_cause room (path_bytes bs start edges) ∷ []))
 
-unfoldable pub pathBasesBytesResponse : List ℕ → ℕ → List ℕ → ℕ → ℕ → Response
-pathBasesBytesResponse bs start edges room caller = respond (pathBasesBytesCauses bs start edges room caller) (pathBytes bs start edges)
+unfoldable pub path_bases_bytes_response : List ℕ → ℕ → List ℕ → ℕ → ℕ → Response
+path_bases_bytes_response bs start edges room caller = respond (path_bases_bytes_causes bs start edges room caller) (path_bytes bs start edges)
 
-unfoldable pub pathBasesBytesCounted : List ℕ → ℕ → List ℕ → ℕ → ℕ → CountedCall
-pathBasesBytesCounted bs start edges room caller = countedOf caller (pathBasesBytesResponse bs start edges room caller) 0
+unfoldable pub path_bases_bytes_counted : List ℕ → ℕ → List ℕ → ℕ → ℕ → CountedCall
+path_bases_bytes_counted bs start edges room caller = counted_of caller (path_bases_bytes_response bs start edges room caller) 0

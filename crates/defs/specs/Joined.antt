@@ -1,25 +1,25 @@
 -- Several edges joined, and what they carry together. Assumes nothing.
 use Rattle.std.specs.Prelude.{ℕ, min, ◌≡◌, ◌||◌, List, [], ◌∷◌, map, ltb}
 use Rattle.defs.specs.Lists.{any_of, sum}
-use Rattle.defs.specs.SeqGraph.{EdgeData, joinedData}
+use Rattle.defs.specs.SeqGraph.{EdgeData, joined_data}
 
 -- an edge and then each of the others, joined in order
-unfoldable pub joinedFrom : EdgeData → List EdgeData → EdgeData
-joinedFrom a [] = a
-joinedFrom a (b ∷ bs) = joinedFrom (joinedData a b) bs
+unfoldable pub joined_from : EdgeData → List EdgeData → EdgeData
+joined_from a [] = a
+joined_from a (b ∷ bs) = joined_from (joined_data a b) bs
 
 -- the true sum of the supports; an edge that is capped already counts with the support that it has
-unfoldable pub trueSum : List EdgeData → ℕ
-trueSum ds = sum (map (λ d. d.support) ds)
+unfoldable pub true_sum : List EdgeData → ℕ
+true_sum ds = sum (map (λ d. d.support) ds)
 
 -- d is what the edges of the list carry together
 pub record IsJoinOf (ds : List EdgeData) (d : EdgeData) : Type 0 where
   -- the true sum, or 2^32 - 1 where that is less
-  pub support : d.support ≡ min (trueSum ds) 4294967295
+  pub support : d.support ≡ min (true_sum ds) 4294967295
   -- reference if any was
-  pub isRef : d.isRef ≡ any_of (λ x. x.isRef) ds
+  pub is_ref : d.is_ref ≡ any_of (λ x. x.is_ref) ds
   -- capped if any was, or if the true sum passes 2^32 - 1
-  pub capped : d.capped ≡ (any_of (λ x. x.capped) ds || ltb 4294967295 (trueSum ds))
+  pub capped : d.capped ≡ (any_of (λ x. x.capped) ds || ltb 4294967295 (true_sum ds))
 
 -- the same members, each as often, in another order
 module _ {A : Type 0} where

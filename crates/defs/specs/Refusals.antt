@@ -4,21 +4,21 @@
 use Rattle.std.specs.Prelude.{ℕ, ◌+◌, ◌≡◌, Bool, true, false, ◌&&◌, ◌||◌, not, eqb, ltb, leb, length, take}
 use mathlib.Core.List.{List, [], ◌∷◌, ◌++◌, Memᴰ}
 use Rattle.defs.specs.Lists.{any_of, elem_of, same_list, up_from, tab, sum}
-use Rattle.defs.specs.SeqGraph.{Edge, Graph, nodeCount, outgoingNodes, hasEnds}
+use Rattle.defs.specs.SeqGraph.{Edge, Graph, node_count, outgoing_nodes, has_ends}
 use Rattle.defs.specs.Assembly.{overlaps}
 use Rattle.defs.specs.Cleanup.{forward, reached}
-use Rattle.defs.specs.Forms.{mark, formOf, lengthsAt, limits}
-use Rattle.defs.specs.Record.{kind_of, statusOf, k_of, verticesOf, edgesOf, bytes_of, lengthsOffsetOf, edgesOffsetOf, bytesOffsetOf, whole_of}
-use Rattle.defs.specs.Record.{edges_at, bytes_at, wholeLength, length_at, edge_at, flagAt, decode}
+use Rattle.defs.specs.Forms.{mark, form_of, lengths_at, limits}
+use Rattle.defs.specs.Record.{kind_of, status_of, k_of, vertices_of, edges_of, bytes_of, lengths_offset_of, edges_offset_of, bytes_offset_of, whole_of}
+use Rattle.defs.specs.Record.{edges_at, bytes_at, whole_length, length_at, edge_at, flag_at, decode}
 
 pub record Cause : Type 0 where
   pub number : ℕ
   pub present : Bool
 
 -- the first cause that is present gives the number; 0 where none is
-unfoldable pub refusalOf : List Cause → ℕ
-refusalOf [] = 0
-refusalOf (c ∷ cs) = elim c.present [ true ↦ c.number | false ↦ refusalOf cs ]
+unfoldable pub refusal_of : List Cause → ℕ
+refusal_of [] = 0
+refusal_of (c ∷ cs) = elim c.present [ true ↦ c.number | false ↦ refusal_of cs ]
 
 -- What it says, in two cases: none of the causes is present,
 pub record NonePresent (cs : List Cause) : Type 0 where
@@ -42,91 +42,91 @@ pub record IsNumberOf (cs : List Cause) (n : ℕ) : Type 0 where
   pub of-first : (m : ℕ) → FirstPresent cs m → n ≡ m
 
 -- 1: shorter than its header, which has 32 bytes, of a record that begins SGR2 36; or not the length it states
-unfoldable pub otherLength : List ℕ → Bool
-otherLength bs = ltb (length bs) (lengthsAt (formOf bs)) || not (eqb (whole_of bs) (length bs))
+unfoldable pub other_length : List ℕ → Bool
+other_length bs = ltb (length bs) (lengths_at (form_of bs)) || not (eqb (whole_of bs) (length bs))
 
 -- which kinds a call takes
 pub data Takes : Type 0 where
-  kmerOnly sequenceOnly bothKinds : Takes
+  kmer_only sequence_only both_kinds : Takes
 
-unfoldable pub takesKind : Takes → ℕ → Bool
-takesKind kmerOnly n = eqb n 0
-takesKind sequenceOnly n = eqb n 1
-takesKind bothKinds n = leb n 1
+unfoldable pub takes_kind : Takes → ℕ → Bool
+takes_kind kmer_only n = eqb n 0
+takes_kind sequence_only n = eqb n 1
+takes_kind both_kinds n = leb n 1
 
 -- 2: mark, kind for this call, or status (0 not cleaned, 1 just reference, 2 some variation; always 0 in kind 0)
-unfoldable pub wrongMark : Takes → List ℕ → Bool
-wrongMark t bs =
-    not (same_list (take 4 bs) (mark (formOf bs))) || (not (takesKind t (kind_of bs))
-    || (ltb 2 (statusOf bs) || (eqb (kind_of bs) 0 && not (eqb (statusOf bs) 0))))
+unfoldable pub wrong_mark : Takes → List ℕ → Bool
+wrong_mark t bs =
+    not (same_list (take 4 bs) (mark (form_of bs))) || (not (takes_kind t (kind_of bs))
+    || (ltb 2 (status_of bs) || (eqb (kind_of bs) 0 && not (eqb (status_of bs) 0))))
 
 -- 3: a count or k past a limit of the record's form
-unfoldable pub pastLimit : List ℕ → Bool
-pastLimit bs =
-    let most = limits (formOf bs) in
-    ltb (k_of bs) 2 || (ltb 128 (k_of bs) || (ltb most.vertices (verticesOf bs) || (ltb most.edges (edgesOf bs)
+unfoldable pub past_limit : List ℕ → Bool
+past_limit bs =
+    let most = limits (form_of bs) in
+    ltb (k_of bs) 2 || (ltb 128 (k_of bs) || (ltb most.vertices (vertices_of bs) || (ltb most.edges (edges_of bs)
     || (eqb (kind_of bs) 1 && ltb most.bytes (bytes_of bs)))))
 
 -- 4: offsets, whole length, lengths or byte count disagree
-unfoldable pub layoutDisagrees : List ℕ → Bool
-layoutDisagrees bs =
-    let f = formOf bs in
-    let v = verticesOf bs in
-    let e = edgesOf bs in
-    not (eqb (lengthsOffsetOf bs) (lengthsAt f)) || (not (eqb (edgesOffsetOf bs) (edges_at f v)) || (not (eqb (bytesOffsetOf bs) (bytes_at f v e))
-    || (not (eqb (length bs) (wholeLength f v e (bytes_of bs))) || (not (eqb (sum (tab v (length_at bs))) (bytes_of bs))
+unfoldable pub layout_disagrees : List ℕ → Bool
+layout_disagrees bs =
+    let f = form_of bs in
+    let v = vertices_of bs in
+    let e = edges_of bs in
+    not (eqb (lengths_offset_of bs) (lengths_at f)) || (not (eqb (edges_offset_of bs) (edges_at f v)) || (not (eqb (bytes_offset_of bs) (bytes_at f v e))
+    || (not (eqb (length bs) (whole_length f v e (bytes_of bs))) || (not (eqb (sum (tab v (length_at bs))) (bytes_of bs))
     || (eqb (kind_of bs) 0 && any_of (λ i. not (eqb (length_at bs i) (k_of bs))) (up_from 0 v))))))
 
 -- 5: an edge end not below V, or a flag above 3
-unfoldable pub badEdge : List ℕ → ℕ → Bool
-badEdge bs i = leb (verticesOf bs) (edge_at bs i).from || (leb (verticesOf bs) (edge_at bs i).to || ltb 3 (flagAt bs i))
+unfoldable pub bad_edge : List ℕ → ℕ → Bool
+bad_edge bs i = leb (vertices_of bs) (edge_at bs i).from || (leb (vertices_of bs) (edge_at bs i).to || ltb 3 (flag_at bs i))
 
-unfoldable pub anyBadEdge : List ℕ → Bool
-anyBadEdge bs = any_of (badEdge bs) (up_from 0 (edgesOf bs))
+unfoldable pub any_bad_edge : List ℕ → Bool
+any_bad_edge bs = any_of (bad_edge bs) (up_from 0 (edges_of bs))
 
 -- 6: two edges with the same ends, or in kind 0 two equal k-mers
-unfoldable pub doubledEdge : List Edge → Bool
-doubledEdge [] = false
-doubledEdge (e ∷ es) = any_of (hasEnds e.from e.to) es || doubledEdge es
+unfoldable pub doubled_edge : List Edge → Bool
+doubled_edge [] = false
+doubled_edge (e ∷ es) = any_of (has_ends e.from e.to) es || doubled_edge es
 
-unfoldable pub equalKmers : List (List ℕ) → Bool
-equalKmers [] = false
-equalKmers (s ∷ ss) = any_of (same_list s) ss || equalKmers ss
+unfoldable pub equal_kmers : List (List ℕ) → Bool
+equal_kmers [] = false
+equal_kmers (s ∷ ss) = any_of (same_list s) ss || equal_kmers ss
 
 unfoldable pub doubled : List ℕ → Bool
-doubled bs = doubledEdge (decode bs).edges || (eqb (kind_of bs) 0 && equalKmers (decode bs).verts)
+doubled bs = doubled_edge (decode bs).edges || (eqb (kind_of bs) 0 && equal_kmers (decode bs).verts)
 
 -- 7: a cycle, a self edge included: a vertex that one of its followers reaches
-unfoldable pub hasCycle : Graph → Bool
-hasCycle g = any_of (λ v. any_of (λ w. elem_of v (reached forward g w)) (outgoingNodes g v)) (up_from 0 (nodeCount g))
+unfoldable pub has_cycle : Graph → Bool
+has_cycle g = any_of (λ v. any_of (λ w. elem_of v (reached forward g w)) (outgoing_nodes g v)) (up_from 0 (node_count g))
 
 -- 15: an edge between k-mers that do not follow one another; conversion alone asks this
-unfoldable pub edgeWithoutOverlap : Graph → Bool
-edgeWithoutOverlap g = any_of (λ e. not (overlaps g e)) g.edges
+unfoldable pub edge_without_overlap : Graph → Bool
+edge_without_overlap g = any_of (λ e. not (overlaps g e)) g.edges
 
 -- The causes, in the order in which they are asked. 1 to 5 lie in the layout of the record,
-unfoldable pub layoutCauses : Takes → List ℕ → List Cause
-layoutCauses t bs =
-    record { number = 1; present = otherLength bs }
-    ∷ record { number = 2; present = wrongMark t bs }
-    ∷ record { number = 3; present = pastLimit bs }
-    ∷ record { number = 4; present = layoutDisagrees bs }
-    ∷ record { number = 5; present = anyBadEdge bs }
+unfoldable pub layout_causes : Takes → List ℕ → List Cause
+layout_causes t bs =
+    record { number = 1; present = other_length bs }
+    ∷ record { number = 2; present = wrong_mark t bs }
+    ∷ record { number = 3; present = past_limit bs }
+    ∷ record { number = 4; present = layout_disagrees bs }
+    ∷ record { number = 5; present = any_bad_edge bs }
     ∷ []
 
 -- 6, 15 and 7 in its graph.
-abbrev pub doubledCause : List ℕ → Cause
-doubledCause bs = record { number = 6; present = doubled bs }
+abbrev pub doubled_cause : List ℕ → Cause
+doubled_cause bs = record { number = 6; present = doubled bs }
 
-abbrev pub overlapCause : List ℕ → Cause
-overlapCause bs = record { number = 15; present = edgeWithoutOverlap (decode bs) }
+abbrev pub overlap_cause : List ℕ → Cause
+overlap_cause bs = record { number = 15; present = edge_without_overlap (decode bs) }
 
-abbrev pub cycleCause : List ℕ → Cause
-cycleCause bs = record { number = 7; present = hasCycle (decode bs) }
+abbrev pub cycle_cause : List ℕ → Cause
+cycle_cause bs = record { number = 7; present = has_cycle (decode bs) }
 
 -- 1 to 7
-unfoldable pub recordCauses : Takes → List ℕ → List Cause
-recordCauses t bs = layoutCauses t bs ++ (doubledCause bs ∷ cycleCause bs ∷ [])
+unfoldable pub record_causes : Takes → List ℕ → List Cause
+record_causes t bs = layout_causes t bs ++ (doubled_cause bs ∷ cycle_cause bs ∷ [])
 
-unfoldable pub recordRefusal : Takes → List ℕ → ℕ
-recordRefusal t bs = refusalOf (recordCauses t bs)
+unfoldable pub record_refusal : Takes → List ℕ → ℕ
+record_refusal t bs = refusal_of (record_causes t bs)

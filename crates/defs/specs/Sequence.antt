@@ -1,32 +1,32 @@
 -- Tallied calls one after another on one table. A call is told by its inputs; of the lent output its length alone counts.
 -- Assumes nothing.
 use Rattle.std.specs.Prelude.{ℕ, List, [], ◌∷◌, eqb}
-use Rattle.defs.specs.Lists.{keepIf}
+use Rattle.defs.specs.Lists.{keep_if}
 use Rattle.defs.specs.Tallies.{Tally, CountedCall, after_call}
-use Rattle.defs.specs.Calls.{fromAssemblyGraphCounted, simplifyGraphCounted, cleanupSeqGraphCounted}
-use Rattle.defs.specs.Calls.{cleanNonRefPathsCounted, referencePathBytesCounted, pathBasesBytesCounted}
+use Rattle.defs.specs.Calls.{from_assembly_graph_counted, simplify_graph_counted, cleanup_seq_graph_counted}
+use Rattle.defs.specs.Calls.{clean_non_ref_paths_counted, reference_path_bytes_counted, path_bases_bytes_counted}
 
 -- record, room and caller; of path_bases_bytes record, start, edges, room and caller
 pub data TalliedCall : Type 0 where
-  fromAssemblyGraphCall : List ℕ → ℕ → ℕ → TalliedCall
-  simplifyGraphCall : List ℕ → ℕ → ℕ → TalliedCall
-  cleanupSeqGraphCall : List ℕ → ℕ → ℕ → TalliedCall
-  cleanNonRefPathsCall : List ℕ → ℕ → ℕ → TalliedCall
-  referencePathBytesCall : List ℕ → ℕ → ℕ → TalliedCall
-  pathBasesBytesCall : List ℕ → ℕ → List ℕ → ℕ → ℕ → TalliedCall
+  from_assembly_graph_call : List ℕ → ℕ → ℕ → TalliedCall
+  simplify_graph_call : List ℕ → ℕ → ℕ → TalliedCall
+  cleanup_seq_graph_call : List ℕ → ℕ → ℕ → TalliedCall
+  clean_non_ref_paths_call : List ℕ → ℕ → ℕ → TalliedCall
+  reference_path_bytes_call : List ℕ → ℕ → ℕ → TalliedCall
+  path_bases_bytes_call : List ℕ → ℕ → List ℕ → ℕ → ℕ → TalliedCall
 
-unfoldable pub countedBy : TalliedCall → CountedCall
-countedBy (fromAssemblyGraphCall bs room caller) = fromAssemblyGraphCounted bs room caller
-countedBy (simplifyGraphCall bs room caller) = simplifyGraphCounted bs room caller
-countedBy (cleanupSeqGraphCall bs room caller) = cleanupSeqGraphCounted bs room caller
-countedBy (cleanNonRefPathsCall bs room caller) = cleanNonRefPathsCounted bs room caller
-countedBy (referencePathBytesCall bs room caller) = referencePathBytesCounted bs room caller
-countedBy (pathBasesBytesCall bs start edges room caller) = pathBasesBytesCounted bs start edges room caller
+unfoldable pub counted_by : TalliedCall → CountedCall
+counted_by (from_assembly_graph_call bs room caller) = from_assembly_graph_counted bs room caller
+counted_by (simplify_graph_call bs room caller) = simplify_graph_counted bs room caller
+counted_by (cleanup_seq_graph_call bs room caller) = cleanup_seq_graph_counted bs room caller
+counted_by (clean_non_ref_paths_call bs room caller) = clean_non_ref_paths_counted bs room caller
+counted_by (reference_path_bytes_call bs room caller) = reference_path_bytes_counted bs room caller
+counted_by (path_bases_bytes_call bs start edges room caller) = path_bases_bytes_counted bs start edges room caller
 
-unfoldable pub afterCalls : List TalliedCall → List Tally → List Tally
-afterCalls [] table = table
-afterCalls (call ∷ calls) table = afterCalls calls (after_call (countedBy call) table)
+unfoldable pub after_calls : List TalliedCall → List Tally → List Tally
+after_calls [] table = table
+after_calls (call ∷ calls) table = after_calls calls (after_call (counted_by call) table)
 
 -- the calls of one caller alone
-unfoldable pub ownCalls : ℕ → List TalliedCall → List TalliedCall
-ownCalls caller calls = keepIf (λ call. eqb (countedBy call).caller caller) calls
+unfoldable pub own_calls : ℕ → List TalliedCall → List TalliedCall
+own_calls caller calls = keep_if (λ call. eqb (counted_by call).caller caller) calls

@@ -1,7 +1,7 @@
 -- Tallies: one for each of sixteen callers, in a table, and what a call makes of the table. The callers are 0 to 15.
 -- Assumes nothing.
 use Rattle.std.specs.Prelude.{ℕ, cond, List, eqb, ltb, get_or, set}
-use Rattle.defs.specs.SeqGraph.{saturatingAdd}
+use Rattle.defs.specs.SeqGraph.{saturating_add}
 
 -- calls answered, calls refused, and the rewrites made in the answered ones
 pub record Tally : Type 0 where
@@ -19,16 +19,16 @@ pub record CountedCall : Type 0 where
 unfoldable pub tallied : CountedCall → Tally → Tally
 tallied c t =
     cond (eqb c.number 0)
-    (record { answered = saturatingAdd t.answered 1; refused = t.refused; rewrites = saturatingAdd t.rewrites c.rewrites })
-    (record { answered = t.answered; refused = saturatingAdd t.refused 1; rewrites = t.rewrites })
+    (record { answered = saturating_add t.answered 1; refused = t.refused; rewrites = saturating_add t.rewrites c.rewrites })
+    (record { answered = t.answered; refused = saturating_add t.refused 1; rewrites = t.rewrites })
 
 -- a new tally
-unfoldable pub noCalls : Tally
-noCalls = record { answered = 0; refused = 0; rewrites = 0 }
+unfoldable pub no_calls : Tally
+no_calls = record { answered = 0; refused = 0; rewrites = 0 }
 
-unfoldable pub callerTally : List Tally → ℕ → Tally
-callerTally table caller = get_or table caller noCalls
+unfoldable pub caller_tally : List Tally → ℕ → Tally
+caller_tally table caller = get_or table caller no_calls
 
 -- the table behind a call: its caller's tally has counted it, the others are as they were; a caller above 15 has no tally
 unfoldable pub after_call : CountedCall → List Tally → List Tally
-after_call c table = cond (ltb 15 c.caller) table (set table c.caller (tallied c (callerTally table c.caller)))
+after_call c table = cond (ltb 15 c.caller) table (set table c.caller (tallied c (caller_tally table c.caller)))

@@ -1,31 +1,31 @@
 -- The shapes of diamond and tails, tested over the index. Assumes nothing.
 use Rattle.std.specs.Prelude.{◌≡◌, Bool, ◌&&◌, List, ℕ, length, eqb, ltb}
 use Rattle.defs.specs.Lists.{all_of}
-use Rattle.defs.specs.Rewrites.{isDiamond, isTails}
-use Rattle.store.specs.Store.{graphIn, numsIn}
-use Rattle.index.specs.Index.{edgeEnd, incidentEdges}
+use Rattle.defs.specs.Rewrites.{is_diamond, is_tails}
+use Rattle.store.specs.Store.{graph_in, nums_in}
+use Rattle.index.specs.Index.{edge_end, incident_edges}
 
 -- every edge from v enters b
-abbrev pub allEnter : ℕ → List ℕ → ℕ → ℕ → Bool
-allEnter m es v b = all_of (λ (e : ℕ). eqb b (edgeEnd 1 es e)) (incidentEdges (edgeEnd 0 es) m v)
+abbrev pub all_enter : ℕ → List ℕ → ℕ → ℕ → Bool
+all_enter m es v b = all_of (λ (e : ℕ). eqb b (edge_end 1 es e)) (incident_edges (edge_end 0 es) m v)
 
 -- how many edges leave and enter v
-abbrev pub outCount : ℕ → List ℕ → ℕ → ℕ
-outCount m es v = length (incidentEdges (edgeEnd 0 es) m v)
+abbrev pub out_count : ℕ → List ℕ → ℕ → ℕ
+out_count m es v = length (incident_edges (edge_end 0 es) m v)
 
-abbrev pub inCount : ℕ → List ℕ → ℕ → ℕ
-inCount m es v = length (incidentEdges (edgeEnd 1 es) m v)
+abbrev pub in_count : ℕ → List ℕ → ℕ → ℕ
+in_count m es v = length (incident_edges (edge_end 1 es) m v)
 
 -- v is a middle above b, or a tail
-abbrev pub isMiddle : ℕ → List ℕ → ℕ → ℕ → Bool
-isMiddle m es b v = eqb (inCount m es v) 1 && (ltb 0 (outCount m es v) && allEnter m es v b)
+abbrev pub is_middle : ℕ → List ℕ → ℕ → ℕ → Bool
+is_middle m es b v = eqb (in_count m es v) 1 && (ltb 0 (out_count m es v) && all_enter m es v b)
 
-abbrev pub isTail : ℕ → List ℕ → ℕ → Bool
-isTail m es v = eqb (outCount m es v) 0 && eqb (inCount m es v) 1
+abbrev pub is_tail : ℕ → List ℕ → ℕ → Bool
+is_tail m es v = eqb (out_count m es v) 0 && eqb (in_count m es v) 1
 
 -- the answer is the definition's, whatever k, the vertices and the pool
 pub record Diamond (m n : ℕ) (es nodes : List ℕ) (c b : ℕ) (r : Bool) : Type 0 where
-  pub is : (k : ℕ) (vs p : List ℕ) → r ≡ isDiamond (graphIn k n m es vs p) (numsIn c nodes) b
+  pub is : (k : ℕ) (vs p : List ℕ) → r ≡ is_diamond (graph_in k n m es vs p) (nums_in c nodes) b
 
 pub record Tails (m n : ℕ) (es nodes : List ℕ) (c : ℕ) (r : Bool) : Type 0 where
-  pub is : (k : ℕ) (vs p : List ℕ) → r ≡ isTails (graphIn k n m es vs p) (numsIn c nodes)
+  pub is : (k : ℕ) (vs p : List ℕ) → r ≡ is_tails (graph_in k n m es vs p) (nums_in c nodes)

@@ -2,10 +2,10 @@
 // `off` 0 is the end that an edge leaves, 1 the end that it enters.
 ghost use Rattle.std.specs.Prelude.{◌≡◌, ◌+◌, ◌*◌, ◌<◌, ◌≤◌, length, eqb};
 ghost use Rattle.defs.specs.Lists.{all_of};
-ghost use Rattle.store.specs.Store.{numsIn};
+ghost use Rattle.store.specs.Store.{nums_in};
 ghost use Rattle.compact.specs.Compact.{Below};
-ghost use Rattle.index.specs.Index.{Indexed, edgeEnd, incidentEdges};
-ghost use Rattle.diamond.specs.Diamond.{allEnter, isMiddle, isTail, Diamond, Tails};
+ghost use Rattle.index.specs.Index.{Indexed, edge_end, incident_edges};
+ghost use Rattle.diamond.specs.Diamond.{all_enter, is_middle, is_tail, Diamond, Tails};
 
 // Whether c edges are at v, no more and no fewer. However many there are, it follows c + 1 of them at most: a vertex with many edges can
 // be asked for once for each of them.
@@ -20,7 +20,7 @@ pub fn degree_is(
     c: usize,
 ) -> bool
     requires { (v < n) × ((off ≤ 1) × Indexed m n es.now heads.now nexts.now) }
-    ensures { result ≡ eqb (length (incidentEdges (edgeEnd off es.now) m v)) c }
+    ensures { result ≡ eqb (length (incident_edges (edge_end off es.now) m v)) c }
 {
     let mut d = 0;
     let mut e = heads[2 * v + off] as usize;
@@ -45,7 +45,7 @@ pub fn all_enter(
     b: u32,
 ) -> bool
     requires { (v < n) × Indexed m n es.now heads.now nexts.now }
-    ensures { result ≡ allEnter m es.now v b }
+    ensures { result ≡ all_enter m es.now v b }
 {
     let mut e = heads[2 * v] as usize;
     while e < m {
@@ -68,7 +68,7 @@ pub fn is_middle(
     b: u32,
 ) -> bool
     requires { (v < n) × Indexed m n es.now heads.now nexts.now }
-    ensures { result ≡ isMiddle m es.now b v }
+    ensures { result ≡ is_middle m es.now b v }
 {
     if !index::has_one(es, m, n, heads, nexts, 1, v) {
         return false;
@@ -91,7 +91,7 @@ pub fn all_middles(
     b: u32,
 ) -> bool
     requires { Below nodes.now c n × Indexed m n es.now heads.now nexts.now }
-    ensures { result ≡ all_of (isMiddle m es.now b) (numsIn c nodes.now) }
+    ensures { result ≡ all_of (is_middle m es.now b) (nums_in c nodes.now) }
 {
     let mut i = 0;
     while i < c {
@@ -129,7 +129,7 @@ pub fn is_diamond(
 // Whether v has no edge out and one edge in.
 pub fn is_tail(es: &[u32], m: usize, n: usize, heads: &[u32], nexts: &[u32], v: usize) -> bool
     requires { (v < n) × Indexed m n es.now heads.now nexts.now }
-    ensures { result ≡ isTail m es.now v }
+    ensures { result ≡ is_tail m es.now v }
 {
     if !degree_is(es, m, n, heads, nexts, 0, v, 0) {
         return false;
@@ -148,7 +148,7 @@ pub fn all_tails(
     c: usize,
 ) -> bool
     requires { Below nodes.now c n × Indexed m n es.now heads.now nexts.now }
-    ensures { result ≡ all_of (isTail m es.now) (numsIn c nodes.now) }
+    ensures { result ≡ all_of (is_tail m es.now) (nums_in c nodes.now) }
 {
     let mut i = 0;
     while i < c {

@@ -1,6 +1,6 @@
 -- Edges with the same ends, found by marks. Assumes nothing.
 use Rattle.std.specs.Prelude.{◌≡◌, Bool, true, false, List, ℕ, ◌+◌, ◌≤◌, ◌<◌, length, get_or}
-use Rattle.index.specs.Index.{edgeEnd}
+use Rattle.index.specs.Index.{edge_end}
 
 -- two of the m edges leave v and enter the same vertex
 pub record Twins (m : ℕ) (es : List ℕ) (v : ℕ) : Type 0 where
@@ -8,9 +8,9 @@ pub record Twins (m : ℕ) (es : List ℕ) (v : ℕ) : Type 0 where
   pub second : ℕ
   pub order : first < second
   pub below : second < m
-  pub from_first : edgeEnd 0 es first ≡ v
-  pub from_second : edgeEnd 0 es second ≡ v
-  pub to_same : edgeEnd 1 es first ≡ edgeEnd 1 es second
+  pub from_first : edge_end 0 es first ≡ v
+  pub from_second : edge_end 0 es second ≡ v
+  pub to_same : edge_end 1 es first ≡ edge_end 1 es second
 
 -- a mark for each of n vertices; the marks are their numbers plus 1
 pub record Markable (n : ℕ) (marks : List ℕ) : Type 0 where

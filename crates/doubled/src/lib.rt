@@ -1,7 +1,7 @@
 // Two edges with the same ends: marks along the adjacency lists, so that each edge is looked at once.
 ghost use Rattle.std.specs.Prelude.{◌≡◌, ◌<◌};
-ghost use Rattle.defs.specs.Refusals.{doubledEdge};
-ghost use Rattle.store.specs.Store.{edgesIn};
+ghost use Rattle.defs.specs.Refusals.{doubled_edge};
+ghost use Rattle.store.specs.Store.{edges_in};
 ghost use Rattle.index.specs.Index.{Indexed};
 ghost use Rattle.doubled.specs.Doubled.{Markable, Stale, DoubledFrom};
 
@@ -41,7 +41,7 @@ pub fn doubled_edge(
     marks: &mut [u32],
 ) -> bool
     requires { Indexed m n es.now heads.now nexts.now × Markable n marks.old }
-    ensures { result ≡ doubledEdge (edgesIn m es.now) }
+    ensures { result ≡ doubled_edge (edges_in m es.now) }
 {
     compact::fill(marks, n, 0);
     let mut v = 0;

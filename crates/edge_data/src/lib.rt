@@ -2,9 +2,9 @@
 // the functions here take a flag apart or put one together, and only `joined` adds supports.
 ghost use Rattle.std.specs.Prelude.{◌≡◌, ◌||◌, ◌+◌, ◌*◌};
 ghost use Rattle.defs.specs.Lists.{bit};
-ghost use Rattle.defs.specs.SeqGraph.{saturatingAdd, joinedData};
-ghost use Rattle.defs.specs.Record.{flagIsRef, flagIsCapped};
-ghost use Rattle.edge_data.specs.EdgeData.{carriedData};
+ghost use Rattle.defs.specs.SeqGraph.{saturating_add, joined_data};
+ghost use Rattle.defs.specs.Record.{flag_is_ref, flag_is_capped};
+ghost use Rattle.edge_data.specs.EdgeData.{carried_data};
 
 #[derive(Drop)]
 pub struct Carried {
@@ -13,13 +13,13 @@ pub struct Carried {
 }
 
 pub fn flag_is_ref(flag: u32) -> bool
-    ensures { result ≡ flagIsRef flag }
+    ensures { result ≡ flag_is_ref flag }
 {
     flag % 2 == 1
 }
 
 pub fn flag_is_capped(flag: u32) -> bool
-    ensures { result ≡ flagIsCapped flag }
+    ensures { result ≡ flag_is_capped flag }
 {
     1 < flag
 }
@@ -44,7 +44,7 @@ pub fn either(a: bool, b: bool) -> bool
 }
 
 pub fn saturating_add(x: u32, y: u32) -> u32
-    ensures { result ≡ saturatingAdd x y }
+    ensures { result ≡ saturating_add x y }
 {
     if 4294967295 - x < y {
         4294967295
@@ -55,7 +55,7 @@ pub fn saturating_add(x: u32, y: u32) -> u32
 
 // Two edges joined.
 pub fn joined(a: Carried, b: Carried) -> Carried
-    ensures { carriedData result ≡ joinedData (carriedData a) (carriedData b) }
+    ensures { carried_data result ≡ joined_data (carried_data a) (carried_data b) }
 {
     let reference = either(flag_is_ref(a.flag), flag_is_ref(b.flag));
     let one = either(flag_is_capped(a.flag), flag_is_capped(b.flag));

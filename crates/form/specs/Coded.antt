@@ -5,11 +5,11 @@ use Rattle.defs.specs.Forms as forms
 use Rattle.form.specs.declared.Form.{Form}
 use Rattle.form.specs.declared.Form.TheVariants.{Sgr1, Sgr2}
 
-unfoldable pub formIs : Form → forms.Form
-formIs Sgr1 = forms.sgr1
-formIs Sgr2 = forms.sgr2
+unfoldable pub form_is : Form → forms.Form
+form_is Sgr1 = forms.sgr1
+form_is Sgr2 = forms.sgr2
 
 -- a number fits a word when it is below this
-unfoldable pub wordLimit : forms.Form → ℕ
-wordLimit forms.sgr1 = 65536
-wordLimit forms.sgr2 = 4294967296
+unfoldable pub word_limit : forms.Form → ℕ
+word_limit forms.sgr1 = 65536
+word_limit forms.sgr2 = 4294967296

@@ -3,9 +3,9 @@
 ghost use Rattle.std.specs.Prelude.{◌≡◌, ◌+◌, ◌<◌, ◌≤◌, length, take};
 ghost use Rattle.std.proofs.lemmas.List.Edits.{sets};
 ghost use Rattle.defs.specs.Lists.{same_list};
-ghost use Rattle.defs.specs.Forms.{formOf, word_size, lengthsAt, limits};
+ghost use Rattle.defs.specs.Forms.{form_of, word_size, lengths_at, limits};
 ghost use Rattle.defs.specs.Record.{word_bytes, word_at, edges_at, bytes_at};
-ghost use Rattle.form.specs.Coded.{formIs, wordLimit};
+ghost use Rattle.form.specs.Coded.{form_is, word_limit};
 
 #[derive(Drop)]
 pub enum Form {
@@ -15,7 +15,7 @@ pub enum Form {
 
 // How many bytes a word has: a count, a length or an end of an edge.
 pub fn word_size(form: Form) -> usize
-    ensures { result ≡ word_size (formIs form) }
+    ensures { result ≡ word_size (form_is form) }
 {
     match form {
         Form::Sgr1 => 2,
@@ -25,7 +25,7 @@ pub fn word_size(form: Form) -> usize
 
 // Where the lengths stand: behind the header.
 pub fn lengths_at(form: Form) -> usize
-    ensures { result ≡ lengthsAt (formIs form) }
+    ensures { result ≡ lengths_at (form_is form) }
 {
     match form {
         Form::Sgr1 => 32,
@@ -36,7 +36,7 @@ pub fn lengths_at(form: Form) -> usize
 // Where the edges stand, with v vertices. Length i stands where the edges would with i vertices.
 pub fn edges_at(form: Form, v: usize) -> usize
     requires { v < 4294967296 }
-    ensures { result ≡ edges_at (formIs form) v }
+    ensures { result ≡ edges_at (form_is form) v }
 {
     match form {
         Form::Sgr1 => 32 + 2 * v,
@@ -47,7 +47,7 @@ pub fn edges_at(form: Form, v: usize) -> usize
 // Where the sequence bytes stand, with v vertices and e edges. Edge i stands where the bytes would with i edges.
 pub fn bytes_at(form: Form, v: usize, e: usize) -> usize
     requires { (v < 4294967296) × (e < 4294967296) }
-    ensures { result ≡ bytes_at (formIs form) v e }
+    ensures { result ≡ bytes_at (form_is form) v e }
 {
     match form {
         Form::Sgr1 => 32 + 2 * v + 9 * e,
@@ -57,7 +57,7 @@ pub fn bytes_at(form: Form, v: usize, e: usize) -> usize
 
 // The limits of input. The bytes are limited in a sequence graph, and in what conversion makes.
 pub fn most_vertices(form: Form) -> usize
-    ensures { result ≡ (limits (formIs form)).vertices }
+    ensures { result ≡ (limits (form_is form)).vertices }
 {
     match form {
         Form::Sgr1 => 2048,
@@ -66,7 +66,7 @@ pub fn most_vertices(form: Form) -> usize
 }
 
 pub fn most_edges(form: Form) -> usize
-    ensures { result ≡ (limits (formIs form)).edges }
+    ensures { result ≡ (limits (form_is form)).edges }
 {
     match form {
         Form::Sgr1 => 4096,
@@ -75,7 +75,7 @@ pub fn most_edges(form: Form) -> usize
 }
 
 pub fn most_bytes(form: Form) -> usize
-    ensures { result ≡ (limits (formIs form)).bytes }
+    ensures { result ≡ (limits (form_is form)).bytes }
 {
     match form {
         Form::Sgr1 => 8192,
@@ -102,7 +102,7 @@ pub fn begins_with(rec: &[u8], mark: &[u8]) -> bool
 
 // A record's form, by its first four bytes.
 pub fn form_of(rec: &[u8]) -> Form
-    ensures { formIs result ≡ formOf rec.now }
+    ensures { form_is result ≡ form_of rec.now }
 {
     if rec.len() < 4 {
         return Form::Sgr1;
@@ -114,8 +114,8 @@ pub fn form_of(rec: &[u8]) -> Form
 }
 
 pub fn word_at(rec: &[u8], at: usize, form: Form) -> u32
-    requires { at + word_size (formIs form) ≤ length rec.now }
-    ensures { result ≡ word_at (formIs form) rec.now at }
+    requires { at + word_size (form_is form) ≤ length rec.now }
+    ensures { result ≡ word_at (form_is form) rec.now at }
 {
     match form {
         Form::Sgr1 => le::u16_at(rec, at) as u32,
@@ -124,8 +124,8 @@ pub fn word_at(rec: &[u8], at: usize, form: Form) -> u32
 }
 
 pub fn put_word(dst: &mut [u8], at: usize, form: Form, v: u32)
-    requires { (at + word_size (formIs form) ≤ length dst.old) × (v < wordLimit (formIs form)) }
-    ensures { dst.new ≡ sets dst.old at (word_bytes (formIs form) v) }
+    requires { (at + word_size (form_is form) ≤ length dst.old) × (v < word_limit (form_is form)) }
+    ensures { dst.new ≡ sets dst.old at (word_bytes (form_is form) v) }
 {
     match form {
         Form::Sgr1 => {

@@ -5,18 +5,18 @@ use Prim.Native.Nat.{ℕ, ◌≤◌, ◌<◌}
 use native.Mathlib.Omega.{arith}
 use lib.ListN.{length, take}
 use Rattle.defs.specs.Lists.{all_of}
-use Rattle.defs.specs.Forms.{Form, formOf, limits}
+use Rattle.defs.specs.Forms.{Form, form_of, limits}
 use Rattle.defs.specs.SeqGraph.{Graph}
 use Rattle.defs.specs.Calls as D
-use Rattle.defs.specs.Calls.{callerCause, conversionCauses}
-use Rattle.defs.specs.Calls.{fromAssemblyGraphCauses, fromAssemblyGraphResponse, fromAssemblyGraphAnswer}
-use Rattle.defs.specs.Record.{sequenceGraph, encode, decode}
-use Rattle.defs.specs.Refusals.{Cause, refusalOf, layoutCauses}
-use Rattle.defs.specs.Assembly.{edgesSorted, fromAssemblyGraph, SourcesHoldKmers, RunsAreKmers}
-use Rattle.defs.specs.Simplify.{sequenceBytes}
+use Rattle.defs.specs.Calls.{caller_cause, conversion_causes}
+use Rattle.defs.specs.Calls.{from_assembly_graph_causes, from_assembly_graph_response, from_assembly_graph_answer}
+use Rattle.defs.specs.Record.{sequence_graph, encode, decode}
+use Rattle.defs.specs.Refusals.{Cause, refusal_of, layout_causes}
+use Rattle.defs.specs.Assembly.{edges_sorted, from_assembly_graph, SourcesHoldKmers, RunsAreKmers}
+use Rattle.defs.specs.Simplify.{sequence_bytes}
 use Rattle.laws.proofs.Fuel.{Good}
 use Rattle.laws.proofs.Causes.{numbers-other}
-use Rattle.reread.specs.Reread.{inputLength, ReacceptedAs}
+use Rattle.reread.specs.Reread.{input_length, ReacceptedAs}
 use Rattle.reread.specs.Recordable.{SequenceInput, KmerInput}
 use Rattle.reread.proofs.Graphs.{input-reaccepted}
 use Rattle.reread.proofs.Read.{Bytes, kmer-input}
@@ -33,16 +33,16 @@ use Rattle.accept.specs.Accept.{RoomToMark}
 use Rattle.accept.specs.declared.Read.{Read}
 use Rattle.accept.specs.declared.Read.TheVariants as read
 use Rattle.accept.specs.declared.Read.TheVariants.{Refused}
-use Rattle.read_kmers.specs.Kmers.{overlappingCauses, KmersRead}
+use Rattle.read_kmers.specs.Kmers.{overlapping_causes, KmersRead}
 use Rattle.from_kmers.specs.Conversion.{RoomToConvert, ConvertedAs, ConvertibleKmers, KmersConverted}
 use Rattle.from_kmers.proofs.ConversionLaws.{conversion-numbered, none-early, none-late, all-overlap, refused, convertible, converted_as}
-use Rattle.from_assembly_graph.specs.Converts.{conversionResponse, Converts, HeldToConvert, SizedToReadKmers, SizedToConvert}
+use Rattle.from_assembly_graph.specs.Converts.{conversion_response, Converts, HeldToConvert, SizedToReadKmers, SizedToConvert}
 
 -- ---- the converted graph is within the limits of input
 
 module _ (g : Graph) where
-  converted-good : Good g → Good (fromAssemblyGraph g)
-  unfolding fromAssemblyGraph edgesSorted
+  converted-good : Good g → Good (from_assembly_graph g)
+  unfolding from_assembly_graph edges_sorted
   converted-good (s, o) = (
     record {
       bounded = λ e m.
@@ -54,8 +54,8 @@ module _ (g : Graph) where
     single-sort g g.edges o,
   )
 
-  converted-input : {f : Form} → KmerInput f g → sequenceBytes (fromAssemblyGraph g).verts ≤ (limits f).bytes → SequenceInput f (fromAssemblyGraph g)
-  unfolding fromAssemblyGraph edgesSorted
+  converted-input : {f : Form} → KmerInput f g → sequence_bytes (from_assembly_graph g).verts ≤ (limits f).bytes → SequenceInput f (from_assembly_graph g)
+  unfolding from_assembly_graph edges_sorted
   converted-input I few = record {
     good = converted-good I.good;
     k-least = I.k-least;
@@ -66,100 +66,100 @@ module _ (g : Graph) where
     supports = λ e m. I.supports e (of-sort g g.edges e m);
   }
 
-convert-reaccepted : (bs : List ℕ) → Bytes bs → refusalOf (conversionCauses bs) ≡ 0
-    → ReacceptedAs (formOf bs) (fromAssemblyGraph (decode bs)) (D.convertedRecord bs)
+convert-reaccepted : (bs : List ℕ) → Bytes bs → refusal_of (conversion_causes bs) ≡ 0
+    → ReacceptedAs (form_of bs) (from_assembly_graph (decode bs)) (D.converted_record bs)
 convert-reaccepted bs small none =
-    input-reaccepted (formOf bs) (fromAssemblyGraph (decode bs))
+    input-reaccepted (form_of bs) (from_assembly_graph (decode bs))
     (converted-input (decode bs) (kmer-input bs small (none-early bs none)) (none-late bs none)) 0
     (omega arith)
 
-never-11 : (bs : List ℕ) → refusalOf (conversionCauses bs) ≡ 11 → ⊥
-unfolding conversionCauses layoutCauses all_of
-never-11 bs e = numbers-other 11 (conversionCauses bs) (omega arith) refl e
+never-11 : (bs : List ℕ) → refusal_of (conversion_causes bs) ≡ 11 → ⊥
+unfolding conversion_causes layout_causes all_of
+never-11 bs e = numbers-other 11 (conversion_causes bs) (omega arith) refl e
 
 -- ---- what it keeps of the k-mers
 
-convert-runs : (bs : List ℕ) → Bytes bs → refusalOf (conversionCauses bs) ≡ 0 → RunsAreKmers (decode bs) (fromAssemblyGraph (decode bs))
+convert-runs : (bs : List ℕ) → Bytes bs → refusal_of (conversion_causes bs) ≡ 0 → RunsAreKmers (decode bs) (from_assembly_graph (decode bs))
 convert-runs bs small none =
     let I = kmer-input bs small (none-early bs none) in
     runs-are-kmers (decode bs) I.kmers.sizes (all-overlap bs none) (omega (arith, I.k-least))
 
 -- ---- what is sent
 
-module _ {bs : List ℕ} {r : Read} {sorted vs : List ℕ} (C : ConvertedAs bs r sorted vs) {f : Form} (form : f ≡ formOf bs) where
-  converted-sent : {out out' : List ℕ} {s : Answer} → SendsGraph f 0 r sorted vs bs out s out' → Responds (conversionResponse bs (length out)) out s out'
-  converted-sent S = S.is (conversionCauses bs) (D.convertedRecord bs)
+module _ {bs : List ℕ} {r : Read} {sorted vs : List ℕ} (C : ConvertedAs bs r sorted vs) {f : Form} (form : f ≡ form_of bs) where
+  converted-sent : {out out' : List ℕ} {s : Answer} → SendsGraph f 0 r sorted vs bs out s out' → Responds (conversion_response bs (length out)) out s out'
+  converted-sent S = S.is (conversion_causes bs) (D.converted_record bs)
       record {
         numbered = conversion-numbered bs;
         number = C.number;
-        is = λ h ok i. encode (form i) sequenceGraph 0 (C.is h ok i);
+        is = λ h ok i. encode (form i) sequence_graph 0 (C.is h ok i);
         refused = C.refused;
       }
 
-module _ {bs : List ℕ} {r : Read} {es vs heads nexts order : List ℕ} (A : KmersRead (overlappingCauses bs) bs r es vs heads nexts order) where
-  pub refused-sent : {n : ℕ} → r ≡ Refused n → {out : List ℕ} → Responds (conversionResponse bs (length out)) out record { number = n; length = 0 } out
+module _ {bs : List ℕ} {r : Read} {es vs heads nexts order : List ℕ} (A : KmersRead (overlapping_causes bs) bs r es vs heads nexts order) where
+  pub refused-sent : {n : ℕ} → r ≡ Refused n → {out : List ℕ} → Responds (conversion_response bs (length out)) out record { number = n; length = 0 } out
   refused-sent f = converted-sent (refused A {es₂ = []} {vs₂ = []} f) refl (sends-refused refl)
 
   pub held-to-convert : {h : Held} → r ≡ read.Graph h → {scratch place sorted : List ℕ} → RoomToConvert bs es vs heads nexts order scratch place sorted
       → HeldToConvert bs h es vs heads nexts order scratch place sorted
-  held-to-convert ok R = record { read = subst (λ (x : Read). KmersRead (overlappingCauses bs) bs x es vs heads nexts order) ok A; room = R }
+  held-to-convert ok R = record { read = subst (λ (x : Read). KmersRead (overlapping_causes bs) bs x es vs heads nexts order) ok A; room = R }
 
 module _ {bs : List ℕ} {h : Held} {es vs heads nexts order scratch place sorted : List ℕ}
     (H : HeldToConvert bs h es vs heads nexts order scratch place sorted) where
   pub held-convertible : ConvertibleKmers h es vs heads nexts order scratch place sorted
   held-convertible = convertible H.read refl H.room
 
-  module _ {f : Form} (form : f ≡ formOf bs) {made : Read} {sorted' vs' : List ℕ} (K : KmersConverted f h es vs heads nexts order made sorted' vs') where
+  module _ {f : Form} (form : f ≡ form_of bs) {made : Read} {sorted' vs' : List ℕ} (K : KmersConverted f h es vs heads nexts order made sorted' vs') where
     made_as : ConvertedAs bs made sorted' vs'
     made_as = converted_as H.read refl form K
 
     pub made-sendable : GraphSendable f 0 made sorted' vs' bs
     made-sendable = subst (λ (g : Form). GraphSendable g 0 made sorted' vs' bs) (sym form) record { sendable = made_as.sendable }
 
-    pub made-sent : {out out' : List ℕ} {s : Answer} → SendsGraph f 0 made sorted' vs' bs out s out' → Responds (conversionResponse bs (length out)) out s out'
+    pub made-sent : {out out' : List ℕ} {s : Answer} → SendsGraph f 0 made sorted' vs' bs out s out' → Responds (conversion_response bs (length out)) out s out'
     made-sent S = converted-sent made_as form S
 
 -- ---- the whole call
 
 module _ (bs : List ℕ) (caller : ℕ) {out : List ℕ} {a : Answer} {out' : List ℕ} (small : Bytes bs)
-    (S : Responds (fromAssemblyGraphResponse bs (length out) caller) out a out') where
+    (S : Responds (from_assembly_graph_response bs (length out) caller) out a out') where
   abbrev causes : List Cause
-  causes = callerCause caller ∷ conversionCauses bs
+  causes = caller_cause caller ∷ conversion_causes bs
 
   abbrev result : List ℕ
-  result = D.convertedRecord bs
+  result = D.converted_record bs
 
   converts : Converts bs out caller a out'
-  unfolding fromAssemblyGraphAnswer fromAssemblyGraphResponse fromAssemblyGraphCauses D.answer
+  unfolding from_assembly_graph_answer from_assembly_graph_response from_assembly_graph_causes D.answer
   converts = record {
     answer = λ i. record { number = S.number i; length = S.size i };
     written = S.written;
     room = λ l i.
-        room-enough causes out result (inputLength (formOf bs)) (λ e. never-11 bs (caller-other caller (conversionCauses bs) (λ z. omega (arith, z)) e))
+        room-enough causes out result (input_length (form_of bs)) (λ e. never-11 bs (caller-other caller (conversion_causes bs) (λ z. omega (arith, z)) e))
         (λ ok. (again ok).size) l (sym S.number ∙ i);
-    reaccepted = holds (ReacceptedAs (formOf bs) (fromAssemblyGraph (decode bs))) again;
+    reaccepted = holds (ReacceptedAs (form_of bs) (from_assembly_graph (decode bs))) again;
     sources = holds (λ rec. SourcesHoldKmers (decode bs) (decode rec)) (λ ok.
         subst (SourcesHoldKmers (decode bs)) (sym (again ok).graph) (sources-hold-kmers (decode bs)));
     runs = holds (λ rec. RunsAreKmers (decode bs) (decode rec)) (λ ok.
         subst (RunsAreKmers (decode bs)) (sym (again ok).graph) (convert-runs bs small (none_of ok)));
   }
     where
-      none_of : refusalOf causes ≡ 0 → refusalOf (conversionCauses bs) ≡ 0
-      none_of = caller-none caller (conversionCauses bs)
+      none_of : refusal_of causes ≡ 0 → refusal_of (conversion_causes bs) ≡ 0
+      none_of = caller-none caller (conversion_causes bs)
 
-      again : refusalOf causes ≡ 0 → ReacceptedAs (formOf bs) (fromAssemblyGraph (decode bs)) result
+      again : refusal_of causes ≡ 0 → ReacceptedAs (form_of bs) (from_assembly_graph (decode bs)) result
       again ok = convert-reaccepted bs small (none_of ok)
 
-      holds : (P : List ℕ → Type 0) → (refusalOf causes ≡ 0 → P result) → a.number ≡ 0 → P (take a.length out')
+      holds : (P : List ℕ → Type 0) → (refusal_of causes ≡ 0 → P result) → a.number ≡ 0 → P (take a.length out')
       holds P f = answered-holds causes out result P f S.number S.size S.written
 
 module _ (bs : List ℕ) {caller : ℕ} {out : List ℕ} (small : Bytes bs) where
   pub converts-refused : 15 < caller → Converts bs out caller record { number = 18; length = 0 } out
-  unfolding fromAssemblyGraphResponse fromAssemblyGraphCauses
+  unfolding from_assembly_graph_response from_assembly_graph_causes
   converts-refused l = converts bs caller small (sends-above _ _ l)
 
-  pub converts-sent : {a : Answer} {out' : List ℕ} → caller ≤ 15 → Responds (conversionResponse bs (length out)) out a out' → Converts bs out caller a out'
-  unfolding fromAssemblyGraphResponse fromAssemblyGraphCauses
+  pub converts-sent : {a : Answer} {out' : List ℕ} → caller ≤ 15 → Responds (conversion_response bs (length out)) out a out' → Converts bs out caller a out'
+  unfolding from_assembly_graph_response from_assembly_graph_causes
   converts-sent l S = converts bs caller small (sends-within _ _ l S)
 
 -- ---- room

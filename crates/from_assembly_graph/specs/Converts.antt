@@ -1,16 +1,16 @@
 -- The promise of from_assembly_graph, and the room that it takes. Assumes nothing.
 use Rattle.std.specs.Prelude.{◌≡◌, List, ℕ, ◌*◌, ◌≤◌, length, take}
-use Rattle.defs.specs.Forms.{formOf}
+use Rattle.defs.specs.Forms.{form_of}
 use Rattle.defs.specs.Record.{decode}
-use Rattle.defs.specs.Assembly.{fromAssemblyGraph, SourcesHoldKmers, RunsAreKmers}
-use Rattle.defs.specs.Calls.{Response, written_of, respond, conversionCauses, convertedRecord, fromAssemblyGraphResponse, fromAssemblyGraphAnswer}
-use Rattle.reread.specs.Reread.{inputLength, ReacceptedAs}
+use Rattle.defs.specs.Assembly.{from_assembly_graph, SourcesHoldKmers, RunsAreKmers}
+use Rattle.defs.specs.Calls.{Response, written_of, respond, conversion_causes, converted_record, from_assembly_graph_response, from_assembly_graph_answer}
+use Rattle.reread.specs.Reread.{input_length, ReacceptedAs}
 use Rattle.memory.specs.declared.Held.{Held}
 use Rattle.accept.specs.declared.Read.TheVariants.{Graph}
-use Rattle.read_kmers.specs.Kmers.{overlappingCauses, KmersRead}
+use Rattle.read_kmers.specs.Kmers.{overlapping_causes, KmersRead}
 use Rattle.from_kmers.specs.Conversion.{RoomToConvert}
 use Rattle.calls.specs.Answers.{answer_of}
-use Rattle.calls.specs.Sending.{withOutput}
+use Rattle.calls.specs.Sending.{with_output}
 use Rattle.calls.specs.declared.Answer.{Answer}
 
 -- For any bytes bs, any lent output and any caller: the answer and the output at exit are the definition's. 49,184 bytes of output are room
@@ -18,20 +18,20 @@ use Rattle.calls.specs.declared.Answer.{Answer}
 -- limits of input; handed in again, it is accepted. In the graph written a source holds the whole k-mer of the record handed in, every other vertex
 -- its last byte; and each run of k bytes of every string that it spells from end to end is one of that record's k-mers.
 pub record Converts (bs out : List ℕ) (caller : ℕ) (r : Answer) (out' : List ℕ) : Type 0 where
-  pub answer : answer_of r ≡ fromAssemblyGraphAnswer bs (length out) caller
-  pub written : out' ≡ written_of (fromAssemblyGraphResponse bs (length out) caller) out
-  pub room : inputLength (formOf bs) ≤ length out → r.number ≡ 11 → ⊥
-  pub reaccepted : r.number ≡ 0 → ReacceptedAs (formOf bs) (fromAssemblyGraph (decode bs)) (take r.length out')
+  pub answer : answer_of r ≡ from_assembly_graph_answer bs (length out) caller
+  pub written : out' ≡ written_of (from_assembly_graph_response bs (length out) caller) out
+  pub room : input_length (form_of bs) ≤ length out → r.number ≡ 11 → ⊥
+  pub reaccepted : r.number ≡ 0 → ReacceptedAs (form_of bs) (from_assembly_graph (decode bs)) (take r.length out')
   pub sources : r.number ≡ 0 → SourcesHoldKmers (decode bs) (decode (take r.length out'))
   pub runs : r.number ≡ 0 → RunsAreKmers (decode bs) (decode (take r.length out'))
 
 -- the response by the causes but for 18
-abbrev pub conversionResponse : List ℕ → ℕ → Response
-conversionResponse bs room = respond (withOutput (conversionCauses bs) room (convertedRecord bs)) (convertedRecord bs)
+abbrev pub conversion_response : List ℕ → ℕ → Response
+conversion_response bs room = respond (with_output (conversion_causes bs) room (converted_record bs)) (converted_record bs)
 
 -- the k-mer graph that was read of a record, and room to convert it
 pub record HeldToConvert (bs : List ℕ) (h : Held) (es vs heads nexts order scratch place sorted : List ℕ) : Type 0 where
-  pub read : KmersRead (overlappingCauses bs) bs (Graph h) es vs heads nexts order
+  pub read : KmersRead (overlapping_causes bs) bs (Graph h) es vs heads nexts order
   pub room : RoomToConvert bs es vs heads nexts order scratch place sorted
 
 -- The lengths of arrays for v vertices and e edges. Numbers of vertices, then of edges, of which there may be more, stand in `order` and `scratch`.

@@ -1,11 +1,11 @@
 // The public call `from_assembly_graph`: a k-mer record's graph as a sequence graph's record of the same form. Nothing is asked of the caller.
 ghost use Rattle.std.specs.Prelude.{◌≡◌, length};
-ghost use Rattle.defs.specs.Forms.{formOf};
-ghost use Rattle.defs.specs.Record.{verticesOf, edgesOf};
-ghost use Rattle.form.specs.Coded.{formIs};
+ghost use Rattle.defs.specs.Forms.{form_of};
+ghost use Rattle.defs.specs.Record.{vertices_of, edges_of};
+ghost use Rattle.form.specs.Coded.{form_is};
 ghost use Rattle.calls.specs.Sending.{Responds};
 ghost use Rattle.arrays.specs.Sized.{FewToRead};
-ghost use Rattle.from_assembly_graph.specs.Converts.{conversionResponse, HeldToConvert, Converts};
+ghost use Rattle.from_assembly_graph.specs.Converts.{conversion_response, HeldToConvert, Converts};
 
 use accept::Read;
 use arrays::{
@@ -31,7 +31,7 @@ fn convert_held(
     sorted: &mut [u32],
 ) -> Answer
     requires { HeldToConvert rec.now held es.now vs.old heads.now nexts.now order.old scratch.old place.old sorted.old }
-    ensures { Responds (conversionResponse rec.now (length out.old)) out.old result out.new }
+    ensures { Responds (conversion_response rec.now (length out.old)) out.old result out.new }
 {
     let form = form::form_of(rec);
     let made = from_kmers::convert(
@@ -55,7 +55,7 @@ fn vast_with(
     place: &mut [u32; MOST_VERTICES],
     sorted: &mut [u32; 4 * MOST_EDGES],
 ) -> Answer
-    ensures { Responds (conversionResponse rec.now (length out.old)) out.old result out.new }
+    ensures { Responds (conversion_response rec.now (length out.old)) out.old result out.new }
 {
     let held = match read_kmers::read_overlapping_kmer_graph(
         rec, es, vs, heads, nexts, order, scratch, place,
@@ -72,7 +72,7 @@ fn vast_with(
 }
 
 fn vast(rec: &[u8], out: &mut [u8]) -> Answer
-    ensures { Responds (conversionResponse rec.now (length out.old)) out.old result out.new }
+    ensures { Responds (conversion_response rec.now (length out.old)) out.old result out.new }
 {
     let mut es = [0u32; 4 * MOST_EDGES];
     let mut vs = [0u32; 2 * MOST_VERTICES];
@@ -109,7 +109,7 @@ fn large_with(
     sorted: &mut [u32; 4 * MANY_EDGES],
 ) -> Answer
     requires { FewToRead 2048 4096 rec.now }
-    ensures { Responds (conversionResponse rec.now (length out.old)) out.old result out.new }
+    ensures { Responds (conversion_response rec.now (length out.old)) out.old result out.new }
 {
     let held = match read_kmers::read_overlapping_kmer_graph(
         rec, es, vs, heads, nexts, order, scratch, place,
@@ -127,7 +127,7 @@ fn large_with(
 
 fn large(rec: &[u8], out: &mut [u8]) -> Answer
     requires { FewToRead 2048 4096 rec.now }
-    ensures { Responds (conversionResponse rec.now (length out.old)) out.old result out.new }
+    ensures { Responds (conversion_response rec.now (length out.old)) out.old result out.new }
 {
     let mut es = [0u32; 4 * MANY_EDGES];
     let mut vs = [0u32; 2 * MANY_VERTICES];
@@ -164,7 +164,7 @@ fn small_with(
     sorted: &mut [u32; 4 * FEW_EDGES],
 ) -> Answer
     requires { FewToRead 512 512 rec.now }
-    ensures { Responds (conversionResponse rec.now (length out.old)) out.old result out.new }
+    ensures { Responds (conversion_response rec.now (length out.old)) out.old result out.new }
 {
     let held = match read_kmers::read_overlapping_kmer_graph(
         rec, es, vs, heads, nexts, order, scratch, place,
@@ -182,7 +182,7 @@ fn small_with(
 
 fn small(rec: &[u8], out: &mut [u8]) -> Answer
     requires { FewToRead 512 512 rec.now }
-    ensures { Responds (conversionResponse rec.now (length out.old)) out.old result out.new }
+    ensures { Responds (conversion_response rec.now (length out.old)) out.old result out.new }
 {
     let mut es = [0u32; 4 * FEW_EDGES];
     let mut vs = [0u32; 2 * FEW_VERTICES];
@@ -208,8 +208,8 @@ fn small(rec: &[u8], out: &mut [u8]) -> Answer
 
 // A record past the small class. One that does not begin SGR2 is refused, if it is, by the limits of SGR1, for which the large arrays are enough.
 fn past_small(rec: &[u8], out: &mut [u8], form: Form, vertices: usize, edges: usize) -> Answer
-    requires { (formIs form ≡ formOf rec.now) × ((vertices ≡ verticesOf rec.now) × (edges ≡ edgesOf rec.now)) }
-    ensures { Responds (conversionResponse rec.now (length out.old)) out.old result out.new }
+    requires { (form_is form ≡ form_of rec.now) × ((vertices ≡ vertices_of rec.now) × (edges ≡ edges_of rec.now)) }
+    ensures { Responds (conversion_response rec.now (length out.old)) out.old result out.new }
 {
     match form {
         Form::Sgr1 => return large(rec, out),
@@ -227,7 +227,7 @@ fn past_small(rec: &[u8], out: &mut [u8], form: Form, vertices: usize, edges: us
 // In the arrays of the record's class. Those of each but the small one stand behind two tests: with one call of a function that has arrays the
 // compiler would lay its frame into this one, and every record would take it.
 fn convert(rec: &[u8], out: &mut [u8]) -> Answer
-    ensures { Responds (conversionResponse rec.now (length out.old)) out.old result out.new }
+    ensures { Responds (conversion_response rec.now (length out.old)) out.old result out.new }
 {
     if rec.len() <= SMALL_RECORD {
         return small(rec, out);

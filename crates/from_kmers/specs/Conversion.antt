@@ -1,34 +1,34 @@
 -- The graph of a k-mer record that is converted. Assumes nothing.
 use Rattle.std.specs.Prelude.{◌≡◌, List, ℕ, ◌+◌, ◌*◌, ◌≤◌, ◌<◌, length, get_or}
-use Rattle.defs.specs.Forms.{Form, formOf}
-use Rattle.defs.specs.Record.{edgesOf, decode}
-use Rattle.defs.specs.Refusals.{refusalOf}
-use Rattle.defs.specs.Assembly.{fromAssemblyGraph}
-use Rattle.defs.specs.Calls.{conversionCauses}
+use Rattle.defs.specs.Forms.{Form, form_of}
+use Rattle.defs.specs.Record.{edges_of, decode}
+use Rattle.defs.specs.Refusals.{refusal_of}
+use Rattle.defs.specs.Assembly.{from_assembly_graph}
+use Rattle.defs.specs.Calls.{conversion_causes}
 use Rattle.record.specs.Layout.{WellFormed}
 use Rattle.index.specs.Index.{Indexed}
 use Rattle.memory.specs.Memory.{graph_of}
 use Rattle.calls.specs.Sending.{Sendable}
 use Rattle.memory.specs.declared.Held.{Held}
-use Rattle.accept.specs.Accept.{RoomToMark, readNumber}
+use Rattle.accept.specs.Accept.{RoomToMark, read_number}
 use Rattle.accept.specs.declared.Read.{Read}
 use Rattle.accept.specs.declared.Read.TheVariants.{Graph, Refused}
 use Rattle.convert.specs.Convert.{Trimmable, Convertible}
-use Rattle.read_kmers.specs.Kmers.{overlappingCauses, HoldsKmers}
+use Rattle.read_kmers.specs.Kmers.{overlapping_causes, HoldsKmers}
 
 -- room to read the record, for the numbers of its edges and for the sorted edges, if its layout is right
 pub record RoomToConvert (bs es vs heads nexts order scratch place sorted : List ℕ) : Type 0 where
   pub reading : RoomToMark bs es vs heads nexts order scratch place
-  pub order-room : WellFormed bs → edgesOf bs ≤ length order
-  pub scratch-room : WellFormed bs → edgesOf bs ≤ length scratch
-  pub sorted-room : WellFormed bs → 4 * edgesOf bs ≤ length sorted
+  pub order-room : WellFormed bs → edges_of bs ≤ length order
+  pub scratch-room : WellFormed bs → edges_of bs ≤ length scratch
+  pub sorted-room : WellFormed bs → 4 * edges_of bs ≤ length sorted
 
 -- the number is the definition's; a converted graph is the definition's, its sequences in the record, and its own record can be written; a refusal
 -- has a number
 pub record ConvertedAs (bs : List ℕ) (r : Read) (es vs : List ℕ) : Type 0 where
-  pub number : readNumber r ≡ refusalOf (conversionCauses bs)
-  pub is : (h : Held) → r ≡ Graph h → graph_of h es vs bs ≡ fromAssemblyGraph (decode bs)
-  pub sendable : (h : Held) → r ≡ Graph h → Sendable (formOf bs) 0 h es vs bs
+  pub number : read_number r ≡ refusal_of (conversion_causes bs)
+  pub is : (h : Held) → r ≡ Graph h → graph_of h es vs bs ≡ from_assembly_graph (decode bs)
+  pub sendable : (h : Held) → r ≡ Graph h → Sendable (form_of bs) 0 h es vs bs
   pub refused : (n : ℕ) → r ≡ Refused n → n ≡ 0 → ⊥
 
 -- a held graph of k-mers, indexed, and room to convert it
@@ -41,4 +41,4 @@ pub record ConvertibleKmers (h : Held) (es vs heads nexts order scratch place so
 
 -- what became of a held graph, for every record of this form of which it was read
 pub record KmersConverted (f : Form) (h : Held) (es vs heads nexts order : List ℕ) (r : Read) (sorted vs' : List ℕ) : Type 0 where
-  pub is : (bs : List ℕ) → f ≡ formOf bs → refusalOf (overlappingCauses bs) ≡ 0 → HoldsKmers bs h es vs heads nexts order → ConvertedAs bs r sorted vs'
+  pub is : (bs : List ℕ) → f ≡ form_of bs → refusal_of (overlapping_causes bs) ≡ 0 → HoldsKmers bs h es vs heads nexts order → ConvertedAs bs r sorted vs'

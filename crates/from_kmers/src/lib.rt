@@ -1,5 +1,5 @@
 // The conversion of a k-mer graph that was read of a record (`from_assembly_graph`): 8, or the sequence graph in the slices.
-ghost use Rattle.form.specs.Coded.{formIs};
+ghost use Rattle.form.specs.Coded.{form_is};
 ghost use Rattle.from_kmers.specs.Conversion.{ConvertibleKmers, KmersConverted};
 
 use accept::Read;
@@ -20,7 +20,7 @@ pub fn convert(
     sorted: &mut [u32],
 ) -> Read
     requires { ConvertibleKmers held es.now vs.old heads.now nexts.now order.old scratch.old place.old sorted.old }
-    ensures { KmersConverted (formIs form) held es.now vs.old heads.now nexts.now order.old result
+    ensures { KmersConverted (form_is form) held es.now vs.old heads.now nexts.now order.old result
         sorted.new vs.new }
 {
     let n = held.n;

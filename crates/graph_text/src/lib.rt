@@ -1,10 +1,10 @@
 // The lines of a printed graph, from the slices.
 ghost use Rattle.std.specs.Prelude.{cond, ◌++◌, ◌+◌, ◌*◌, ◌<◌, ◌≤◌, length};
 ghost use Rattle.defs.specs.Lists.{concat, tab};
-ghost use Rattle.store.specs.Store.{edgeIn, seqIn};
-ghost use Rattle.text.specs.Printed.{ascii, firstLine, endName, secondLine, vertexLine, edgeLine, printedRefusal};
+ghost use Rattle.store.specs.Store.{edge_in, seq_in};
+ghost use Rattle.text.specs.Printed.{ascii, first_line, end_name, second_line, vertex_line, edge_line, printed_refusal};
 ghost use Rattle.text.specs.Put.{TextPut};
-ghost use Rattle.graph_text.specs.GraphText.{endWithNumber, sizeIn, VertexFits, verticesMost, VerticesFit, EdgeLinesFit, HeadFits, Printable, LinesPut};
+ghost use Rattle.graph_text.specs.GraphText.{end_with_number, size_in, VertexFits, vertices_most, VerticesFit, EdgeLinesFit, HeadFits, Printable, LinesPut};
 
 use kmer::KmerSize;
 use memory::Held;
@@ -12,7 +12,7 @@ use memory::Held;
 // k, the counts, and edges minus vertices.
 fn put_first_line(text: &mut [u8], k: KmerSize, n: usize, m: usize, b: usize) -> usize
     requires { (87 ≤ length text.old) × ((n < 65536) × ((m < 65536) × (b < 4294967296))) }
-    ensures { TextPut 87 (firstLine k.0 n m b) text.old 0 result text.new }
+    ensures { TextPut 87 (first_line k.0 n m b) text.old 0 result text.new }
 {
     let mut to = text::put_field(text, 0, b"k ", kmer::value(k) as u32);
     to = text::put_field(text, to, b" vertices ", n as u32);
@@ -26,7 +26,7 @@ fn put_first_line(text: &mut [u8], k: KmerSize, n: usize, m: usize, b: usize) ->
 // The name of an end: 1 quiet, 2 repeated, 3 full.
 fn put_end(text: &mut [u8], at: usize, end: u32) -> usize
     requires { at + 8 ≤ length text.old }
-    ensures { TextPut 8 (ascii (endName (endWithNumber end))) text.old at result text.new }
+    ensures { TextPut 8 (ascii (end_name (end_with_number end))) text.old at result text.new }
 {
     if end == 1 {
         return text::put_bytes(text, at, b"quiet");
@@ -39,7 +39,7 @@ fn put_end(text: &mut [u8], at: usize, end: u32) -> usize
 
 fn put_second_line(text: &mut [u8], at: usize, rewrites: u32, rounds: u32, end: u32) -> usize
     requires { at + 51 ≤ length text.old }
-    ensures { TextPut 51 (secondLine rewrites rounds (endWithNumber end)) text.old at result text.new }
+    ensures { TextPut 51 (second_line rewrites rounds (end_with_number end)) text.old at result text.new }
 {
     let mut to = text::put_field(text, at, b"rewrites ", rewrites);
     to = text::put_field(text, to, b" rounds ", rounds);
@@ -50,7 +50,7 @@ fn put_second_line(text: &mut [u8], at: usize, rewrites: u32, rounds: u32, end: 
 
 fn put_vertex(text: &mut [u8], at: usize, vs: &[u32], p: &[u8], v: u32) -> usize
     requires { VertexFits vs.now p.now v text.old at }
-    ensures { TextPut (15 + 4 * sizeIn vs.now v) (vertexLine v (seqIn vs.now p.now v))
+    ensures { TextPut (15 + 4 * size_in vs.now v) (vertex_line v (seq_in vs.now p.now v))
         text.old at result text.new }
 {
     let start = store::vertex_start(vs, v);
@@ -63,8 +63,8 @@ fn put_vertex(text: &mut [u8], at: usize, vs: &[u32], p: &[u8], v: u32) -> usize
 
 fn put_vertices(text: &mut [u8], at: usize, vs: &[u32], p: &[u8], n: usize) -> usize
     requires { VerticesFit n vs.now p.now text.old at }
-    ensures { TextPut (verticesMost n vs.now)
-        (concat (tab n (λ v. vertexLine v (seqIn vs.now p.now v)))) text.old at result text.new }
+    ensures { TextPut (vertices_most n vs.now)
+        (concat (tab n (λ v. vertex_line v (seq_in vs.now p.now v)))) text.old at result text.new }
 {
     let mut to = at;
     let mut v = 0;
@@ -99,7 +99,7 @@ fn put_capped(text: &mut [u8], at: usize, capped: bool) -> usize
 
 fn put_edge(text: &mut [u8], at: usize, es: &[u32], i: usize) -> usize
     requires { (at + 38 ≤ length text.old) × (4 * i + 4 ≤ length es.now) }
-    ensures { TextPut 38 (edgeLine (edgeIn es.now i)) text.old at result text.new }
+    ensures { TextPut 38 (edge_line (edge_in es.now i)) text.old at result text.new }
 {
     let mut to = text::put_field(text, at, b"e ", store::edge_from(es, i));
     to = text::put_field(text, to, b" ", store::edge_to(es, i));
@@ -110,7 +110,7 @@ fn put_edge(text: &mut [u8], at: usize, es: &[u32], i: usize) -> usize
 
 fn put_edges(text: &mut [u8], at: usize, es: &[u32], m: usize) -> usize
     requires { EdgeLinesFit m es.now text.old at }
-    ensures { TextPut (38 * m) (concat (tab m (λ i. edgeLine (edgeIn es.now i)))) text.old at result text.new }
+    ensures { TextPut (38 * m) (concat (tab m (λ i. edge_line (edge_in es.now i)))) text.old at result text.new }
 {
     let mut to = at;
     let mut i = 0;
@@ -131,7 +131,7 @@ pub fn put_head(
     end: u32,
 ) -> usize
     requires { HeadFits held b text.old }
-    ensures { TextPut 138 (firstLine held.k.0 held.n held.m b ++ secondLine rewrites rounds (endWithNumber end)) text.old 0 result
+    ensures { TextPut 138 (first_line held.k.0 held.n held.m b ++ second_line rewrites rounds (end_with_number end)) text.old 0 result
         text.new }
 {
     let to = put_first_line(text, held.k, held.n, held.m, b);
@@ -151,7 +151,7 @@ pub fn put_lines(text: &mut [u8], at: usize, held: Held, es: &[u32], vs: &[u32],
 
 pub fn put_refusal(text: &mut [u8], number: u32) -> usize
     requires { 19 ≤ length text.old }
-    ensures { TextPut 19 (printedRefusal number) text.old 0 result text.new }
+    ensures { TextPut 19 (printed_refusal number) text.old 0 result text.new }
 {
     let to = text::put_field(text, 0, b"refused ", number);
     text::put_bytes(text, to, b"\n")

@@ -8,19 +8,19 @@ use mathlib.Core.List.Memᴰ
 use mathlib.Core.List.{List, [], ◌∷◌, map, Memᴰ}
 use lib.ListN.{length, length-map}
 use Rattle.defs.specs.SeqGraph.{Graph}
-use Rattle.defs.specs.Simplify.{simplifyGraphFull, minTailSuffixLen}
+use Rattle.defs.specs.Simplify.{simplify_graph_full, min_tail_suffix_len}
 use Rattle.defs.specs.Strings.{Spells, spelled}
-use Rattle.defs.specs.Haplotypes.{EndToEnd, endToEndPaths, pathCount, pathStrings, haplotypes, Ascending}
+use Rattle.defs.specs.Haplotypes.{EndToEnd, end_to_end_paths, path_count, path_strings, haplotypes, Ascending}
 use Rattle.laws.proofs.Sound.{Sound}
 use Rattle.laws.proofs.Whole.{simplify-keeps}
 use Rattle.haplotypes.proofs.EndToEndPaths.{paths-listed}
 use Rattle.haplotypes.proofs.ByteOrder.{of-byte-order, in-byte-order, order-ascending, order-few, by-order-only}
 
 -- the strings of the paths are those that the graph spells
-pub strings-spell : (g : Graph) → Sound g → (s : List ℕ) → Memᴰ s (pathStrings g) ↔ Spells g s
-unfolding pathStrings
+pub strings-spell : (g : Graph) → Sound g → (s : List ℕ) → Memᴰ s (path_strings g) ↔ Spells g s
+unfolding path_strings
 strings-spell g sound s = (
-  λ m. let r = Memᴰ.of_map (spelled g) (endToEndPaths g) m in of-path r.0 r.2 ((paths-listed g sound r.0).0 r.1),
+  λ m. let r = Memᴰ.of_map (spelled g) (end_to_end_paths g) m in of-path r.0 r.2 ((paths-listed g sound r.0).0 r.1),
   λ r. rw r.spell at (Memᴰ.map (spelled g) ((paths-listed g sound (r.first ∷ r.others)).1 (r.path, r.source, r.sink))),
 )
   where
@@ -32,24 +32,24 @@ strings-spell g sound s = (
 pub haplotypes-spell : (g : Graph) → Sound g → (s : List ℕ) → Memᴰ s (haplotypes g) ↔ Spells g s
 unfolding haplotypes
 haplotypes-spell g sound s = (
-  λ m. (strings-spell g sound s).0 (of-byte-order s (pathStrings g) m),
-  λ h. in-byte-order s (pathStrings g) ((strings-spell g sound s).1 h),
+  λ m. (strings-spell g sound s).0 (of-byte-order s (path_strings g) m),
+  λ h. in-byte-order s (path_strings g) ((strings-spell g sound s).1 h),
 )
 
 -- IN BYTE ORDER, EACH ONCE
 pub haplotypes-ascending : (g : Graph) → Ascending (haplotypes g)
 unfolding haplotypes
-haplotypes-ascending g = order-ascending (pathStrings g)
+haplotypes-ascending g = order-ascending (path_strings g)
 
 -- no more strings than paths
-pub haplotypes-few : (g : Graph) → length (haplotypes g) ≤ pathCount g
-unfolding haplotypes pathStrings pathCount
-haplotypes-few g = omega (arith, order-few (map (spelled g) (endToEndPaths g)), length-map (endToEndPaths g) (spelled g))
+pub haplotypes-few : (g : Graph) → length (haplotypes g) ≤ path_count g
+unfolding haplotypes path_strings path_count
+haplotypes-few g = omega (arith, order-few (map (spelled g) (end_to_end_paths g)), length-map (end_to_end_paths g) (spelled g))
 
 -- an ascending list of exactly the strings that the graph spells is its haplotypes
 pub haplotypes-only : (g : Graph) → Sound g → (l : List (List ℕ)) → Ascending l → ((s : List ℕ) → Memᴰ s l ↔ Spells g s) → l ≡ haplotypes g
 unfolding haplotypes
-haplotypes-only g sound l a h = by-order-only (pathStrings g) l a (λ s. (
+haplotypes-only g sound l a h = by-order-only (path_strings g) l a (λ s. (
   λ m. (strings-spell g sound s).1 ((h s).0 m),
   λ m. (h s).1 ((strings-spell g sound s).0 m),
 ))
@@ -62,7 +62,7 @@ haplotypes-same g g' sound sound' h = haplotypes-only g' sound' (haplotypes g) (
 ))
 
 -- BEFORE AND AFTER SIMPLIFICATION
-pub haplotypes-simplified : (g : Graph) → Sound g → haplotypes g ≡ haplotypes (simplifyGraphFull minTailSuffixLen g).graph
+pub haplotypes-simplified : (g : Graph) → Sound g → haplotypes g ≡ haplotypes (simplify_graph_full min_tail_suffix_len g).graph
 haplotypes-simplified g sound =
     let k = simplify-keeps g sound in
-    haplotypes-same g (simplifyGraphFull minTailSuffixLen g).graph sound k.sound k.spells
+    haplotypes-same g (simplify_graph_full min_tail_suffix_len g).graph sound k.sound k.spells

@@ -6,9 +6,9 @@ use mathlib.Core.Logic.{⊎_elim}
 use mathlib.Core.Bool.{Bool}
 use mathlib.Core.List.Memᴰ
 use mathlib.Core.List.{List, [], ◌∷◌, ◌++◌, map, Memᴰ}
-use Rattle.defs.specs.Lists.{keepIf, concat, up_from}
-use Rattle.laws.proofs.Walks.{byTest}
-use Rattle.laws.proofs.ListLaws.{keepIf-yes, keepIf-no, of-keepIf}
+use Rattle.defs.specs.Lists.{keep_if, concat, up_from}
+use Rattle.laws.proofs.Walks.{by_test}
+use Rattle.laws.proofs.ListLaws.{keep_if-yes, keep_if-no, of-keep_if}
 use Rattle.laws.proofs.Counts.{Distinct}
 use Rattle.laws.proofs.Merge.{of-mem-flat}
 
@@ -24,13 +24,13 @@ module _ {A : Type 0} where
     once-append xs ys a.1 b (λ z m. d z (Memᴰ.tail m)),
   )
 
-  pub once-keepIf : (p : A → Bool) (xs : List A) → NoneTwice xs → NoneTwice (keepIf p xs)
-  unfolding keepIf
-  once-keepIf p [] a = tt
-  once-keepIf p (x ∷ xs) a =
-      byTest (p x)
-      (λ t. rw (keepIf-yes p x xs t) (λ m. a.0 (of-keepIf p xs m).0, once-keepIf p xs a.1))
-      (λ t. rw (keepIf-no p x xs t) (once-keepIf p xs a.1))
+  pub once-keep_if : (p : A → Bool) (xs : List A) → NoneTwice xs → NoneTwice (keep_if p xs)
+  unfolding keep_if
+  once-keep_if p [] a = tt
+  once-keep_if p (x ∷ xs) a =
+      by_test (p x)
+      (λ t. rw (keep_if-yes p x xs t) (λ m. a.0 (of-keep_if p xs m).0, once-keep_if p xs a.1))
+      (λ t. rw (keep_if-no p x xs t) (once-keep_if p xs a.1))
 
 -- a function that keeps the members apart
 pub once-map : {A B : Type 0} (f : A → B) (xs : List A) → NoneTwice xs → ((x y : A) → Memᴰ x xs → Memᴰ y xs → f x ≡ f y → x ≡ y)
@@ -60,13 +60,13 @@ pub distinct-once : (l : List ℕ) → Distinct l → NoneTwice l
 distinct-once [] d = tt
 distinct-once (x ∷ l) d = (d.0, distinct-once l d.1)
 
-above-upFrom : (i n v : ℕ) → Memᴰ v (up_from i n) → i ≤ v
+above-up_from : (i n v : ℕ) → Memᴰ v (up_from i n) → i ≤ v
 unfolding up_from
-above-upFrom i zero v m = absurd (Memᴰ.not-nil m)
-above-upFrom i (suc n) v m =
-    ⊎_elim (λ (e : v ≡ i). omega arith) (λ k. omega (arith, above-upFrom (suc i) n v k)) (Memᴰ.cases_cons m)
+above-up_from i zero v m = absurd (Memᴰ.not-nil m)
+above-up_from i (suc n) v m =
+    ⊎_elim (λ (e : v ≡ i). omega arith) (λ k. omega (arith, above-up_from (suc i) n v k)) (Memᴰ.cases_cons m)
 
-pub once-upFrom : (i n : ℕ) → NoneTwice (up_from i n)
+pub once-up_from : (i n : ℕ) → NoneTwice (up_from i n)
 unfolding up_from
-once-upFrom i zero = tt
-once-upFrom i (suc n) = (λ m. omega (arith, above-upFrom (suc i) n i m), once-upFrom (suc i) n)
+once-up_from i zero = tt
+once-up_from i (suc n) = (λ m. omega (arith, above-up_from (suc i) n i m), once-up_from (suc i) n)

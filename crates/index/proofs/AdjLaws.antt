@@ -12,48 +12,48 @@ use lib.ListN.{length, get_or, set, length-set}
 use lib.Seq.{get_or-set_same, get_or-set_other}
 use lib.Dec.{eqb}
 use borrow.Author.Tests.{eq-eqb, ne_eqb}
-use Rattle.defs.specs.Lists.{tabFrom, keepIf, all_of}
-use Rattle.index.specs.Index.{atFrom, incidentEdges, Next, Index}
+use Rattle.defs.specs.Lists.{tab_from, keep_if, all_of}
+use Rattle.index.specs.Index.{at_from, incident_edges, Next, Index}
 
 module _ (f : ℕ → ℕ) (m v : ℕ) where
   -- an edge at v is the first of what is left
-  pub at-hit : (k : ℕ) → k < m → f k ≡ v → atFrom f m v k ≡ k ∷ atFrom f m v (k + 1)
-  unfolding tabFrom keepIf
+  pub at-hit : (k : ℕ) → k < m → f k ≡ v → at_from f m v k ≡ k ∷ at_from f m v (k + 1)
+  unfolding tab_from keep_if
   at-hit k h q =
       let d : m - k ≡ suc (m - (k + 1)) = omega arith in
-      rw d (rw (eq-eqb (f k) v q) (ap (λ (j : ℕ). k ∷ keepIf (λ (e : ℕ). eqb (f e) v) (tabFrom j (m - (k + 1)) (λ (e : ℕ). e))) (sym (add-one k))))
+      rw d (rw (eq-eqb (f k) v q) (ap (λ (j : ℕ). k ∷ keep_if (λ (e : ℕ). eqb (f e) v) (tab_from j (m - (k + 1)) (λ (e : ℕ). e))) (sym (add-one k))))
 
   -- another edge is passed over
-  pub at-miss : (k : ℕ) → k < m → (f k ≡ v → ⊥) → atFrom f m v k ≡ atFrom f m v (k + 1)
-  unfolding tabFrom keepIf
+  pub at-miss : (k : ℕ) → k < m → (f k ≡ v → ⊥) → at_from f m v k ≡ at_from f m v (k + 1)
+  unfolding tab_from keep_if
   at-miss k h q =
       let d : m - k ≡ suc (m - (k + 1)) = omega arith in
-      rw d (rw (ne_eqb (f k) v q) (ap (λ (j : ℕ). keepIf (λ (e : ℕ). eqb (f e) v) (tabFrom j (m - (k + 1)) (λ (e : ℕ). e))) (sym (add-one k))))
+      rw d (rw (ne_eqb (f k) v q) (ap (λ (j : ℕ). keep_if (λ (e : ℕ). eqb (f e) v) (tab_from j (m - (k + 1)) (λ (e : ℕ). e))) (sym (add-one k))))
 
-  pub at-end : (k : ℕ) → m ≤ k → atFrom f m v k ≡ []
-  unfolding tabFrom keepIf
+  pub at-end : (k : ℕ) → m ≤ k → at_from f m v k ≡ []
+  unfolding tab_from keep_if
   at-end k h = let d : m - k ≡ 0 = omega arith in rw d
 
-  at-skip : (n k : ℕ) → k + n ≤ m → ((j : ℕ) → k ≤ j → j < k + n → f j ≡ v → ⊥) → atFrom f m v k ≡ atFrom f m v (k + n)
-  at-skip zero k h o = ap (atFrom f m v) (sym (add-zero k))
+  at-skip : (n k : ℕ) → k + n ≤ m → ((j : ℕ) → k ≤ j → j < k + n → f j ≡ v → ⊥) → at_from f m v k ≡ at_from f m v (k + n)
+  at-skip zero k h o = ap (at_from f m v) (sym (add-zero k))
   at-skip (suc n) k h o =
       at-miss k (omega (arith, add-suc k n)) (o k (omega arith) (omega (arith, add-suc k n)))
       ∙ at-skip n (k + 1) (omega (arith, add-suc k n)) (λ j a b. o j (omega arith) (omega (arith, add-suc k n)))
-      ∙ ap (atFrom f m v) (omega (arith, add-suc k n))
+      ∙ ap (at_from f m v) (omega (arith, add-suc k n))
 
   -- what is left from k on is what is left from the next edge on
-  pub at_next : (k e : ℕ) → Next f m v k e → atFrom f m v k ≡ atFrom f m v e
+  pub at_next : (k e : ℕ) → Next f m v k e → at_from f m v k ≡ at_from f m v e
   at_next k e N =
       let d : k + (e - k) ≡ e = omega arith in
-      at-skip (e - k) k (omega arith) (λ j a b. N.skip j a (omega arith)) ∙ ap (atFrom f m v) d
+      at-skip (e - k) k (omega arith) (λ j a b. N.skip j a (omega arith)) ∙ ap (at_from f m v) d
 
 -- a step along the index
 pub at-step : (f : ℕ → ℕ) (m n : ℕ) (head next : ℕ → ℕ) (v e : ℕ) → Index f m n head next → e < m → f e ≡ v
-    → atFrom f m v e ≡ e ∷ atFrom f m v (next e)
+    → at_from f m v e ≡ e ∷ at_from f m v (next e)
 at-step f m n head next v e I h q =
     at-hit f m v e h q ∙ ap (λ (r : List ℕ). e ∷ r) (at_next f m v (e + 1) (next e) (rw q at (I.nexts e h)))
 
-pub at_head : (f : ℕ → ℕ) (m n : ℕ) (head next : ℕ → ℕ) (v : ℕ) → Index f m n head next → v < n → incidentEdges f m v ≡ atFrom f m v (head v)
+pub at_head : (f : ℕ → ℕ) (m n : ℕ) (head next : ℕ → ℕ) (v : ℕ) → Index f m n head next → v < n → incident_edges f m v ≡ at_from f m v (head v)
 at_head f m n head next v I h = at_next f m v 0 (head v) (I.heads v h)
 
 -- ---- building the index from the back: it is right from number k on
@@ -107,7 +107,7 @@ pub record ListWalked (f : ℕ → ℕ) (m v d e : ℕ) : Type 0 where
   pub low : d ≤ e
   pub high : e ≤ m
   pub hit : e < m → f e ≡ v
-  pub left : d + length (atFrom f m v e) ≡ length (incidentEdges f m v)
+  pub left : d + length (at_from f m v e) ≡ length (incident_edges f m v)
 
 module _ {f : ℕ → ℕ} {m n : ℕ} {head next : ℕ → ℕ} {v : ℕ} (I : Index f m n head next) where
   pub walked_start : v < n → ListWalked f m v 0 (head v)
@@ -127,14 +127,14 @@ module _ {f : ℕ → ℕ} {m n : ℕ} {head next : ℕ → ℕ} {v : ℕ} (I : 
     left = omega (arith, W.left, ap length (at-step f m n head next v e I h (W.hit h)));
   }
 
-  pub walked_end : {d e : ℕ} → ListWalked f m v d e → m ≤ e → d ≡ length (incidentEdges f m v)
+  pub walked_end : {d e : ℕ} → ListWalked f m v d e → m ≤ e → d ≡ length (incident_edges f m v)
   walked_end {d} {e} W h = omega (arith, W.left, ap length (at-end f m v e h))
 
 -- ---- a test of all edges at v, by the index: it is what is left from e on
 pub record Testing (f : ℕ → ℕ) (m v : ℕ) (p : ℕ → Bool) (e : ℕ) : Type 0 where
   pub high : e ≤ m
   pub hit : e < m → f e ≡ v
-  pub left : all_of p (incidentEdges f m v) ≡ all_of p (atFrom f m v e)
+  pub left : all_of p (incident_edges f m v) ≡ all_of p (at_from f m v e)
 
 module _ {f : ℕ → ℕ} {m n : ℕ} {head next : ℕ → ℕ} {v : ℕ} (I : Index f m n head next) (p : ℕ → Bool) where
   pub testing-start : v < n → Testing f m v p (head v)
@@ -148,10 +148,10 @@ module _ {f : ℕ → ℕ} {m n : ℕ} {head next : ℕ → ℕ} {v : ℕ} (I : 
     left = W.left ∙ ap (all_of p) (at-step f m n head next v e I h (W.hit h)) ∙ rw q;
   }
 
-  pub testing-fails : {e : ℕ} → Testing f m v p e → e < m → p e ≡ false → false ≡ all_of p (incidentEdges f m v)
+  pub testing-fails : {e : ℕ} → Testing f m v p e → e < m → p e ≡ false → false ≡ all_of p (incident_edges f m v)
   unfolding all_of
   testing-fails {e} W h q = sym (W.left ∙ ap (all_of p) (at-step f m n head next v e I h (W.hit h)) ∙ rw q)
 
-  pub testing-end : {e : ℕ} → Testing f m v p e → m ≤ e → true ≡ all_of p (incidentEdges f m v)
+  pub testing-end : {e : ℕ} → Testing f m v p e → m ≤ e → true ≡ all_of p (incident_edges f m v)
   unfolding all_of
   testing-end {e} W h = sym (W.left ∙ ap (all_of p) (at-end f m v e h))

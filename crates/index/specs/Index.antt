@@ -1,12 +1,12 @@
 -- The edges at a vertex, by number and in order, and the index over them. Assumes nothing.
 use Rattle.std.specs.Prelude.{◌≡◌, List, map, ℕ, zero, suc, ◌+◌, ◌*◌, ◌-◌, ◌≤◌, ◌<◌, length, get_or, eqb}
-use Rattle.defs.specs.Lists.{tabFrom, keepIf}
+use Rattle.defs.specs.Lists.{tab_from, keep_if}
 use Rattle.defs.specs.SeqGraph.{Edge}
-use Rattle.store.specs.Store.{numsIn, EndsBelow}
+use Rattle.store.specs.Store.{nums_in, EndsBelow}
 
 -- the end `off` of edge e: 0 from, 1 to
-abbrev pub edgeEnd : ℕ → List ℕ → ℕ → ℕ
-edgeEnd off es e = get_or es (4 * e + off) 0
+abbrev pub edge_end : ℕ → List ℕ → ℕ → ℕ
+edge_end off es e = get_or es (4 * e + off) 0
 
 -- the same of an edge by itself
 unfoldable pub end_at : ℕ → Edge → ℕ
@@ -14,12 +14,12 @@ end_at zero e = e.from
 end_at (suc n) e = e.to
 
 -- the numbers of the edges at v from number k on, of the m that there are; f gives an end of each edge
-abbrev pub atFrom : (ℕ → ℕ) → ℕ → ℕ → ℕ → List ℕ
-atFrom f m v k = keepIf (λ (e : ℕ). eqb (f e) v) (tabFrom k (m - k) (λ (e : ℕ). e))
+abbrev pub at_from : (ℕ → ℕ) → ℕ → ℕ → ℕ → List ℕ
+at_from f m v k = keep_if (λ (e : ℕ). eqb (f e) v) (tab_from k (m - k) (λ (e : ℕ). e))
 
 -- the numbers of the edges at v
-abbrev pub incidentEdges : (ℕ → ℕ) → ℕ → ℕ → List ℕ
-incidentEdges f m v = atFrom f m v 0
+abbrev pub incident_edges : (ℕ → ℕ) → ℕ → ℕ → List ℕ
+incident_edges f m v = at_from f m v 0
 
 -- e is the number of the first edge at v from number k on, or m
 pub record Next (f : ℕ → ℕ) (m v k e : ℕ) : Type 0 where
@@ -43,7 +43,7 @@ pub record Indexed (m n : ℕ) (es heads nexts : List ℕ) : Type 0 where
   pub heads-room : 2 * n ≤ length heads
   pub nexts-room : 2 * m ≤ length nexts
   pub ends : EndsBelow n m es
-  pub index : (off : ℕ) → off ≤ 1 → Index (edgeEnd off es) m n (pair_at off heads) (pair_at off nexts)
+  pub index : (off : ℕ) → off ≤ 1 → Index (edge_end off es) m n (pair_at off heads) (pair_at off nexts)
 
 -- what building an index asks
 pub record Indexable (m n : ℕ) (es heads nexts : List ℕ) : Type 0 where
@@ -56,4 +56,4 @@ pub record Indexable (m n : ℕ) (es heads nexts : List ℕ) : Type 0 where
 -- the first r numbers of out are the other ends of the edges at v
 pub record Collected (off m : ℕ) (es : List ℕ) (v r : ℕ) (out : List ℕ) : Type 0 where
   pub most : r ≤ m
-  pub is : numsIn r out ≡ map (edgeEnd (1 - off) es) (incidentEdges (edgeEnd off es) m v)
+  pub is : nums_in r out ≡ map (edge_end (1 - off) es) (incident_edges (edge_end off es) m v)

@@ -3,7 +3,7 @@
 // Only this crate writes them; whoever follows a vertex's list reads them where they stand.
 // `off` 0 is the end that an edge leaves, 1 the end that it enters.
 ghost use Rattle.std.specs.Prelude.{◌≡◌, ℕ, ◌+◌, ◌*◌, ◌<◌, ◌≤◌, length, get_or, eqb, ltb};
-ghost use Rattle.index.specs.Index.{Indexable, Indexed, Collected, edgeEnd, incidentEdges};
+ghost use Rattle.index.specs.Index.{Indexable, Indexed, Collected, edge_end, incident_edges};
 
 pub fn build_index(es: &[u32], m: usize, n: usize, heads: &mut [u32], nexts: &mut [u32])
     requires { Indexable m n es.now heads.old nexts.old }
@@ -33,7 +33,7 @@ pub fn degree(
     v: usize,
 ) -> usize
     requires { (v < n) × ((off ≤ 1) × Indexed m n es.now heads.now nexts.now) }
-    ensures { result ≡ length (incidentEdges (edgeEnd off es.now) m v) }
+    ensures { result ≡ length (incident_edges (edge_end off es.now) m v) }
 {
     let mut d = 0;
     let mut e = heads[2 * v + off] as usize;
@@ -79,7 +79,7 @@ pub fn has_one(
     v: usize,
 ) -> bool
     requires { (v < n) × ((off ≤ 1) × Indexed m n es.now heads.now nexts.now) }
-    ensures { result ≡ eqb (length (incidentEdges (edgeEnd off es.now) m v)) 1 }
+    ensures { result ≡ eqb (length (incident_edges (edge_end off es.now) m v)) 1 }
 {
     let e = heads[2 * v + off] as usize;
     if m <= e {
@@ -99,7 +99,7 @@ pub fn has_several(
     v: usize,
 ) -> bool
     requires { (v < n) × ((off ≤ 1) × Indexed m n es.now heads.now nexts.now) }
-    ensures { result ≡ ltb 1 (length (incidentEdges (edgeEnd off es.now) m v)) }
+    ensures { result ≡ ltb 1 (length (incident_edges (edge_end off es.now) m v)) }
 {
     let e = heads[2 * v + off] as usize;
     if m <= e {

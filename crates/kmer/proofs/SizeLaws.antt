@@ -4,7 +4,7 @@ use Prim.Native.Nat.{ℕ}
 use mathlib.Core.Path.{◌≡◌, refl, sym, ap}
 use mathlib.Core.Bool.{Bool, true, false, cond}
 use native.Mathlib.Omega.{arith}
-use Rattle.kmer.specs.Size.{kPastLimit, size_of}
+use Rattle.kmer.specs.Size.{k_past_limit, size_of}
 use Rattle.kmer.specs.declared.KmerSize.{KmerSize}
 use Rattle.kmer.specs.declared.MadeSize.{MadeSize}
 use Rattle.kmer.specs.declared.MadeSize.TheVariants.{Size, Refused}
@@ -17,13 +17,13 @@ made-test : (b : Bool) (n : ℕ) (k : KmerSize) → cond b Refused (Size record 
 made-test true n k e = let z : ◌≡◌ {A = ℕ} 0 1 = cc in absurd (omega arith)
 made-test false n k e = refl
 
-pub refused-past : (n : ℕ) → size_of n ≡ Refused → kPastLimit n ≡ true
+pub refused-past : (n : ℕ) → size_of n ≡ Refused → k_past_limit n ≡ true
 unfolding size_of
-refused-past n e = refused-test (kPastLimit n) n e
+refused-past n e = refused-test (k_past_limit n) n e
 
-pub made-within : (n : ℕ) {k : KmerSize} → size_of n ≡ Size k → kPastLimit n ≡ false
+pub made-within : (n : ℕ) {k : KmerSize} → size_of n ≡ Size k → k_past_limit n ≡ false
 unfolding size_of
-made-within n {k} e = made-test (kPastLimit n) n k e
+made-within n {k} e = made-test (k_past_limit n) n k e
 
 made : MadeSize → ℕ
 made (Size k) = k.0
@@ -36,4 +36,4 @@ made-value false n k e = sym (ap made e)
 
 pub made-is : (n : ℕ) {k : KmerSize} → size_of n ≡ Size k → k.0 ≡ n
 unfolding size_of
-made-is n {k} e = made-value (kPastLimit n) n k e
+made-is n {k} e = made-value (k_past_limit n) n k e

@@ -5,9 +5,9 @@ use Rattle.kmer.specs.declared.MadeSize.{MadeSize}
 use Rattle.kmer.specs.declared.MadeSize.TheVariants.{Size, Refused}
 
 -- k below 2 or above 128
-unfoldable pub kPastLimit : ℕ → Bool
-kPastLimit n = ltb n 2 || ltb 128 n
+unfoldable pub k_past_limit : ℕ → Bool
+k_past_limit n = ltb n 2 || ltb 128 n
 
 -- the size where n is within its limit; else none, which is refusal 3 of a record
 unfoldable pub size_of : ℕ → MadeSize
-size_of n = cond (kPastLimit n) Refused (Size record { 0 = n })
+size_of n = cond (k_past_limit n) Refused (Size record { 0 = n })

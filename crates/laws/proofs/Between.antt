@@ -8,11 +8,11 @@ use mathlib.Core.Bool.{Bool, true, false, ◌&&◌}
 use mathlib.Core.List.{List, [], ◌∷◌, ◌++◌}
 use borrow.Author.Tests.{eqb-true, eq-eqb}
 use Rattle.defs.specs.Lists.{elem_of, concat, rank}
-use Rattle.defs.specs.SeqGraph.{Graph, nodeCount, vertexSequence, compactVertices}
+use Rattle.defs.specs.SeqGraph.{Graph, node_count, vertex_sequence, compact_vertices}
 use Rattle.defs.specs.Zip.{last_of}
-use Rattle.defs.specs.Cleanup.{forward, backward, reached, removePathsNotConnectedToRef}
+use Rattle.defs.specs.Cleanup.{forward, backward, reached, remove_paths_not_connected_to_ref}
 use Rattle.defs.specs.Strings.{SpellsBetween, HasEdge, IsPath, Spells, spelled}
-use Rattle.laws.proofs.Walks.{Net, start, at, stop, Steps, stay, step, cast, Reads, IsSource, IsSink, byTest}
+use Rattle.laws.proofs.Walks.{Net, start, at, stop, Steps, stay, step, cast, Reads, IsSource, IsSink, by_test}
 use Rattle.laws.proofs.ListLaws.{clash, and_split, and-true, rank-no}
 use Rattle.laws.proofs.Nets.{Ranks, Bounded, part_of, order-restrict, bounded-restrict, ranks-restrict, closed, reads-restrict, edge-inside}
 use Rattle.laws.proofs.Nets.{of-reads-restrict, spells-reads, reads-spells}
@@ -29,11 +29,11 @@ module _ (g : Graph) where
   back-hop u v (e, m, p, q) = (e, m, and-true _ _ (eq-eqb _ _ q) (eq-eqb _ _ p))
 
   module _ (bounded : Bounded g) (r : ℕ → ℕ) (ranks : Ranks g r) where
-    is-forward : (m u v : ℕ) → u < nodeCount g → Way forward g m u v → elem_of v (reached forward g u) ≡ true
+    is-forward : (m u v : ℕ) → u < node_count g → Way forward g m u v → elem_of v (reached forward g u) ≡ true
     is-forward = is-reached forward g (λ u v h. (edge-inside g bounded u v (hop-edge g u v h)).1) (λ u v. r u < r v) (λ a b c h k. omega arith) (λ a h.
         omega arith) (λ u v h. ranks u v (hop-edge g u v h))
 
-    is-backward : (m u v : ℕ) → u < nodeCount g → Way backward g m u v → elem_of v (reached backward g u) ≡ true
+    is-backward : (m u v : ℕ) → u < node_count g → Way backward g m u v → elem_of v (reached backward g u) ≡ true
     is-backward = is-reached backward g (λ u v h. (edge-inside g bounded v u (back u v h)).0) (λ u v. r v < r u) (λ a b c h k. omega arith) (λ a h.
         omega arith) (λ u v h. ranks v u (back u v h))
 
@@ -45,7 +45,7 @@ module _ (g : Graph) where
     down zero u v e = rw e (omega arith)
     down (suc m) u v (w, h, y) = omega (arith, down m w v y, ranks w u (back u w h))
 
-    module _ (s t : ℕ) (s-in : s < nodeCount g) (t-in : t < nodeCount g) where
+    module _ (s t : ℕ) (s-in : s < node_count g) (t-in : t < node_count g) where
       -- v lies between
       unfoldable pub p : ℕ → Bool
       p v = elem_of v (reached forward g s) && elem_of v (reached backward g t)
@@ -88,7 +88,7 @@ module _ (g : Graph) where
       pub s-source : p s ≡ true → IsSource U s
       s-source q = ((s-in, q), λ u h. let w = of-p u h.1 in omega (arith, up w.0.0 s u w.0.1, ranks u s h.0))
 
-      pub t-sink : (v : ℕ) → v ≡ t → v < nodeCount g → p v ≡ true → IsSink U v
+      pub t-sink : (v : ℕ) → v ≡ t → v < node_count g → p v ≡ true → IsSink U v
       t-sink v e l q = ((l, q), λ u h. let w = of-p u h.2 in omega (arith, down w.1.0 t u w.1.1, ranks v u h.0, ap r e))
 
       -- walks of what is between, as paths
@@ -100,17 +100,17 @@ module _ (g : Graph) where
       onward v (step {q = start} h w) = absurd h
       onward v (step {q = at u} {s = x} (e, _, _) w) =
           let z = onward u w in
-          (u ∷ z.0, ((edge-inside g bounded v u e).0, e, z.1), z.2, ap (λ y. vertexSequence g u ++ y) z.3)
+          (u ∷ z.0, ((edge-inside g bounded v u e).0, e, z.1), z.2, ap (λ y. vertex_sequence g u ++ y) z.3)
       onward v (step {q = stop} h stay) = ([], h.0.0, only-sink v h, refl)
       onward v (step {q = stop} h (step k w)) = absurd k
 
-      along-from : (u : ℕ) (x : List ℕ) → u ≡ s → Onward u x → SpellsBetween g s t (vertexSequence g u ++ x)
+      along-from : (u : ℕ) (x : List ℕ) → u ≡ s → Onward u x → SpellsBetween g s t (vertex_sequence g u ++ x)
       unfolding Onward spelled concat
       along-from u x e z = record {
         others = z.0;
         path = rw e at z.1;
         ends = ap (λ v. last_of v z.0) (sym e) ∙ z.2;
-        spell = ap (λ v. vertexSequence g v ++ spelled g z.0) (sym e) ∙ ap (λ y. vertexSequence g u ++ y) z.3;
+        spell = ap (λ v. vertex_sequence g v ++ spelled g z.0) (sym e) ∙ ap (λ y. vertex_sequence g u ++ y) z.3;
       }
 
       pub reads-along : {x : List ℕ} → Reads (part_of p g) x → SpellsBetween g s t x
@@ -141,21 +141,21 @@ module _ (g : Graph) where
           cast a.spell (step {p = start} {q = at s} (s-source (is-p s ((0, refl), to_end s a.others a.path a.ends)))
           (walk s a.others 0 a.path a.ends refl))
 
-      between_is : removePathsNotConnectedToRef g s t ≡ compactVertices p g
-      unfolding removePathsNotConnectedToRef p
+      between_is : remove_paths_not_connected_to_ref g s t ≡ compact_vertices p g
+      unfolding remove_paths_not_connected_to_ref p
       between_is = refl
 
-      bounded-part : Bounded (compactVertices p g)
+      bounded-part : Bounded (compact_vertices p g)
       bounded-part = bounded-restrict p g bounded
 
-      pub between-sound : Sound (removePathsNotConnectedToRef g s t)
+      pub between-sound : Sound (remove_paths_not_connected_to_ref g s t)
       between-sound = rw between_is record { bounded = bounded-part; rank = closed p g bounded r; ranks = ranks-restrict p g bounded r ranks }
 
       -- the strings of what is between are those of the ways from s to t
-      pub between-spells : {x : List ℕ} → Spells (removePathsNotConnectedToRef g s t) x ↔ SpellsBetween g s t x
+      pub between-spells : {x : List ℕ} → Spells (remove_paths_not_connected_to_ref g s t) x ↔ SpellsBetween g s t x
       between-spells = rw between_is (
-        λ w. reads-along (of-reads-restrict p g bounded (spells-reads (compactVertices p g) w)),
-        λ a. reads-spells (compactVertices p g) bounded-part (reads-restrict p g bounded (along-reads a)),
+        λ w. reads-along (of-reads-restrict p g bounded (spells-reads (compact_vertices p g) w)),
+        λ a. reads-spells (compact_vertices p g) bounded-part (reads-restrict p g bounded (along-reads a)),
       )
 
       -- a sink that is not reached leaves nothing
@@ -170,7 +170,7 @@ module _ (g : Graph) where
           let z = way-last backward g n t v b in
           joined-ways (suc m) n z.0 (way-more forward g m s v z.0 a (edge-hop g v z.0 (back z.0 v z.2))) z.1
 
-      pub unreached-empty : elem_of t (reached forward g s) ≡ false → nodeCount (removePathsNotConnectedToRef g s t) ≡ 0
-      unreached-empty e = rw between_is (order-restrict p g ∙ none_kept (nodeCount g) (λ v _. byTest (p v)
+      pub unreached-empty : elem_of t (reached forward g s) ≡ false → node_count (remove_paths_not_connected_to_ref g s t) ≡ 0
+      unreached-empty e = rw between_is (order-restrict p g ∙ none_kept (node_count g) (λ v _. by_test (p v)
           (λ q. let w = of-p v q in let z = joined-ways w.0.0 w.1.0 v w.0.1 w.1.1 in clash (is-forward z.0 s t s-in z.1) e)
           (λ q. q)))

@@ -10,13 +10,13 @@ use mathlib.Core.List.{List, [], ◌∷◌, map, Memᴰ}
 use lib.Dec.{eqb, ltb}
 use lib.ListN.{length}
 use borrow.Author.Tests.{eqb-true, eqb-false, eq-eqb, ne_eqb, lt-ltb, le-ltb}
-use Rattle.defs.specs.Lists.{keepIf, bit, rank}
-use Rattle.defs.specs.SeqGraph.{Edge, Graph, nodeCount, edgesFrom, outDegree, keeps, compactVertices, remapEdge}
+use Rattle.defs.specs.Lists.{keep_if, bit, rank}
+use Rattle.defs.specs.SeqGraph.{Edge, Graph, node_count, edges_from, out_degree, keeps, compact_vertices, remap_edge}
 use Rattle.defs.specs.Strings.{HasEdge}
-use Rattle.laws.proofs.Walks.{IsSink, byTest}
-use Rattle.laws.proofs.ListLaws.{and_split, by_order, rank-yes, rank-no, rank-inj, keepIf-yes, keepIf-no}
+use Rattle.laws.proofs.Walks.{IsSink, by_test}
+use Rattle.laws.proofs.ListLaws.{and_split, by_order, rank-yes, rank-no, rank-inj, keep_if-yes, keep_if-no}
 use Rattle.laws.proofs.Nets.{Bounded, part_of, order-restrict, link-restrict}
-use Rattle.laws.proofs.Edges.{of-edgesFrom, in-edgesFrom, nonempty, keeps-not, keeps-other, keeps-gone, not-keeps}
+use Rattle.laws.proofs.Edges.{of-edges_from, in-edges_from, nonempty, keeps-not, keeps-other, keeps-gone, not-keeps}
 use Rattle.laws.proofs.Counts.{total, Distinct, bit_le}
 
 unfoldable pub sum_to : (ℕ → ℕ) → ℕ → ℕ
@@ -25,14 +25,14 @@ sum_to f (suc n) = f n + sum_to f n
 
 -- no edge leaves v
 unfoldable pub ends : Graph → ℕ → Bool
-ends g v = eqb (outDegree g v) 0
+ends g v = eqb (out_degree g v) 0
 
 unfoldable pub sinks : Graph → ℕ
-sinks g = sum_to (λ v. bit (ends g v)) (nodeCount g)
+sinks g = sum_to (λ v. bit (ends g v)) (node_count g)
 
 -- S
 unfoldable pub branching : Graph → ℕ
-branching g = sum_to (λ v. outDegree g v - 1) (nodeCount g)
+branching g = sum_to (λ v. out_degree g v - 1) (node_count g)
 
 pub sum-le : (f h : ℕ → ℕ) (n : ℕ) → ((v : ℕ) → v < n → f v ≤ h v) → sum_to f n ≤ sum_to h n
 unfolding sum_to
@@ -71,7 +71,7 @@ sum_more f m (suc n) l k = by_order m n
 sum-at : (f f' : ℕ → ℕ) (x n : ℕ) → x < n → ((v : ℕ) → (v ≡ x → ⊥) → f' v ≡ f v) → f' x ≡ 0 → sum_to f n ≡ f x + sum_to f' n
 unfolding sum_to
 sum-at f f' x zero l k z = absurd (omega arith)
-sum-at f f' x (suc n) l k z = byTest (eqb n x)
+sum-at f f' x (suc n) l k z = by_test (eqb n x)
     (λ t. let e = eqb-true n x t in
     omega (arith, ap f e, ap f' e, sum_same f' f n (λ v h. k v (λ i. omega arith))))
     (λ t. let e = eqb-false n x t in omega (arith, k n e, sum-at f f' x n (by_order n x (λ h. absurd (e (omega arith))) (λ h. h)) k z))
@@ -79,7 +79,7 @@ sum-at f f' x (suc n) l k z = byTest (eqb n x)
 pub sum-point : (x b n : ℕ) → sum_to (λ v. cond (eqb v x) b 0) n ≤ b
 unfolding sum_to
 sum-point x b zero = omega arith
-sum-point x b (suc n) = byTest (eqb n x)
+sum-point x b (suc n) = by_test (eqb n x)
     (λ t. let e = eqb-true n x t in rw t (omega (arith, sum-zero (λ v. cond (eqb v x) b 0) n (λ v h. rw (ne_eqb v x (λ i. omega arith))))))
     (λ t. rw t (omega (arith, sum-point x b n)))
 
@@ -103,7 +103,7 @@ sum_kept h n (x ∷ gone) d b =
     let f : ℕ → ℕ = λ v. cond (keeps gone v) (h v) 0 in
     let f' : ℕ → ℕ = λ v. cond (keeps (x ∷ gone) v) (h v) 0 in
     let k = sum-at f f' x n (b x (Memᴰ.head refl))
-    (λ v i. ap (λ z. cond z (h v) 0) (byTest (keeps gone v)
+    (λ v i. ap (λ z. cond z (h v) 0) (by_test (keeps gone v)
     (λ t. keeps-other (x ∷ gone) v (λ m. ⊎_elim i (keeps-not gone v t) (Memᴰ.cases_cons m)) ∙ sym t)
     (λ t. keeps-gone (x ∷ gone) v (Memᴰ.tail (not-keeps gone v t)) ∙ sym t)))
     (rw (keeps-gone (x ∷ gone) x (Memᴰ.head refl))) in
@@ -114,26 +114,26 @@ sum_kept h n (x ∷ gone) d b =
 pub sum-restrict : (p : ℕ → Bool) (f h : ℕ → ℕ) (n : ℕ) → ((v : ℕ) → v < n → p v ≡ true → f (rank p v) ≤ h v) → sum_to f (rank p n) ≤ sum_to h n
 unfolding sum_to rank
 sum-restrict p f h zero k = omega arith
-sum-restrict p f h (suc n) k = byTest (p n)
+sum-restrict p f h (suc n) k = by_test (p n)
     (λ t. rw (rank-yes p n t) (omega (arith, k n (omega arith) t, sum-restrict p f h n (λ v l. k v (omega arith)))))
     (λ t. rw (rank-no p n t) (omega (arith, sum-restrict p f h n (λ v l. k v (omega arith)))))
 
 -- the outgoing edges of all vertices are all edges
-count-cons : (p : Edge → Bool) (e : Edge) (es : List Edge) → length (keepIf p (e ∷ es)) ≡ bit (p e) + length (keepIf p es)
+count-cons : (p : Edge → Bool) (e : Edge) (es : List Edge) → length (keep_if p (e ∷ es)) ≡ bit (p e) + length (keep_if p es)
 unfolding bit
-count-cons p e es = byTest (p e) (λ t. rw (keepIf-yes p e es t, t) (omega arith)) (λ t. rw (keepIf-no p e es t, t) (omega arith))
+count-cons p e es = by_test (p e) (λ t. rw (keep_if-yes p e es t, t) (omega arith)) (λ t. rw (keep_if-no p e es t, t) (omega arith))
 
-abbrev leavingCount : List Edge → ℕ → ℕ
-leavingCount es v = length (keepIf (λ (e : Edge). eqb e.from v) es)
+abbrev leaving_count : List Edge → ℕ → ℕ
+leaving_count es v = length (keep_if (λ (e : Edge). eqb e.from v) es)
 
-leave-all : (es : List Edge) (n : ℕ) → ((e : Edge) → Memᴰ e es → e.from < n) → sum_to (leavingCount es) n ≡ length es
-unfolding keepIf
-leave-all [] n k = sum-zero (leavingCount []) n (λ v h. refl)
+leave-all : (es : List Edge) (n : ℕ) → ((e : Edge) → Memᴰ e es → e.from < n) → sum_to (leaving_count es) n ≡ length es
+unfolding keep_if
+leave-all [] n k = sum-zero (leaving_count []) n (λ v h. refl)
 leave-all (e ∷ es) n k =
     omega (
       arith,
-      sum_same (leavingCount (e ∷ es)) (λ v. bit (eqb e.from v) + leavingCount es v) n (λ v h. count-cons (λ (x : Edge). eqb x.from v) e es),
-      sum-add (λ v. bit (eqb e.from v)) (leavingCount es) n,
+      sum_same (leaving_count (e ∷ es)) (λ v. bit (eqb e.from v) + leaving_count es v) n (λ v h. count-cons (λ (x : Edge). eqb x.from v) e es),
+      sum-add (λ v. bit (eqb e.from v)) (leaving_count es) n,
       sum_one e.from n (k e (Memᴰ.head refl)),
       leave-all es n (λ x m. k x (Memᴰ.tail m)),
     )
@@ -144,23 +144,23 @@ less_one zero = refl
 less_one (suc d) = rw (ne_eqb (suc d) 0 (λ e. omega arith)) (omega arith)
 
 -- S + V = E + sinks
-pub branching-is : (g : Graph) → Bounded g → branching g + nodeCount g ≡ length g.edges + sinks g
+pub branching-is : (g : Graph) → Bounded g → branching g + node_count g ≡ length g.edges + sinks g
 unfolding branching sinks ends
 branching-is g b =
     omega (
       arith,
-      sum-add (λ v. outDegree g v - 1) (λ _. 1) (nodeCount g),
-      sum_ones (nodeCount g),
-      sum_same (λ v. (outDegree g v - 1) + 1) (λ v. outDegree g v + bit (eqb (outDegree g v) 0)) (nodeCount g) (λ v _. less_one (outDegree g v)),
-      sum-add (outDegree g) (λ v. bit (eqb (outDegree g v) 0)) (nodeCount g),
+      sum-add (λ v. out_degree g v - 1) (λ _. 1) (node_count g),
+      sum_ones (node_count g),
+      sum_same (λ v. (out_degree g v - 1) + 1) (λ v. out_degree g v + bit (eqb (out_degree g v) 0)) (node_count g) (λ v _. less_one (out_degree g v)),
+      sum-add (out_degree g) (λ v. bit (eqb (out_degree g v) 0)) (node_count g),
       degrees,
     )
   where
-    degrees : sum_to (outDegree g) (nodeCount g) ≡ length g.edges
-    degrees = unfold outDegree edgesFrom in (leave-all g.edges (nodeCount g) (λ e m. (b e m).0))
+    degrees : sum_to (out_degree g) (node_count g) ≡ length g.edges
+    degrees = unfold out_degree edges_from in (leave-all g.edges (node_count g) (λ e m. (b e m).0))
 
 -- E − V ≤ S
-pub surplus-branching : (g : Graph) → Bounded g → length g.edges ≤ branching g + nodeCount g
+pub surplus-branching : (g : Graph) → Bounded g → length g.edges ≤ branching g + node_count g
 surplus-branching g b = omega (arith, branching-is g b)
 
 -- a restriction
@@ -168,44 +168,44 @@ module _ (p : ℕ → Bool) (g : Graph) where
   abbrev both : Edge → Bool
   both e = p e.from && p e.to
 
-  fewer : (v : ℕ) → p v ≡ true → (es : List Edge) → leavingCount (map (remapEdge p) (keepIf both es)) (rank p v) ≤ leavingCount es v
-  unfolding keepIf
+  fewer : (v : ℕ) → p v ≡ true → (es : List Edge) → leaving_count (map (remap_edge p) (keep_if both es)) (rank p v) ≤ leaving_count es v
+  unfolding keep_if
   fewer v t [] = omega arith
-  fewer v t (e ∷ es) = byTest (both e)
-      (λ k. rw (keepIf-yes both e es k) (omega (
+  fewer v t (e ∷ es) = by_test (both e)
+      (λ k. rw (keep_if-yes both e es k) (omega (
         arith,
-        count-cons (λ (x : Edge). eqb x.from (rank p v)) (remapEdge p e)
-            (map (remapEdge p) (keepIf both es)),
+        count-cons (λ (x : Edge). eqb x.from (rank p v)) (remap_edge p e)
+            (map (remap_edge p) (keep_if both es)),
         count-cons (λ (x : Edge). eqb x.from v) e es,
         fewer v t es,
         one k,
       )))
-      (λ k. rw (keepIf-no both e es k) (omega (arith, count-cons (λ (x : Edge). eqb x.from v) e es, fewer v t es)))
+      (λ k. rw (keep_if-no both e es k) (omega (arith, count-cons (λ (x : Edge). eqb x.from v) e es, fewer v t es)))
     where
-      one : both e ≡ true → bit (eqb (remapEdge p e).from (rank p v)) ≤ bit (eqb e.from v)
-      one k = unfold remapEdge bit in (byTest (eqb (rank p e.from) (rank p v))
+      one : both e ≡ true → bit (eqb (remap_edge p e).from (rank p v)) ≤ bit (eqb e.from v)
+      one k = unfold remap_edge bit in (by_test (eqb (rank p e.from) (rank p v))
           (λ y. rw (eq-eqb e.from v (rank-inj p e.from v (and_split _ _ k).0 t (eqb-true _ _ y)))
           (omega (arith, bit_le (eqb (rank p e.from) (rank p v)))))
           (λ y. rw y (omega arith)))
 
-  pub fewer-out : (v : ℕ) → p v ≡ true → outDegree (compactVertices p g) (rank p v) ≤ outDegree g v
-  unfolding outDegree edgesFrom compactVertices
+  pub fewer-out : (v : ℕ) → p v ≡ true → out_degree (compact_vertices p g) (rank p v) ≤ out_degree g v
+  unfolding out_degree edges_from compact_vertices
   fewer-out v t = fewer v t g.edges
 
-  pub branching-restrict : branching (compactVertices p g) ≤ branching g
+  pub branching-restrict : branching (compact_vertices p g) ≤ branching g
   unfolding branching
   branching-restrict =
-      rw (order-restrict p g) (sum-restrict p (λ v. outDegree (compactVertices p g) v - 1) (λ v. outDegree g v - 1) (nodeCount g) (λ v l t.
+      rw (order-restrict p g) (sum-restrict p (λ v. out_degree (compact_vertices p g) v - 1) (λ v. out_degree g v - 1) (node_count g) (λ v l t.
       omega (arith, fewer-out v t)))
 
   -- a sink of the restriction is one of what is kept
-  pub sink-part : (v : ℕ) → v < nodeCount g → p v ≡ true → ends (compactVertices p g) (rank p v) ≡ true → IsSink (part_of p g) v
-  unfolding ends outDegree
+  pub sink-part : (v : ℕ) → v < node_count g → p v ≡ true → ends (compact_vertices p g) (rank p v) ≡ true → IsSink (part_of p g) v
+  unfolding ends out_degree
   sink-part v l t e = (
     (l, t),
     λ w h.
         let k = link-restrict p g v w h.0 t h.2 in
-        none_in (edgesFrom (compactVertices p g) (rank p v)) (eqb-true _ _ e) (in-edgesFrom (compactVertices p g) (rank p v) k.0 k.1 k.2),
+        none_in (edges_from (compact_vertices p g) (rank p v)) (eqb-true _ _ e) (in-edges_from (compact_vertices p g) (rank p v) k.0 k.1 k.2),
   )
     where
       none_in : {x : Edge} (l : List Edge) → length l ≡ 0 → Memᴰ x l → ⊥
@@ -213,49 +213,49 @@ module _ (p : ℕ → Bool) (g : Graph) where
       none_in (x ∷ l) d m = omega arith
 
 pub ends_is : (g : Graph) (v : ℕ) → ((w : ℕ) → HasEdge g v w → ⊥) → ends g v ≡ true
-unfolding ends outDegree
-ends_is g v h = byTest (eqb (length (edgesFrom g v)) 0) (λ t. t)
-    (λ t. let n = eqb-false (length (edgesFrom g v)) 0 t in
-    let z = nonempty (edgesFrom g v) (by_order (length (edgesFrom g v)) 0 (λ l. absurd (n (omega arith))) (λ l. l)) in
-    let k = of-edgesFrom g v z.0 z.1 in
+unfolding ends out_degree
+ends_is g v h = by_test (eqb (length (edges_from g v)) 0) (λ t. t)
+    (λ t. let n = eqb-false (length (edges_from g v)) 0 t in
+    let z = nonempty (edges_from g v) (by_order (length (edges_from g v)) 0 (λ l. absurd (n (omega arith))) (λ l. l)) in
+    let k = of-edges_from g v z.0 z.1 in
     absurd (h z.0.to (z.0, k.0, k.1, refl)))
 
 -- The sinks of a changed graph: old ones that stay, and x at most, which counts b.
-module _ (g G : Graph) (gone : List ℕ) (x b : ℕ) (grows : nodeCount g ≤ nodeCount G) (once : Distinct gone) (old : (v : ℕ) → Memᴰ v gone → v < nodeCount g)
-    (known : (v : ℕ) → IsSink (part_of (keeps gone) G) v → ((v < nodeCount g) × ((w : ℕ) → HasEdge g v w → ⊥)) ⊎ ((v ≡ x) × (1 ≤ b))) where
+module _ (g G : Graph) (gone : List ℕ) (x b : ℕ) (grows : node_count g ≤ node_count G) (once : Distinct gone) (old : (v : ℕ) → Memᴰ v gone → v < node_count g)
+    (known : (v : ℕ) → IsSink (part_of (keeps gone) G) v → ((v < node_count g) × ((w : ℕ) → HasEdge g v w → ⊥)) ⊎ ((v ≡ x) × (1 ≤ b))) where
   stay : ℕ → ℕ
-  stay v = cond (ltb v (nodeCount g)) (cond (keeps gone v) (bit (ends g v)) 0) 0
+  stay v = cond (ltb v (node_count g)) (cond (keeps gone v) (bit (ends g v)) 0) 0
 
   extra : ℕ → ℕ
   extra v = cond (eqb v x) b 0
 
-  counted : (v : ℕ) → v < nodeCount G → keeps gone v ≡ true → bit (ends (compactVertices (keeps gone) G) (rank (keeps gone) v)) ≤ stay v + extra v
+  counted : (v : ℕ) → v < node_count G → keeps gone v ≡ true → bit (ends (compact_vertices (keeps gone) G) (rank (keeps gone) v)) ≤ stay v + extra v
   unfolding stay extra bit
-  counted v l t = byTest (ends (compactVertices (keeps gone) G) (rank (keeps gone) v))
+  counted v l t = by_test (ends (compact_vertices (keeps gone) G) (rank (keeps gone) v))
       (λ e. ⊎_elim
-      (λ k. rw (lt-ltb v (nodeCount g) k.0, t, ends_is g v k.1) (omega (arith, bit_le (ends (compactVertices (keeps gone) G) (rank (keeps gone) v)))))
-      (λ k. rw (eq-eqb v x k.0) (omega (arith, bit_le (ends (compactVertices (keeps gone) G) (rank (keeps gone) v)), k.1)))
+      (λ k. rw (lt-ltb v (node_count g) k.0, t, ends_is g v k.1) (omega (arith, bit_le (ends (compact_vertices (keeps gone) G) (rank (keeps gone) v)))))
+      (λ k. rw (eq-eqb v x k.0) (omega (arith, bit_le (ends (compact_vertices (keeps gone) G) (rank (keeps gone) v)), k.1)))
       (known v (sink-part (keeps gone) G v l t e)))
       (λ e. rw e (omega arith))
 
-  stay-sum : sum_to stay (nodeCount G) + total (λ v. bit (ends g v)) gone ≡ sinks g
+  stay-sum : sum_to stay (node_count G) + total (λ v. bit (ends g v)) gone ≡ sinks g
   unfolding stay sinks
   stay-sum =
       omega (
         arith,
-        sum_more stay (nodeCount g) (nodeCount G) grows (λ v l. rw (le-ltb v (nodeCount g) l)),
-        sum_same stay (λ v. cond (keeps gone v) (bit (ends g v)) 0) (nodeCount g) (λ v l. rw (lt-ltb v (nodeCount g) l)),
-        sum_kept (λ v. bit (ends g v)) (nodeCount g) gone once old,
+        sum_more stay (node_count g) (node_count G) grows (λ v l. rw (le-ltb v (node_count g) l)),
+        sum_same stay (λ v. cond (keeps gone v) (bit (ends g v)) 0) (node_count g) (λ v l. rw (lt-ltb v (node_count g) l)),
+        sum_kept (λ v. bit (ends g v)) (node_count g) gone once old,
       )
 
-  pub sinks-by : sinks (compactVertices (keeps gone) G) + total (λ v. bit (ends g v)) gone ≤ sinks g + b
+  pub sinks-by : sinks (compact_vertices (keeps gone) G) + total (λ v. bit (ends g v)) gone ≤ sinks g + b
   unfolding sinks extra
   sinks-by =
       omega (
         arith,
-        ap (λ z. sum_to (λ v. bit (ends (compactVertices (keeps gone) G) v)) z) (order-restrict (keeps gone) G),
-        sum-restrict (keeps gone) (λ v. bit (ends (compactVertices (keeps gone) G) v)) (λ v. stay v + extra v) (nodeCount G) counted,
-        sum-add stay extra (nodeCount G),
-        sum-point x b (nodeCount G),
+        ap (λ z. sum_to (λ v. bit (ends (compact_vertices (keeps gone) G) v)) z) (order-restrict (keeps gone) G),
+        sum-restrict (keeps gone) (λ v. bit (ends (compact_vertices (keeps gone) G) v)) (λ v. stay v + extra v) (node_count G) counted,
+        sum-add stay extra (node_count G),
+        sum-point x b (node_count G),
         stay-sum,
       )

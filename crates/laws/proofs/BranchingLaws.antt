@@ -11,12 +11,12 @@ use mathlib.Core.List.{List, [], ◌∷◌, ◌++◌, map, Memᴰ}
 use lib.Dec.{eqb}
 use lib.ListN.{length}
 use borrow.Author.Tests.{eqb-true, eqb-false}
-use Rattle.defs.specs.Lists.{bit, commonSuffix}
-use Rattle.defs.specs.SeqGraph.{Graph, nodeCount, vertexSequence, incomingNodes, keeps, applyChange, removeVerticesById}
-use Rattle.defs.specs.Zip.{mergeLinearChain, last_of}
-use Rattle.defs.specs.Rewrites.{isMerge, trySplitCommonSuffix, mergeChange}
+use Rattle.defs.specs.Lists.{bit, common_suffix}
+use Rattle.defs.specs.SeqGraph.{Graph, node_count, vertex_sequence, incoming_nodes, keeps, apply_change, remove_vertices_by_id}
+use Rattle.defs.specs.Zip.{merge_linear_chain, last_of}
+use Rattle.defs.specs.Rewrites.{is_merge, try_split_common_suffix, merge_change}
 use Rattle.defs.specs.Strings.{HasEdge}
-use Rattle.laws.proofs.Walks.{IsSink, byTest}
+use Rattle.laws.proofs.Walks.{IsSink, by_test}
 use Rattle.laws.proofs.ListLaws.{by_order}
 use Rattle.laws.proofs.Nets.{Bounded, Ranks, part_of}
 use Rattle.laws.proofs.Edges.{of-mem-ins, order-grown, keeps-not}
@@ -35,7 +35,7 @@ use Rattle.laws.proofs.ZipLaws.{Chained}
 use Rattle.laws.proofs.ZipCounts.{distinct-chain, below, zip-surplus}
 
 -- from the sinks and edges less vertices
-fewer-branches : (g g' : Graph) → Bounded g → Bounded g' → length g'.edges + nodeCount g ≤ length g.edges + nodeCount g'
+fewer-branches : (g g' : Graph) → Bounded g → Bounded g' → length g'.edges + node_count g ≤ length g.edges + node_count g'
     → sinks g' ≤ sinks g → branching g' ≤ branching g
 fewer-branches g g' b b' h k = omega (arith, branching-is g b, branching-is g' b')
 
@@ -50,71 +50,71 @@ unfolding bit
 ends-one g v h = rw (ends_is g v h) (omega arith)
 
 -- split
-module _ (g g' : Graph) (bottom : ℕ) (sound : Sound g) (once : Single g.edges) (did : trySplitCommonSuffix g bottom ≡ some g') where
+module _ (g g' : Graph) (bottom : ℕ) (sound : Sound g) (once : Single g.edges) (did : try_split_common_suffix g bottom ≡ some g') where
   abbrev suf : List ℕ
-  suf = commonSuffix (map (vertexSequence g) (incomingNodes g bottom))
+  suf = common_suffix (map (vertex_sequence g) (incoming_nodes g bottom))
 
-  abbrev cuts : (m : ℕ) → Memᴰ m (incomingNodes g bottom) → vertexSequence g m ≡ Rattle.defs.specs.Rewrites.withoutSuffix g (length suf) m ++ suf
+  abbrev cuts : (m : ℕ) → Memᴰ m (incoming_nodes g bottom) → vertex_sequence g m ≡ Rattle.defs.specs.Rewrites.without_suffix g (length suf) m ++ suf
   cuts = Q.cuts g g' bottom sound once did
 
-  abbrev onlyOut : (m w : ℕ) → Memᴰ m (incomingNodes g bottom) → HasEdge g m w → w ≡ bottom
-  onlyOut = Q.onlyOut g g' bottom sound once did
+  abbrev only_out : (m w : ℕ) → Memᴰ m (incoming_nodes g bottom) → HasEdge g m w → w ≡ bottom
+  only_out = Q.only_out g g' bottom sound once did
 
   abbrev b₁ : Bounded g
   b₁ = sound.bounded
 
   abbrev G₁ : Graph
-  G₁ = P.G g b₁ sound.rank sound.ranks bottom suf onlyOut cuts
+  G₁ = P.G g b₁ sound.rank sound.ranks bottom suf only_out cuts
 
   -- a new vertex leads to the bottom or to the suffix vertex of its block
-  block-leads : (v k m : ℕ) → P.Block g bottom suf (nodeCount g) (incomingNodes g bottom) k m → k ≤ v → v < k + P.width g bottom suf m
-      → ((w : ℕ) → (part_of (keeps (incomingNodes g bottom)) G₁).Ed v w → ⊥) → ⊥
+  block-leads : (v k m : ℕ) → P.Block g bottom suf (node_count g) (incoming_nodes g bottom) k m → k ≤ v → v < k + P.width g bottom suf m
+      → ((w : ℕ) → (part_of (keeps (incoming_nodes g bottom)) G₁).Ed v w → ⊥) → ⊥
   block-leads v k m b l u h =
-      let put = P.put g b₁ sound.rank sound.ranks bottom suf onlyOut cuts k m in
-      let newEdge = P.link' g b₁ sound.rank sound.ranks bottom suf onlyOut cuts in
+      let put = P.put g b₁ sound.rank sound.ranks bottom suf only_out cuts k m in
+      let new_edge = P.link' g b₁ sound.rank sound.ranks bottom suf only_out cuts in
       by_order v k
-      (λ i. let e : v ≡ k = omega arith in h bottom (rw e (newEdge k bottom (put k bottom b (P.in-block₂ g bottom suf k m)))))
+      (λ i. let e : v ≡ k = omega arith in h bottom (rw e (new_edge k bottom (put k bottom b (P.in-block₂ g bottom suf k m)))))
       (λ i. P.width-cases g bottom suf m
       (λ _ w. omega arith)
-      (λ n w. let e : v ≡ suc k = omega arith in h k (rw e (newEdge (suc k) k (put (suc k) k b (P.in-block₁ g bottom suf k m n))))))
+      (λ n w. let e : v ≡ suc k = omega arith in h k (rw e (new_edge (suc k) k (put (suc k) k b (P.in-block₁ g bottom suf k m n))))))
 
-  split-sink : (v : ℕ) → IsSink (part_of (keeps (incomingNodes g bottom)) G₁) v → ((v < nodeCount g) × ((w : ℕ) → HasEdge g v w → ⊥)) ⊎ ((v ≡ 0) × (1 ≤ 0))
-  split-sink v h = by_order (nodeCount g) v
-      (λ l. let a = P.block_at g bottom suf (nodeCount g) (incomingNodes g bottom) v l
-      (omega (arith, P.sizeG g b₁ sound.rank sound.ranks bottom suf onlyOut cuts, h.0.0)) in
+  split-sink : (v : ℕ) → IsSink (part_of (keeps (incoming_nodes g bottom)) G₁) v → ((v < node_count g) × ((w : ℕ) → HasEdge g v w → ⊥)) ⊎ ((v ≡ 0) × (1 ≤ 0))
+  split-sink v h = by_order (node_count g) v
+      (λ l. let a = P.block_at g bottom suf (node_count g) (incoming_nodes g bottom) v l
+      (omega (arith, P.size_g g b₁ sound.rank sound.ranks bottom suf only_out cuts, h.0.0)) in
       absurd (block-leads v a.0 a.1 a.2 a.3 a.4 h.1))
       (λ l. inl (
         l,
-        sink-old g b₁ (P.c g b₁ sound.rank sound.ranks bottom suf onlyOut cuts)
-            (P.local g b₁ sound.rank sound.ranks bottom suf onlyOut cuts) v l h,
+        sink-old g b₁ (P.c g b₁ sound.rank sound.ranks bottom suf only_out cuts)
+            (P.local g b₁ sound.rank sound.ranks bottom suf only_out cuts) v l h,
       ))
 
   sinks-split : sinks g' ≤ sinks g
-  sinks-split = rw (← (Q.parts g g' bottom sound once did).1) (unfold applyChange removeVerticesById in
+  sinks-split = rw (← (Q.parts g g' bottom sound once did).1) (unfold apply_change remove_vertices_by_id in
       (omega (
         arith,
-        sinks-by g G₁ (incomingNodes g bottom) 0 0 (omega (arith, P.sizeG g b₁ sound.rank sound.ranks bottom suf onlyOut cuts))
+        sinks-by g G₁ (incoming_nodes g bottom) 0 0 (omega (arith, P.size_g g b₁ sound.rank sound.ranks bottom suf only_out cuts))
             (Q.once-prevs g g' bottom sound once did)
-            (P.prev-old g b₁ sound.rank sound.ranks bottom suf onlyOut cuts) split-sink,
+            (P.prev-old g b₁ sound.rank sound.ranks bottom suf only_out cuts) split-sink,
       )))
 
   pub split-branching : branching g' ≤ branching g
   split-branching = fewer-branches g g' b₁ (split-keeps' g g' bottom sound did).sound.bounded (split-surplus g g' bottom sound once did) sinks-split
 
 -- merge
-module _ (g : Graph) (bottom : ℕ) (bounded : Bounded g) (r : ℕ → ℕ) (ranks : Ranks g r) (inside : bottom < nodeCount g) (ok :
-    isMerge g (incomingNodes g bottom) ≡ true) (once : Single g.edges) where
+module _ (g : Graph) (bottom : ℕ) (bounded : Bounded g) (r : ℕ → ℕ) (ranks : Ranks g r) (inside : bottom < node_count g) (ok :
+    is_merge g (incoming_nodes g bottom) ≡ true) (once : Single g.edges) where
   abbrev G₂ : Graph
   G₂ = M.G g bottom bounded r ranks inside ok
 
-  pub old-one : (v : ℕ) → Memᴰ v (bottom ∷ incomingNodes g bottom) → v < nodeCount g
+  pub old-one : (v : ℕ) → Memᴰ v (bottom ∷ incoming_nodes g bottom) → v < node_count g
   old-one v m = ⊎_elim (λ (i : v ≡ bottom). rw i inside) (λ n.
       (M.edge-old g bottom bounded r ranks inside ok v bottom (of-mem-ins g v bottom n)).0) (Memᴰ.cases_cons m)
 
-  merge-sink : (v : ℕ) → IsSink (part_of (keeps (bottom ∷ incomingNodes g bottom)) G₂) v
-      → ((v < nodeCount g) × ((w : ℕ) → HasEdge g v w → ⊥)) ⊎ ((v ≡ nodeCount g) × (1 ≤ bit (ends g bottom)))
-  merge-sink v h = by_order (nodeCount g) v
-      (λ l. let e : v ≡ nodeCount g = omega (arith, h.0.0, order-grown g (mergeChange g bottom (incomingNodes g bottom)), one-new) in
+  merge-sink : (v : ℕ) → IsSink (part_of (keeps (bottom ∷ incoming_nodes g bottom)) G₂) v
+      → ((v < node_count g) × ((w : ℕ) → HasEdge g v w → ⊥)) ⊎ ((v ≡ node_count g) × (1 ≤ bit (ends g bottom)))
+  merge-sink v h = by_order (node_count g) v
+      (λ l. let e : v ≡ node_count g = omega (arith, h.0.0, order-grown g (merge_change g bottom (incoming_nodes g bottom)), one-new) in
       inr (
         e,
         ends-one g bottom (λ w k. h.1 w (
@@ -125,19 +125,19 @@ module _ (g : Graph) (bottom : ℕ) (bounded : Bounded g) (r : ℕ → ℕ) (ran
       ))
       (λ l. inl (l, (M.sink-N g bottom bounded r ranks inside ok v h (M.is-common g bottom bounded r ranks inside ok v h.0.1 l)).1))
     where
-      one-new : length (mergeChange g bottom (incomingNodes g bottom)).verts ≡ 1
-      one-new = unfold mergeChange in refl
+      one-new : length (merge_change g bottom (incoming_nodes g bottom)).verts ≡ 1
+      one-new = unfold merge_change in refl
 
-  pub merge-branching : branching (applyChange g (mergeChange g bottom (incomingNodes g bottom))) ≤ branching g
-  merge-branching = fewer-branches g (applyChange g (mergeChange g bottom (incomingNodes g bottom))) bounded
+  pub merge-branching : branching (apply_change g (merge_change g bottom (incoming_nodes g bottom))) ≤ branching g
+  merge-branching = fewer-branches g (apply_change g (merge_change g bottom (incoming_nodes g bottom))) bounded
       (M.bounded-merge g bottom bounded r ranks inside ok) (surplus-merge g bottom bounded r ranks inside ok once)
-      (unfold applyChange removeVerticesById mergeChange in
+      (unfold apply_change remove_vertices_by_id merge_change in
       (omega (
         arith,
-        sinks-by g G₂ (bottom ∷ incomingNodes g bottom) (nodeCount g) (bit (ends g bottom))
-            (omega (arith, order-grown g (mergeChange g bottom (incomingNodes g bottom))))
+        sinks-by g G₂ (bottom ∷ incoming_nodes g bottom) (node_count g) (bit (ends g bottom))
+            (omega (arith, order-grown g (merge_change g bottom (incoming_nodes g bottom))))
             (distinct-gone g bottom bounded r ranks inside ok once) old-one merge-sink,
-        total-mem (λ v. bit (ends g v)) (bottom ∷ incomingNodes g bottom) bottom (Memᴰ.head refl),
+        total-mem (λ v. bit (ends g v)) (bottom ∷ incoming_nodes g bottom) bottom (Memᴰ.head refl),
       )))
 
 -- zip
@@ -152,8 +152,8 @@ module _ (g : Graph) (bounded : Bounded g) (r : ℕ → ℕ) (ranks : Ranks g r)
   lst-in = ⊎_elim (λ (e : lst ≡ s). absurd (Z.s-not-last g bounded r ranks s y ys chained (sym e))) (λ m.
       m) (Memᴰ.cases_cons (Z.last-in g bounded r ranks s (y ∷ ys)))
 
-  zip-sink : (v : ℕ) → IsSink (part_of (keeps (y ∷ ys)) G₃) v → ((v < nodeCount g) × ((w : ℕ) → HasEdge g v w → ⊥)) ⊎ ((v ≡ s) × (1 ≤ bit (ends g lst)))
-  zip-sink v h = byTest (eqb v s)
+  zip-sink : (v : ℕ) → IsSink (part_of (keeps (y ∷ ys)) G₃) v → ((v < node_count g) × ((w : ℕ) → HasEdge g v w → ⊥)) ⊎ ((v ≡ s) × (1 ≤ bit (ends g lst)))
+  zip-sink v h = by_test (eqb v s)
       (λ t. let e = eqb-true v s t in
       inr (e, ends-one g lst (λ w k. h.1 w (rw e (unfold Z.U in (Z.U-last g bounded r ranks s y ys chained w k))))))
       (λ t. inl (
@@ -163,10 +163,10 @@ module _ (g : Graph) (bounded : Bounded g) (r : ℕ → ℕ) (ranks : Ranks g r)
             (unfold Z.U in h) w k,
       ))
 
-  pub zip-branching : branching (mergeLinearChain g s (y ∷ ys)) ≤ branching g
-  zip-branching = fewer-branches g (mergeLinearChain g s (y ∷ ys)) bounded (Z.bounded-zip g bounded r ranks s y ys chained)
+  pub zip-branching : branching (merge_linear_chain g s (y ∷ ys)) ≤ branching g
+  zip-branching = fewer-branches g (merge_linear_chain g s (y ∷ ys)) bounded (Z.bounded-zip g bounded r ranks s y ys chained)
       (zip-surplus g bounded r ranks s y ys chained)
-      (unfold mergeLinearChain removeVerticesById in
+      (unfold merge_linear_chain remove_vertices_by_id in
       (omega (
         arith,
         sinks-by g G₃ (y ∷ ys) s (bit (ends g lst)) (omega (arith, Z.order-G g bounded r ranks s y ys chained))

@@ -12,12 +12,12 @@ use lib.Dec.{ltb}
 use lib.ListN.{length, length-map}
 use borrow.Author.Tests.{ltb-true, ltb-false, lt-ltb, le-ltb}
 use Rattle.defs.specs.Lists.{any_of, sum, bit, concat}
-use Rattle.defs.specs.SeqGraph.{Edge, Graph, EdgeData, saturatingAdd, joinedData, nodeCount}
-use Rattle.defs.specs.Simplify.{graphTopologySignature}
-use Rattle.defs.specs.Joined.{joinedFrom, trueSum, IsJoinOf, Reordered, keep, swap, then}
-use Rattle.laws.proofs.Walks.{byTest}
+use Rattle.defs.specs.SeqGraph.{Edge, Graph, EdgeData, saturating_add, joined_data, node_count}
+use Rattle.defs.specs.Simplify.{graph_topology_signature}
+use Rattle.defs.specs.Joined.{joined_from, true_sum, IsJoinOf, Reordered, keep, swap, then}
+use Rattle.laws.proofs.Walks.{by_test}
 use Rattle.laws.proofs.ListLaws.{or-none, or_cases, or_left, or_right, any-yes, any-no}
-use Rattle.laws.proofs.Cycles.{anyOf-true, anyOf-mem}
+use Rattle.laws.proofs.Cycles.{any_of-true, any_of-mem}
 
 -- ---- tests
 
@@ -37,7 +37,7 @@ over n = ltb 4294967295 n
 
 -- the sum of two passes it, or what was kept of it and a third do: the sum of the three does
 over-then : (m c : ℕ) → (over m || over (min m 4294967295 + c)) ≡ over (m + c)
-over-then m c = byTest (over m)
+over-then m c = by_test (over m)
     (λ t. rw t (sym (lt-ltb 4294967295 (m + c) (omega (arith, ltb-true 4294967295 m t)))))
     (λ t. let e : min m 4294967295 ≡ m = omega (arith, ltb-false 4294967295 m t) in rw (t, e))
 
@@ -53,29 +53,29 @@ regroup false false false s t u e = ap (λ x. s || x) e
 
 -- ---- two edges, three edges
 
-same-data : (a b : EdgeData) → a.support ≡ b.support → a.isRef ≡ b.isRef → a.capped ≡ b.capped → a ≡ b
-same-data a b p q r = λ i. record { support = p i; isRef = q i; capped = r i }
+same-data : (a b : EdgeData) → a.support ≡ b.support → a.is_ref ≡ b.is_ref → a.capped ≡ b.capped → a ≡ b
+same-data a b p q r = λ i. record { support = p i; is_ref = q i; capped = r i }
 
 -- the order of two does not matter
-pub joined-comm : (a b : EdgeData) → joinedData a b ≡ joinedData b a
-unfolding joinedData saturatingAdd
+pub joined-comm : (a b : EdgeData) → joined_data a b ≡ joined_data b a
+unfolding joined_data saturating_add
 joined-comm a b =
     let e : a.support + b.support ≡ b.support + a.support = omega arith in
     same-data _ _
     (omega arith)
-    (or_comm a.isRef b.isRef)
+    (or_comm a.is_ref b.is_ref)
     (λ i. or_comm a.capped b.capped i || over (e i))
 
 -- three joined from the left
 three : EdgeData → EdgeData → EdgeData → EdgeData
 three a b c = record {
   support = min (a.support + b.support + c.support) 4294967295;
-  isRef = (a.isRef || b.isRef) || c.isRef;
+  is_ref = (a.is_ref || b.is_ref) || c.is_ref;
   capped = ((a.capped || b.capped) || c.capped) || over (a.support + b.support + c.support);
 }
 
-joined-three : (a b c : EdgeData) → joinedData (joinedData a b) c ≡ three a b c
-unfolding joinedData saturatingAdd three
+joined-three : (a b c : EdgeData) → joined_data (joined_data a b) c ≡ three a b c
+unfolding joined_data saturating_add three
 joined-three a b c = same-data _ _
     (sums-then (a.support + b.support) c.support)
     refl
@@ -87,124 +87,124 @@ turned a b c =
     let e : b.support + c.support + a.support ≡ a.support + b.support + c.support = omega arith in
     same-data _ _
     (omega arith)
-    (turn b.isRef c.isRef a.isRef)
+    (turn b.is_ref c.is_ref a.is_ref)
     (λ i. turn b.capped c.capped a.capped i || over (e i))
   where
     turn : (p q r : Bool) → ((p || q) || r) ≡ ((r || p) || q)
     turn p q r = or_comm (p || q) r ∙ sym (or_assoc r p q)
 
 -- the grouping of three does not matter
-pub joined-assoc : (a b c : EdgeData) → joinedData (joinedData a b) c ≡ joinedData a (joinedData b c)
-joined-assoc a b c = joined-three a b c ∙ (sym (turned a b c) ∙ (sym (joined-three b c a) ∙ joined-comm (joinedData b c) a))
+pub joined-assoc : (a b c : EdgeData) → joined_data (joined_data a b) c ≡ joined_data a (joined_data b c)
+joined-assoc a b c = joined-three a b c ∙ (sym (turned a b c) ∙ (sym (joined-three b c a) ∙ joined-comm (joined_data b c) a))
 
 -- ---- any order: a list is joined as its members are, and none adds nothing
 
-joinedIf : Option EdgeData → Option EdgeData → Option EdgeData
-joinedIf none b = b
-joinedIf (some a) none = some a
-joinedIf (some a) (some b) = some (joinedData a b)
+joined_if : Option EdgeData → Option EdgeData → Option EdgeData
+joined_if none b = b
+joined_if (some a) none = some a
+joined_if (some a) (some b) = some (joined_data a b)
 
-joinedAll : List EdgeData → Option EdgeData
-joinedAll [] = none
-joinedAll (x ∷ xs) = joinedIf (some x) (joinedAll xs)
+joined_all : List EdgeData → Option EdgeData
+joined_all [] = none
+joined_all (x ∷ xs) = joined_if (some x) (joined_all xs)
 
-if-swap : (a b : EdgeData) (z : Option EdgeData) → joinedIf (some a) (joinedIf (some b) z) ≡ joinedIf (some b) (joinedIf (some a) z)
-unfolding joinedIf
+if-swap : (a b : EdgeData) (z : Option EdgeData) → joined_if (some a) (joined_if (some b) z) ≡ joined_if (some b) (joined_if (some a) z)
+unfolding joined_if
 if-swap a b none = ap some (joined-comm a b)
-if-swap a b (some c) = ap some (sym (joined-assoc a b c) ∙ ap (λ x. joinedData x c) (joined-comm a b) ∙ joined-assoc b a c)
+if-swap a b (some c) = ap some (sym (joined-assoc a b c) ∙ ap (λ x. joined_data x c) (joined-comm a b) ∙ joined-assoc b a c)
 
-if-assoc : (a b : EdgeData) (z : Option EdgeData) → joinedIf (some (joinedData a b)) z ≡ joinedIf (some a) (joinedIf (some b) z)
-unfolding joinedIf
+if-assoc : (a b : EdgeData) (z : Option EdgeData) → joined_if (some (joined_data a b)) z ≡ joined_if (some a) (joined_if (some b) z)
+unfolding joined_if
 if-assoc a b none = refl
 if-assoc a b (some c) = ap some (joined-assoc a b c)
 
-all-reordered : {xs ys : List EdgeData} → Reordered xs ys → joinedAll xs ≡ joinedAll ys
-unfolding joinedAll
+all-reordered : {xs ys : List EdgeData} → Reordered xs ys → joined_all xs ≡ joined_all ys
+unfolding joined_all
 all-reordered Reordered.none = refl
-all-reordered (keep {x = x} r) = ap (joinedIf (some x)) (all-reordered r)
-all-reordered (swap {x = x} {y = y} {l = l}) = if-swap x y (joinedAll l)
+all-reordered (keep {x = x} r) = ap (joined_if (some x)) (all-reordered r)
+all-reordered (swap {x = x} {y = y} {l = l}) = if-swap x y (joined_all l)
 all-reordered (then r s) = all-reordered r ∙ all-reordered s
 
-from_all : (a : EdgeData) (bs : List EdgeData) → some (joinedFrom a bs) ≡ joinedAll (a ∷ bs)
-unfolding joinedFrom joinedAll joinedIf
+from_all : (a : EdgeData) (bs : List EdgeData) → some (joined_from a bs) ≡ joined_all (a ∷ bs)
+unfolding joined_from joined_all joined_if
 from_all a [] = refl
-from_all a (b ∷ bs) = from_all (joinedData a b) bs ∙ if-assoc a b (joinedAll bs)
+from_all a (b ∷ bs) = from_all (joined_data a b) bs ∙ if-assoc a b (joined_all bs)
 
 -- THE ORDER DOES NOT MATTER
-pub joined-any-order : (a b : EdgeData) (cs bs : List EdgeData) → Reordered (a ∷ cs) (b ∷ bs) → joinedFrom a cs ≡ joinedFrom b bs
+pub joined-any-order : (a b : EdgeData) (cs bs : List EdgeData) → Reordered (a ∷ cs) (b ∷ bs) → joined_from a cs ≡ joined_from b bs
 joined-any-order a b cs bs r = some-injective _ _ (from_all a cs ∙ (all-reordered r ∙ sym (from_all b bs)))
 
 -- ---- what a list of edges comes to
 
-anyOf-cons : {A : Type 0} (p : A → Bool) (x : A) (xs : List A) → any_of p (x ∷ xs) ≡ (p x || any_of p xs)
-anyOf-cons p x xs = byTest (p x) (λ t. any-yes p x xs t ∙ sym (or_left (p x) (any_of p xs) t)) (λ t. any-no p x xs t ∙ rw t)
+any_of-cons : {A : Type 0} (p : A → Bool) (x : A) (xs : List A) → any_of p (x ∷ xs) ≡ (p x || any_of p xs)
+any_of-cons p x xs = by_test (p x) (λ t. any-yes p x xs t ∙ sym (or_left (p x) (any_of p xs) t)) (λ t. any-no p x xs t ∙ rw t)
 
-trueSum-cons : (d : EdgeData) (ds : List EdgeData) → trueSum (d ∷ ds) ≡ d.support + trueSum ds
-unfolding trueSum sum
-trueSum-cons d ds = refl
+true_sum-cons : (d : EdgeData) (ds : List EdgeData) → true_sum (d ∷ ds) ≡ d.support + true_sum ds
+unfolding true_sum sum
+true_sum-cons d ds = refl
 
-trueSum-nil : trueSum [] ≡ 0
-unfolding trueSum sum
-trueSum-nil = refl
+true_sum-nil : true_sum [] ≡ 0
+unfolding true_sum sum
+true_sum-nil = refl
 
 any-alone : (p : EdgeData → Bool) (a : EdgeData) → any_of p (a ∷ []) ≡ p a
 unfolding any_of
-any-alone p a = anyOf-cons p a [] ∙ sym (or-none (p a))
+any-alone p a = any_of-cons p a [] ∙ sym (or-none (p a))
 
 -- an edge alone, where its support fits 32 bits
 alone : (a : EdgeData) → a.support ≤ 4294967295 → IsJoinOf (a ∷ []) a
 alone a h =
-    let e : trueSum (a ∷ []) ≡ a.support = trueSum-cons a [] ∙ omega (arith, trueSum-nil) in
+    let e : true_sum (a ∷ []) ≡ a.support = true_sum-cons a [] ∙ omega (arith, true_sum-nil) in
     record {
       support = rw e (omega arith);
-      isRef = sym (any-alone (λ x. x.isRef) a);
+      is_ref = sym (any-alone (λ x. x.is_ref) a);
       capped = rw (e, le-ltb 4294967295 a.support h) (or-none a.capped ∙ ap (λ z. z || false) (sym (any-alone (λ x. x.capped) a)));
     }
 
 -- the first two of the list joined beforehand
-joined-first : (a b : EdgeData) (cs : List EdgeData) (d : EdgeData) → IsJoinOf (joinedData a b ∷ cs) d → IsJoinOf (a ∷ b ∷ cs) d
-unfolding joinedData saturatingAdd
+joined-first : (a b : EdgeData) (cs : List EdgeData) (d : EdgeData) → IsJoinOf (joined_data a b ∷ cs) d → IsJoinOf (a ∷ b ∷ cs) d
+unfolding joined_data saturating_add
 joined-first a b cs d j = record {
-  support = j.support ∙ ap (λ n. min n 4294967295) (trueSum-cons ab cs) ∙ sums-then (a.support + b.support) (trueSum cs) ∙ ap (λ n. min n 4294967295) whole;
-  isRef = j.isRef ∙ anyOf-cons ref ab cs ∙ or_assoc a.isRef b.isRef (any_of ref cs) ∙ sym (two ref);
-  capped = j.capped ∙ (λ i. anyOf-cons mark ab cs i || over (trueSum-cons ab cs i))
-      ∙ regroup a.capped b.capped (over (a.support + b.support)) (any_of mark cs) _ _ (over-then (a.support + b.support) (trueSum cs))
+  support = j.support ∙ ap (λ n. min n 4294967295) (true_sum-cons ab cs) ∙ sums-then (a.support + b.support) (true_sum cs) ∙ ap (λ n. min n 4294967295) whole;
+  is_ref = j.is_ref ∙ any_of-cons ref ab cs ∙ or_assoc a.is_ref b.is_ref (any_of ref cs) ∙ sym (two ref);
+  capped = j.capped ∙ (λ i. any_of-cons mark ab cs i || over (true_sum-cons ab cs i))
+      ∙ regroup a.capped b.capped (over (a.support + b.support)) (any_of mark cs) _ _ (over-then (a.support + b.support) (true_sum cs))
       ∙ (λ i. (or_assoc a.capped b.capped (any_of mark cs) ∙ sym (two mark)) i || over (whole i));
 }
   where
     ab : EdgeData
-    ab = joinedData a b
+    ab = joined_data a b
 
     ref : EdgeData → Bool
-    ref x = x.isRef
+    ref x = x.is_ref
 
     mark : EdgeData → Bool
     mark x = x.capped
 
     two : (p : EdgeData → Bool) → any_of p (a ∷ b ∷ cs) ≡ (p a || (p b || any_of p cs))
-    two p = anyOf-cons p a (b ∷ cs) ∙ ap (λ z. p a || z) (anyOf-cons p b cs)
+    two p = any_of-cons p a (b ∷ cs) ∙ ap (λ z. p a || z) (any_of-cons p b cs)
 
-    whole : a.support + b.support + trueSum cs ≡ trueSum (a ∷ b ∷ cs)
-    whole = omega (arith, trueSum-cons a (b ∷ cs), trueSum-cons b cs)
+    whole : a.support + b.support + true_sum cs ≡ true_sum (a ∷ b ∷ cs)
+    whole = omega (arith, true_sum-cons a (b ∷ cs), true_sum-cons b cs)
 
-joined-fits : (a b : EdgeData) → (joinedData a b).support ≤ 4294967295
-unfolding joinedData saturatingAdd
+joined-fits : (a b : EdgeData) → (joined_data a b).support ≤ 4294967295
+unfolding joined_data saturating_add
 joined-fits a b = omega arith
 
 -- WHAT JOINED EDGES CARRY
-pub joined-figures : (a : EdgeData) (bs : List EdgeData) → a.support ≤ 4294967295 → IsJoinOf (a ∷ bs) (joinedFrom a bs)
-unfolding joinedFrom
+pub joined-figures : (a : EdgeData) (bs : List EdgeData) → a.support ≤ 4294967295 → IsJoinOf (a ∷ bs) (joined_from a bs)
+unfolding joined_from
 joined-figures a [] h = alone a h
-joined-figures a (b ∷ bs) h = joined-first a b bs _ (joined-figures (joinedData a b) bs (joined-fits a b))
+joined-figures a (b ∷ bs) h = joined-first a b bs _ (joined-figures (joined_data a b) bs (joined-fits a b))
 
 -- the mark in words: one of them had it, or the true sum passes 2^32 - 1
 pub capped-means : (ds : List EdgeData) (d : EdgeData) → IsJoinOf ds d
-    → (d.capped ≡ true) ↔ (((x : EdgeData) × Memᴰ x ds × (x.capped ≡ true)) ⊎ (4294967295 < trueSum ds))
+    → (d.capped ≡ true) ↔ (((x : EdgeData) × Memᴰ x ds × (x.capped ≡ true)) ⊎ (4294967295 < true_sum ds))
 capped-means ds d j = (
-  λ t. ⊎_elim (λ a. inl (anyOf-true mark ds a)) (λ o. inr (ltb-true _ _ o)) (or_cases (any_of mark ds) _ (sym j.capped ∙ t)),
+  λ t. ⊎_elim (λ a. inl (any_of-true mark ds a)) (λ o. inr (ltb-true _ _ o)) (or_cases (any_of mark ds) _ (sym j.capped ∙ t)),
   λ c. j.capped ∙ ⊎_elim
-      (λ m. or_left (any_of mark ds) (over (trueSum ds)) (anyOf-mem mark ds m.1 m.2))
-      (λ o. or_right (any_of mark ds) (over (trueSum ds)) (lt-ltb _ _ o))
+      (λ m. or_left (any_of mark ds) (over (true_sum ds)) (any_of-mem mark ds m.1 m.2))
+      (λ o. or_right (any_of mark ds) (over (true_sum ds)) (lt-ltb _ _ o))
       c,
 )
   where
@@ -215,22 +215,22 @@ capped-means ds d j = (
 
 -- the graph with other marks: c says which edges are capped
 abbrev marked : (Edge → Bool) → Edge → Edge
-marked c e = record { from = e.from; to = e.to; support = e.support; isRef = e.isRef; capped = c e }
+marked c e = record { from = e.from; to = e.to; support = e.support; is_ref = e.is_ref; capped = c e }
 
-abbrev withMarks : (Edge → Bool) → Graph → Graph
-withMarks c g = record { k = g.k; verts = g.verts; edges = map (marked c) g.edges }
+abbrev with_marks : (Edge → Bool) → Graph → Graph
+with_marks c g = record { k = g.k; verts = g.verts; edges = map (marked c) g.edges }
 
 -- the numbers of an edge in the signature
-abbrev pub edgeNumbers : Edge → List ℕ
-edgeNumbers e = e.from ∷ e.to ∷ e.support ∷ bit e.isRef ∷ []
+abbrev pub edge_numbers : Edge → List ℕ
+edge_numbers e = e.from ∷ e.to ∷ e.support ∷ bit e.is_ref ∷ []
 
-numbers-same : (c : Edge → Bool) (es : List Edge) → concat (map edgeNumbers (map (marked c) es)) ≡ concat (map edgeNumbers es)
+numbers-same : (c : Edge → Bool) (es : List Edge) → concat (map edge_numbers (map (marked c) es)) ≡ concat (map edge_numbers es)
 unfolding concat
 numbers-same c [] = refl
-numbers-same c (e ∷ es) = ap (λ l. edgeNumbers e ++ l) (numbers-same c es)
+numbers-same c (e ∷ es) = ap (λ l. edge_numbers e ++ l) (numbers-same c es)
 
 -- WHETHER A SUPPORT WAS CAPPED IS NOT COMPARED
-pub signature-without-marks : (c : Edge → Bool) (g : Graph) → graphTopologySignature (withMarks c g) ≡ graphTopologySignature g
-unfolding graphTopologySignature nodeCount
+pub signature-without-marks : (c : Edge → Bool) (g : Graph) → graph_topology_signature (with_marks c g) ≡ graph_topology_signature g
+unfolding graph_topology_signature node_count
 signature-without-marks c g =
     λ i. length g.verts ∷ length-map g.edges (marked c) i ∷ concat (map (λ v. length v ∷ v) g.verts) ++ numbers-same c g.edges i

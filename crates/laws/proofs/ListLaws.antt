@@ -12,8 +12,8 @@ use mathlib.Core.List.{List, [], ◌∷◌, ◌++◌, map, append_assoc, append-
 use lib.Dec.{T, eqb, leb}
 use lib.ListN.{length, get_or}
 use borrow.Author.Tests.{leb-true, leb-false, eqb-true, eqb-false, eq-eqb, ne_eqb}
-use Rattle.laws.proofs.Walks.{byTest}
-use Rattle.defs.specs.Lists.{keepIf, any_of, all_of, keepAt, bit, given, rank, same_list}
+use Rattle.laws.proofs.Walks.{by_test}
+use Rattle.defs.specs.Lists.{keep_if, any_of, all_of, keep_at, bit, given, rank, same_list}
 
 pub clash : {X : Type 0} {b : Bool} → b ≡ true → b ≡ false → X
 clash p q = absurd (true≢false (sym p ∙ q))
@@ -74,30 +74,30 @@ unfolding bit
 bit-yes b t = rw t
 
 pub by_order : {X : Type 0} (m n : ℕ) → (m ≤ n → X) → (n < m → X) → X
-by_order m n f g = byTest (leb m n) (λ t. f (leb-true m n t)) (λ t. g (leb-false m n t))
+by_order m n f g = by_test (leb m n) (λ t. f (leb-true m n t)) (λ t. g (leb-false m n t))
 
 module _ {A : Type 0} (p : A → Bool) where
-  pub keepIf-yes : (x : A) (xs : List A) → p x ≡ true → keepIf p (x ∷ xs) ≡ x ∷ keepIf p xs
-  unfolding keepIf
-  keepIf-yes x xs t = rw t
+  pub keep_if-yes : (x : A) (xs : List A) → p x ≡ true → keep_if p (x ∷ xs) ≡ x ∷ keep_if p xs
+  unfolding keep_if
+  keep_if-yes x xs t = rw t
 
-  pub keepIf-no : (x : A) (xs : List A) → p x ≡ false → keepIf p (x ∷ xs) ≡ keepIf p xs
-  unfolding keepIf
-  keepIf-no x xs t = rw t
+  pub keep_if-no : (x : A) (xs : List A) → p x ≡ false → keep_if p (x ∷ xs) ≡ keep_if p xs
+  unfolding keep_if
+  keep_if-no x xs t = rw t
 
-  pub mem-keepIf : {l : List A} {x : A} → Memᴰ x l → p x ≡ true → Memᴰ x (keepIf p l)
-  mem-keepIf (Memᴰ.head {x = y} {xs = ys} e) t = rw (keepIf-yes y ys (ap p (sym e) ∙ t)) (Memᴰ.head e)
-  mem-keepIf (Memᴰ.tail {x = y} {xs = ys} m) t =
-      byTest (p y) (λ py. rw (keepIf-yes y ys py) (Memᴰ.tail (mem-keepIf m t))) (λ py. rw (keepIf-no y ys py) (mem-keepIf m t))
+  pub mem-keep_if : {l : List A} {x : A} → Memᴰ x l → p x ≡ true → Memᴰ x (keep_if p l)
+  mem-keep_if (Memᴰ.head {x = y} {xs = ys} e) t = rw (keep_if-yes y ys (ap p (sym e) ∙ t)) (Memᴰ.head e)
+  mem-keep_if (Memᴰ.tail {x = y} {xs = ys} m) t =
+      by_test (p y) (λ py. rw (keep_if-yes y ys py) (Memᴰ.tail (mem-keep_if m t))) (λ py. rw (keep_if-no y ys py) (mem-keep_if m t))
 
-  pub of-keepIf : (l : List A) {x : A} → Memᴰ x (keepIf p l) → Memᴰ x l × (p x ≡ true)
-  unfolding keepIf
-  of-keepIf [] m = absurd (Memᴰ.not-nil m)
-  of-keepIf (y ∷ ys) {x} m =
-      byTest (p y)
-      (λ py. ⊎_elim (λ (e : x ≡ y). (Memᴰ.head e, ap p e ∙ py)) (λ m'. let r = of-keepIf ys m' in (Memᴰ.tail r.0, r.1))
-      (Memᴰ.cases_cons (rw (keepIf-yes y ys py) at m)))
-      (λ py. let r = of-keepIf ys (rw (keepIf-no y ys py) at m) in (Memᴰ.tail r.0, r.1))
+  pub of-keep_if : (l : List A) {x : A} → Memᴰ x (keep_if p l) → Memᴰ x l × (p x ≡ true)
+  unfolding keep_if
+  of-keep_if [] m = absurd (Memᴰ.not-nil m)
+  of-keep_if (y ∷ ys) {x} m =
+      by_test (p y)
+      (λ py. ⊎_elim (λ (e : x ≡ y). (Memᴰ.head e, ap p e ∙ py)) (λ m'. let r = of-keep_if ys m' in (Memᴰ.tail r.0, r.1))
+      (Memᴰ.cases_cons (rw (keep_if-yes y ys py) at m)))
+      (λ py. let r = of-keep_if ys (rw (keep_if-no y ys py) at m) in (Memᴰ.tail r.0, r.1))
 
   pub any-yes : (x : A) (xs : List A) → p x ≡ true → any_of p (x ∷ xs) ≡ true
   unfolding any_of
@@ -118,22 +118,22 @@ module _ {A : Type 0} (p : A → Bool) where
 pub any-map : {A B : Type 0} (p : B → Bool) (f : A → B) (xs : List A) → any_of p (map f xs) ≡ any_of (λ (x : A). p (f x)) xs
 unfolding any_of
 any-map p f [] = refl
-any-map p f (x ∷ xs) = byTest (p (f x)) (λ t. rw (t, any_of)) (λ t. rw (t, any_of) (any-map p f xs))
+any-map p f (x ∷ xs) = by_test (p (f x)) (λ t. rw (t, any_of)) (λ t. rw (t, any_of) (any-map p f xs))
 
 -- two tests that agree on the members of a list
 module _ {A : Type 0} (p q : A → Bool) where
-  pub allOf-same : (l : List A) → ((x : A) → Memᴰ x l → p x ≡ q x) → all_of p l ≡ all_of q l
+  pub all_of-same : (l : List A) → ((x : A) → Memᴰ x l → p x ≡ q x) → all_of p l ≡ all_of q l
   unfolding all_of
-  allOf-same [] h = refl
-  allOf-same (x ∷ xs) h = byTest (q x)
-      (λ t. all_yes p x xs (h x (Memᴰ.head refl) ∙ t) ∙ allOf-same xs (λ y m. h y (Memᴰ.tail m)) ∙ sym (all_yes q x xs t))
+  all_of-same [] h = refl
+  all_of-same (x ∷ xs) h = by_test (q x)
+      (λ t. all_yes p x xs (h x (Memᴰ.head refl) ∙ t) ∙ all_of-same xs (λ y m. h y (Memᴰ.tail m)) ∙ sym (all_yes q x xs t))
       (λ t. all-no p x xs (h x (Memᴰ.head refl) ∙ t) ∙ sym (all-no q x xs t))
 
-  pub keepIf-same : (l : List A) → ((x : A) → Memᴰ x l → p x ≡ q x) → keepIf p l ≡ keepIf q l
-  unfolding keepIf
-  keepIf-same [] h = refl
-  keepIf-same (x ∷ l) h = λ i. cond (h x (Memᴰ.head refl) i) (x ∷ keepIf-same l (λ y k. h y (Memᴰ.tail k)) i)
-      (keepIf-same l (λ y k. h y (Memᴰ.tail k)) i)
+  pub keep_if-same : (l : List A) → ((x : A) → Memᴰ x l → p x ≡ q x) → keep_if p l ≡ keep_if q l
+  unfolding keep_if
+  keep_if-same [] h = refl
+  keep_if-same (x ∷ l) h = λ i. cond (h x (Memᴰ.head refl) i) (x ∷ keep_if-same l (λ y k. h y (Memᴰ.tail k)) i)
+      (keep_if-same l (λ y k. h y (Memᴰ.tail k)) i)
 
 -- members by index
 pub mem-at : {A : Type 0} (d : A) {l : List A} {x : A} → Memᴰ x l → (i : ℕ) × (i < length l) × (get_or l i d ≡ x)
@@ -146,20 +146,20 @@ at_mem d (x ∷ l) zero h = Memᴰ.head refl
 at_mem d (x ∷ l) (suc i) h = Memᴰ.tail (at_mem d l i (le_of_suc-le-suc h))
 
 -- lists of numbers compared
-pub sameList-eq : (a b : List ℕ) → same_list a b ≡ true → a ≡ b
+pub same_list-eq : (a b : List ℕ) → same_list a b ≡ true → a ≡ b
 unfolding same_list
-sameList-eq [] [] t = refl
-sameList-eq [] (y ∷ ys) t = clash t refl
-sameList-eq (x ∷ xs) [] t = clash t refl
-sameList-eq (x ∷ xs) (y ∷ ys) t =
-    byTest (eqb x y)
-    (λ e. let p = eqb-true x y e in let q = sameList-eq xs ys (rw (e, same_list) at t) in cc)
+same_list-eq [] [] t = refl
+same_list-eq [] (y ∷ ys) t = clash t refl
+same_list-eq (x ∷ xs) [] t = clash t refl
+same_list-eq (x ∷ xs) (y ∷ ys) t =
+    by_test (eqb x y)
+    (λ e. let p = eqb-true x y e in let q = same_list-eq xs ys (rw (e, same_list) at t) in cc)
     (λ e. clash (rw (e, same_list) at t) refl)
 
-pub sameList-refl : (l : List ℕ) → same_list l l ≡ true
+pub same_list-refl : (l : List ℕ) → same_list l l ≡ true
 unfolding same_list
-sameList-refl [] = refl
-sameList-refl (x ∷ xs) = rw (eq-eqb x x refl, same_list) (sameList-refl xs)
+same_list-refl [] = refl
+same_list-refl (x ∷ xs) = rw (eq-eqb x x refl, same_list) (same_list-refl xs)
 
 -- ranks
 module _ (p : ℕ → Bool) where
@@ -172,7 +172,7 @@ module _ (p : ℕ → Bool) where
   rank-no n t = rw t (omega arith)
 
   rank_step : (n : ℕ) → rank p n ≤ rank p (suc n)
-  rank_step n = byTest (p n) (λ t. omega (arith, rank-yes n t)) (λ t. omega (arith, rank-no n t))
+  rank_step n = by_test (p n) (λ t. omega (arith, rank-yes n t)) (λ t. omega (arith, rank-no n t))
 
   -- ranks rise
   pub rank_mono : (m n : ℕ) → m ≤ n → rank p m ≤ rank p n
@@ -190,60 +190,60 @@ module _ (p : ℕ → Bool) where
 
   -- the places of a list that are kept, under their ranks
   module _ {A : Type 0} where
-    pub keepAt-yes : (i : ℕ) (x : A) (xs : List A) → p i ≡ true → keepAt p i (x ∷ xs) ≡ x ∷ keepAt p (suc i) xs
-    unfolding keepAt
-    keepAt-yes i x xs t = rw t
+    pub keep_at-yes : (i : ℕ) (x : A) (xs : List A) → p i ≡ true → keep_at p i (x ∷ xs) ≡ x ∷ keep_at p (suc i) xs
+    unfolding keep_at
+    keep_at-yes i x xs t = rw t
 
-    pub keepAt-no : (i : ℕ) (x : A) (xs : List A) → p i ≡ false → keepAt p i (x ∷ xs) ≡ keepAt p (suc i) xs
-    unfolding keepAt
-    keepAt-no i x xs t = rw t
+    pub keep_at-no : (i : ℕ) (x : A) (xs : List A) → p i ≡ false → keep_at p i (x ∷ xs) ≡ keep_at p (suc i) xs
+    unfolding keep_at
+    keep_at-no i x xs t = rw t
 
     -- the kept members from place i on are as many as the ranks say
-    pub length-keepAt : (xs : List A) (i : ℕ) → rank p i + length (keepAt p i xs) ≡ rank p (i + length xs)
-    unfolding keepAt
-    length-keepAt [] i = simp add-zero
-    length-keepAt (x ∷ xs) i =
-        let ih = length-keepAt xs (suc i) in
+    pub length-keep_at : (xs : List A) (i : ℕ) → rank p i + length (keep_at p i xs) ≡ rank p (i + length xs)
+    unfolding keep_at
+    length-keep_at [] i = simp add-zero
+    length-keep_at (x ∷ xs) i =
+        let ih = length-keep_at xs (suc i) in
         let e : i + suc (length xs) ≡ suc i + length xs = omega arith in
-        rw e (byTest (p i)
-        (λ t. rw (keepAt-yes i x xs t) (omega (arith, rank-yes i t, ih)))
-        (λ t. rw (keepAt-no i x xs t) (omega (arith, rank-no i t, ih))))
+        rw e (by_test (p i)
+        (λ t. rw (keep_at-yes i x xs t) (omega (arith, rank-yes i t, ih)))
+        (λ t. rw (keep_at-no i x xs t) (omega (arith, rank-no i t, ih))))
 
-    pub getD-keepAt : (xs : List A) (i j n : ℕ) (d : A) → p (i + j) ≡ true → rank p (i + j) ≡ rank p i + n → j < length xs
-        → get_or (keepAt p i xs) n d ≡ get_or xs j d
-    getD-keepAt [] i j n d t r h = absurd (not-suc-le-zero h)
-    getD-keepAt (x ∷ xs) i zero n d t r h =
+    pub get_or-keep_at : (xs : List A) (i j n : ℕ) (d : A) → p (i + j) ≡ true → rank p (i + j) ≡ rank p i + n → j < length xs
+        → get_or (keep_at p i xs) n d ≡ get_or xs j d
+    get_or-keep_at [] i j n d t r h = absurd (not-suc-le-zero h)
+    get_or-keep_at (x ∷ xs) i zero n d t r h =
         let z : n ≡ 0 = omega (arith, simp add-zero at r) in
-        rw (z, keepAt-yes i x xs (simp add-zero at t))
-    getD-keepAt (x ∷ xs) i (suc j) n d t r h =
+        rw (z, keep_at-yes i x xs (simp add-zero at t))
+    get_or-keep_at (x ∷ xs) i (suc j) n d t r h =
         let e : i + suc j ≡ suc i + j = omega arith in
         let t' : p (suc i + j) ≡ true = rw e at t in
         let r' : rank p (suc i + j) ≡ rank p i + n = rw e at r in
-        byTest (p i)
-        (λ u. rw (keepAt-yes i x xs u) (later u t' r' n refl (λ n' q. getD-keepAt xs (suc i) j n' d t' q (le_of_suc-le-suc h))))
-        (λ u. rw (keepAt-no i x xs u) (getD-keepAt xs (suc i) j n d t' (omega (arith, r', rank-no i u)) (le_of_suc-le-suc h)))
+        by_test (p i)
+        (λ u. rw (keep_at-yes i x xs u) (later u t' r' n refl (λ n' q. get_or-keep_at xs (suc i) j n' d t' q (le_of_suc-le-suc h))))
+        (λ u. rw (keep_at-no i x xs u) (get_or-keep_at xs (suc i) j n d t' (omega (arith, r', rank-no i u)) (le_of_suc-le-suc h)))
       where
         later : p i ≡ true → p (suc i + j) ≡ true → rank p (suc i + j) ≡ rank p i + n → (m : ℕ) → n ≡ m
-            → ((n' : ℕ) → rank p (suc i + j) ≡ rank p (suc i) + n' → get_or (keepAt p (suc i) xs) n' d ≡ get_or xs j d)
-            → get_or (x ∷ keepAt p (suc i) xs) m d ≡ get_or xs j d
+            → ((n' : ℕ) → rank p (suc i + j) ≡ rank p (suc i) + n' → get_or (keep_at p (suc i) xs) n' d ≡ get_or xs j d)
+            → get_or (x ∷ keep_at p (suc i) xs) m d ≡ get_or xs j d
         later u t' r' zero f ih = absurd (omega (arith, rank-yes i u, rank_mono (suc i) (suc i + j) (omega arith)))
         later u t' r' (suc n') f ih = ih n' (omega (arith, rank-yes i u))
 
     -- each place of the kept members is the rank of a place
-    pub place-keepAt : (xs : List A) (i n : ℕ) → n < length (keepAt p i xs) → (j : ℕ) × (j < length xs) × (p (i + j) ≡ true) × (rank p (i + j) ≡ rank p i + n)
-    unfolding keepAt
-    place-keepAt [] i n h = absurd (not-suc-le-zero h)
-    place-keepAt (x ∷ xs) i n h =
-        byTest (p i)
-        (λ u. first u n (omega (arith, h, ap length (keepAt-yes i x xs u))) (λ n' q. place-keepAt xs (suc i) n' q))
-        (λ u. let r = place-keepAt xs (suc i) n (omega (arith, h, ap length (keepAt-no i x xs u))) in
+    pub place-keep_at : (xs : List A) (i n : ℕ) → n < length (keep_at p i xs) → (j : ℕ) × (j < length xs) × (p (i + j) ≡ true) × (rank p (i + j) ≡ rank p i + n)
+    unfolding keep_at
+    place-keep_at [] i n h = absurd (not-suc-le-zero h)
+    place-keep_at (x ∷ xs) i n h =
+        by_test (p i)
+        (λ u. first u n (omega (arith, h, ap length (keep_at-yes i x xs u))) (λ n' q. place-keep_at xs (suc i) n' q))
+        (λ u. let r = place-keep_at xs (suc i) n (omega (arith, h, ap length (keep_at-no i x xs u))) in
         (suc r.0, omega (arith, r.1), rw (next r.0) r.2, rw (next r.0) (omega (arith, r.3, rank-no i u))))
       where
         next : (j : ℕ) → i + suc j ≡ suc i + j
         next j = omega arith
 
-        first : p i ≡ true → (m : ℕ) → m < suc (length (keepAt p (suc i) xs))
-            → ((n' : ℕ) → n' < length (keepAt p (suc i) xs) → (j : ℕ) × (j < length xs) × (p (suc i + j) ≡ true)
+        first : p i ≡ true → (m : ℕ) → m < suc (length (keep_at p (suc i) xs))
+            → ((n' : ℕ) → n' < length (keep_at p (suc i) xs) → (j : ℕ) × (j < length xs) × (p (suc i + j) ≡ true)
             × (rank p (suc i + j) ≡ rank p (suc i) + n'))
             → (j : ℕ) × (j < suc (length xs)) × (p (i + j) ≡ true) × (rank p (i + j) ≡ rank p i + m)
         first u zero l ih = (0, omega arith, simp add-zero u, simp add-zero)

@@ -11,150 +11,150 @@ use mathlib.Core.List.{List, [], ◌∷◌, Memᴰ}
 use lib.Dec.{eqb, ltb}
 use lib.ListN.{length}
 use borrow.Author.Tests.{eqb-true}
-use Rattle.defs.specs.Lists.{keepIf, up_from, same_list}
-use Rattle.defs.specs.SeqGraph.{Graph, nodeCount, remapNumbers}
-use Rattle.defs.specs.Zip.{Work, isLinearChainStart, linearChain, mergeLinearChain, zipStarts, zipLinearChains}
-use Rattle.defs.specs.Rewrites.{tryMergeDiamond, tryMergeTails, trySplitCommonSuffix, tryMergeCommonSuffices}
-use Rattle.defs.specs.Simplify.{first_at, transformUntilComplete, firstSplit, splitUntilComplete, fuelFor, simplifyGraphOnce, roundsFrom}
-use Rattle.defs.specs.Simplify.{Simplified, simplified, graphTopologySignature, simplifyGraphFull, quiet, repeated, full}
-use Rattle.laws.proofs.Walks.{byTest}
-use Rattle.laws.proofs.ListLaws.{mem-keepIf}
-use Rattle.laws.proofs.Cycles.{mem-upFrom}
+use Rattle.defs.specs.Lists.{keep_if, up_from, same_list}
+use Rattle.defs.specs.SeqGraph.{Graph, node_count, remap_numbers}
+use Rattle.defs.specs.Zip.{Work, is_linear_chain_start, linear_chain, merge_linear_chain, zip_starts, zip_linear_chains}
+use Rattle.defs.specs.Rewrites.{try_merge_diamond, try_merge_tails, try_split_common_suffix, try_merge_common_suffices}
+use Rattle.defs.specs.Simplify.{first_at, transform_until_complete, first_split, split_until_complete, fuel_for, simplify_graph_once, rounds_from}
+use Rattle.defs.specs.Simplify.{Simplified, simplified, graph_topology_signature, simplify_graph_full, quiet, repeated, full}
+use Rattle.laws.proofs.Walks.{by_test}
+use Rattle.laws.proofs.ListLaws.{mem-keep_if}
+use Rattle.laws.proofs.Cycles.{mem-up_from}
 use Rattle.laws.proofs.Measures.{weight, enough-is}
 use Rattle.laws.proofs.Bound.{begun}
 use Rattle.laws.proofs.Fuels.{Rests, rests, untried-from}
-use Rattle.laws.proofs.Whole.{byOption, byList, again, until-zero, until_none, until-some, splitAll-zero, splitAll-none}
-use Rattle.laws.proofs.Whole.{splitAll-some, zip-nil, zip-cons, zip-zero, zip_empty}
+use Rattle.laws.proofs.Whole.{by_option, by_list, again, until-zero, until_none, until-some, split_all-zero, split_all-none}
+use Rattle.laws.proofs.Whole.{split_all-some, zip-nil, zip-cons, zip-zero, zip_empty}
 
 -- counts never fall
 until-count-turn : (f : Graph → ℕ → Option Graph) (fuel : ℕ) (w : Work)
-    → ((a : Graph) → suc w.rewrites ≤ (transformUntilComplete f fuel (again w a)).rewrites)
-    → w.rewrites ≤ (transformUntilComplete f (suc fuel) w).rewrites
-until-count-turn f fuel w ih = byOption (first_at (f w.graph) 0 (nodeCount w.graph)) (λ t. rw (until_none f fuel w t) (omega arith))
+    → ((a : Graph) → suc w.rewrites ≤ (transform_until_complete f fuel (again w a)).rewrites)
+    → w.rewrites ≤ (transform_until_complete f (suc fuel) w).rewrites
+until-count-turn f fuel w ih = by_option (first_at (f w.graph) 0 (node_count w.graph)) (λ t. rw (until_none f fuel w t) (omega arith))
     (λ a t. rw (until-some f fuel w a t) (omega (arith, ih a)))
 
-until-count : (f : Graph → ℕ → Option Graph) (fuel : ℕ) (w : Work) → w.rewrites ≤ (transformUntilComplete f fuel w).rewrites
+until-count : (f : Graph → ℕ → Option Graph) (fuel : ℕ) (w : Work) → w.rewrites ≤ (transform_until_complete f fuel w).rewrites
 until-count f zero w = rw (until-zero f w) (omega arith)
 until-count f (suc fuel) w = until-count-turn f fuel w (λ a. until-count f fuel (again w a))
 
 splits-count-turn : (fuel : ℕ) (l : List ℕ) (w : Work) → ((k : List ℕ) (a : Graph)
-    → suc w.rewrites ≤ (splitUntilComplete fuel k (again w a)).rewrites) → w.rewrites ≤ (splitUntilComplete (suc fuel) l w).rewrites
-splits-count-turn fuel l w ih = byOption (firstSplit w.graph l 0 (nodeCount w.graph)) (λ t.
-    rw (splitAll-none fuel l w t) (omega arith)) (λ s t. rw (splitAll-some fuel l w s t) (omega (arith, ih s.tried s.graph)))
+    → suc w.rewrites ≤ (split_until_complete fuel k (again w a)).rewrites) → w.rewrites ≤ (split_until_complete (suc fuel) l w).rewrites
+splits-count-turn fuel l w ih = by_option (first_split w.graph l 0 (node_count w.graph)) (λ t.
+    rw (split_all-none fuel l w t) (omega arith)) (λ s t. rw (split_all-some fuel l w s t) (omega (arith, ih s.tried s.graph)))
 
-splits-count : (fuel : ℕ) (l : List ℕ) (w : Work) → w.rewrites ≤ (splitUntilComplete fuel l w).rewrites
-splits-count zero l w = rw (splitAll-zero l w) (omega arith)
+splits-count : (fuel : ℕ) (l : List ℕ) (w : Work) → w.rewrites ≤ (split_until_complete fuel l w).rewrites
+splits-count zero l w = rw (split_all-zero l w) (omega arith)
 splits-count (suc fuel) l w = splits-count-turn fuel l w (λ k a. splits-count fuel k (again w a))
 
-zip-count-turn : (fuel s : ℕ) (ss : List ℕ) (w : Work) → w.rewrites ≤ (zipStarts fuel ss w).rewrites
-    → ((l : List ℕ) (a : Graph) → suc w.rewrites ≤ (zipStarts fuel l (again w a)).rewrites)
-    → w.rewrites ≤ (zipStarts (suc fuel) (s ∷ ss) w).rewrites
-zip-count-turn fuel s ss w i₁ i₂ = byList (linearChain w.graph s) (λ t. rw (zip-nil fuel s ss w t) i₁) (λ v vs t.
-    rw (zip-cons fuel s ss w v vs t) (omega (arith, i₂ (remapNumbers (v ∷ vs) ss) (mergeLinearChain w.graph s (v ∷ vs)))))
+zip-count-turn : (fuel s : ℕ) (ss : List ℕ) (w : Work) → w.rewrites ≤ (zip_starts fuel ss w).rewrites
+    → ((l : List ℕ) (a : Graph) → suc w.rewrites ≤ (zip_starts fuel l (again w a)).rewrites)
+    → w.rewrites ≤ (zip_starts (suc fuel) (s ∷ ss) w).rewrites
+zip-count-turn fuel s ss w i₁ i₂ = by_list (linear_chain w.graph s) (λ t. rw (zip-nil fuel s ss w t) i₁) (λ v vs t.
+    rw (zip-cons fuel s ss w v vs t) (omega (arith, i₂ (remap_numbers (v ∷ vs) ss) (merge_linear_chain w.graph s (v ∷ vs)))))
 
-zip-count : (fuel : ℕ) (ss : List ℕ) (w : Work) → w.rewrites ≤ (zipStarts fuel ss w).rewrites
+zip-count : (fuel : ℕ) (ss : List ℕ) (w : Work) → w.rewrites ≤ (zip_starts fuel ss w).rewrites
 zip-count zero ss w = rw (zip-zero ss w) (omega arith)
 zip-count (suc fuel) [] w = rw (zip_empty fuel w) (omega arith)
 zip-count (suc fuel) (s ∷ ss) w = zip-count-turn fuel s ss w (zip-count fuel ss w) (λ l a. zip-count fuel l (again w a))
 
 -- a stage that made nothing
-until-idle : (f : Graph → ℕ → Option Graph) (w : Work) → (transformUntilComplete f (fuelFor w.graph) w).rewrites ≡ w.rewrites
-    → (transformUntilComplete f (fuelFor w.graph) w ≡ w) × Rests f w.graph
-until-idle f w e = byOption (first_at (f w.graph) 0 (nodeCount w.graph))
-    (λ t. (ap (λ n. transformUntilComplete f n w) (enough-is w.graph) ∙ until_none f (weight w.graph) w t, rests f w.graph t))
+until-idle : (f : Graph → ℕ → Option Graph) (w : Work) → (transform_until_complete f (fuel_for w.graph) w).rewrites ≡ w.rewrites
+    → (transform_until_complete f (fuel_for w.graph) w ≡ w) × Rests f w.graph
+until-idle f w e = by_option (first_at (f w.graph) 0 (node_count w.graph))
+    (λ t. (ap (λ n. transform_until_complete f n w) (enough-is w.graph) ∙ until_none f (weight w.graph) w t, rests f w.graph t))
     (λ a t. absurd (omega (
       arith,
       e,
-      ap (λ n. (transformUntilComplete f n w).rewrites) (enough-is w.graph),
+      ap (λ n. (transform_until_complete f n w).rewrites) (enough-is w.graph),
       ap (λ (x : Work). x.rewrites) (until-some f (weight w.graph) w a t),
       until-count f (weight w.graph) (again w a),
     )))
 
-splits-idle : (w : Work) → (splitUntilComplete (fuelFor w.graph) [] w).rewrites ≡ w.rewrites
-    → (splitUntilComplete (fuelFor w.graph) [] w ≡ w) × Rests trySplitCommonSuffix w.graph
-splits-idle w e = byOption (firstSplit w.graph [] 0 (nodeCount w.graph))
+splits-idle : (w : Work) → (split_until_complete (fuel_for w.graph) [] w).rewrites ≡ w.rewrites
+    → (split_until_complete (fuel_for w.graph) [] w ≡ w) × Rests try_split_common_suffix w.graph
+splits-idle w e = by_option (first_split w.graph [] 0 (node_count w.graph))
     (λ t. (
-      ap (λ n. splitUntilComplete n [] w) (enough-is w.graph) ∙ splitAll-none (weight w.graph) [] w t,
+      ap (λ n. split_until_complete n [] w) (enough-is w.graph) ∙ split_all-none (weight w.graph) [] w t,
       λ v h.
-          untried-from w.graph [] 0 (nodeCount w.graph) t v (omega arith) (omega arith) (unfold Rattle.defs.specs.Lists.elem_of in
+          untried-from w.graph [] 0 (node_count w.graph) t v (omega arith) (omega arith) (unfold Rattle.defs.specs.Lists.elem_of in
           refl),
     ))
     (λ s t. absurd (omega (
       arith,
       e,
-      ap (λ n. (splitUntilComplete n [] w).rewrites) (enough-is w.graph),
-      ap (λ (x : Work). x.rewrites) (splitAll-some (weight w.graph) [] w s t),
+      ap (λ n. (split_until_complete n [] w).rewrites) (enough-is w.graph),
+      ap (λ (x : Work). x.rewrites) (split_all-some (weight w.graph) [] w s t),
       splits-count (weight w.graph) s.tried (again w s.graph),
     )))
 
 -- no chain of two vertices or more begins anywhere
 abbrev pub NoChain : Graph → Type 0
-NoChain g = (s : ℕ) → s < nodeCount g → linearChain g s ≡ []
+NoChain g = (s : ℕ) → s < node_count g → linear_chain g s ≡ []
 
 Idle : ℕ → List ℕ → Work → Type 0
-Idle fuel ss w = (zipStarts fuel ss w ≡ w) × ((s : ℕ) → Memᴰ s ss → linearChain w.graph s ≡ [])
+Idle fuel ss w = (zip_starts fuel ss w ≡ w) × ((s : ℕ) → Memᴰ s ss → linear_chain w.graph s ≡ [])
 
-starts-turn : (fuel s : ℕ) (ss : List ℕ) (w : Work) → (zipStarts (suc fuel) (s ∷ ss) w).rewrites ≡ w.rewrites
-    → ((zipStarts fuel ss w).rewrites ≡ w.rewrites → Idle fuel ss w) → Idle (suc fuel) (s ∷ ss) w
+starts-turn : (fuel s : ℕ) (ss : List ℕ) (w : Work) → (zip_starts (suc fuel) (s ∷ ss) w).rewrites ≡ w.rewrites
+    → ((zip_starts fuel ss w).rewrites ≡ w.rewrites → Idle fuel ss w) → Idle (suc fuel) (s ∷ ss) w
 unfolding Idle
-starts-turn fuel s ss w e ih = byList (linearChain w.graph s)
+starts-turn fuel s ss w e ih = by_list (linear_chain w.graph s)
     (λ t. let q = zip-nil fuel s ss w t in
     let r = ih (ap (λ (x : Work). x.rewrites) (sym q) ∙ e) in
-    (q ∙ r.0, λ x m. ⊎_elim (λ (i : x ≡ s). ap (linearChain w.graph) i ∙ t) (r.1 x) (Memᴰ.cases_cons m)))
-    (λ v vs t. let a = mergeLinearChain w.graph s (v ∷ vs) in
-    absurd (omega (arith, e, ap (λ (x : Work). x.rewrites) (zip-cons fuel s ss w v vs t), zip-count fuel (remapNumbers (v ∷ vs) ss) (again w a))))
+    (q ∙ r.0, λ x m. ⊎_elim (λ (i : x ≡ s). ap (linear_chain w.graph) i ∙ t) (r.1 x) (Memᴰ.cases_cons m)))
+    (λ v vs t. let a = merge_linear_chain w.graph s (v ∷ vs) in
+    absurd (omega (arith, e, ap (λ (x : Work). x.rewrites) (zip-cons fuel s ss w v vs t), zip-count fuel (remap_numbers (v ∷ vs) ss) (again w a))))
 
-starts-idle : (fuel : ℕ) (ss : List ℕ) (w : Work) → length ss ≤ fuel → (zipStarts fuel ss w).rewrites ≡ w.rewrites → Idle fuel ss w
+starts-idle : (fuel : ℕ) (ss : List ℕ) (w : Work) → length ss ≤ fuel → (zip_starts fuel ss w).rewrites ≡ w.rewrites → Idle fuel ss w
 unfolding Idle
 starts-idle zero [] w l e = (zip-zero [] w, λ s m. absurd (Memᴰ.not-nil m))
 starts-idle zero (s ∷ ss) w l e = absurd (omega arith)
 starts-idle (suc fuel) [] w l e = (zip_empty fuel w, λ s m. absurd (Memᴰ.not-nil m))
 starts-idle (suc fuel) (s ∷ ss) w l e = starts-turn fuel s ss w e (λ k. starts-idle fuel ss w (omega arith) k)
 
-pub chain-none : (g : Graph) (s : ℕ) → isLinearChainStart g s ≡ false → linearChain g s ≡ []
-unfolding linearChain
-chain-none g s t = byTest (ltb s (nodeCount g)) (λ u. rw (and-false (ltb s (nodeCount g)) (isLinearChainStart g s) t, linearChain)) (λ u.
-    rw (and-false (ltb s (nodeCount g)) (isLinearChainStart g s) t, linearChain))
+pub chain-none : (g : Graph) (s : ℕ) → is_linear_chain_start g s ≡ false → linear_chain g s ≡ []
+unfolding linear_chain
+chain-none g s t = by_test (ltb s (node_count g)) (λ u. rw (and-false (ltb s (node_count g)) (is_linear_chain_start g s) t, linear_chain)) (λ u.
+    rw (and-false (ltb s (node_count g)) (is_linear_chain_start g s) t, linear_chain))
   where
     and-false : (a b : Bool) → b ≡ false → (a && b) ≡ false
     and-false true b e = e
     and-false false b e = refl
 
-zip-idle : (w : Work) → (zipLinearChains w).rewrites ≡ w.rewrites → (zipLinearChains w ≡ w) × NoChain w.graph
-unfolding zipLinearChains Idle
+zip-idle : (w : Work) → (zip_linear_chains w).rewrites ≡ w.rewrites → (zip_linear_chains w ≡ w) × NoChain w.graph
+unfolding zip_linear_chains Idle
 zip-idle w e =
-    let starts = keepIf (isLinearChainStart w.graph) (up_from 0 (nodeCount w.graph)) in
+    let starts = keep_if (is_linear_chain_start w.graph) (up_from 0 (node_count w.graph)) in
     let r = starts-idle (length starts) starts w (omega arith) e in (
       r.0,
-      λ s h. byTest (isLinearChainStart w.graph s)
-          (λ t. r.1 s (mem-keepIf (isLinearChainStart w.graph) (mem-upFrom 0 (nodeCount w.graph) s (omega arith) (omega arith)) t))
+      λ s h. by_test (is_linear_chain_start w.graph s)
+          (λ t. r.1 s (mem-keep_if (is_linear_chain_start w.graph) (mem-up_from 0 (node_count w.graph) s (omega arith) (omega arith)) t))
           (λ t. chain-none w.graph s t),
     )
 
 -- nothing applies
 pub record Still (least : ℕ) (g : Graph) : Type 0 where
-  pub diamonds : Rests tryMergeDiamond g
-  pub tails : Rests (tryMergeTails least) g
-  pub splits : Rests trySplitCommonSuffix g
-  pub merges : Rests tryMergeCommonSuffices g
+  pub diamonds : Rests try_merge_diamond g
+  pub tails : Rests (try_merge_tails least) g
+  pub splits : Rests try_split_common_suffix g
+  pub merges : Rests try_merge_common_suffices g
   pub chains : NoChain g
 
-pub round-idle : (least : ℕ) (w : Work) → (simplifyGraphOnce least w).rewrites ≡ w.rewrites → (simplifyGraphOnce least w ≡ w) × Still least w.graph
-unfolding simplifyGraphOnce
+pub round-idle : (least : ℕ) (w : Work) → (simplify_graph_once least w).rewrites ≡ w.rewrites → (simplify_graph_once least w ≡ w) × Still least w.graph
+unfolding simplify_graph_once
 round-idle least w e =
-    let w₁ = transformUntilComplete tryMergeDiamond (fuelFor w.graph) w in
-    let w₂ = transformUntilComplete (tryMergeTails least) (fuelFor w₁.graph) w₁ in
-    let w₃ = splitUntilComplete (fuelFor w₂.graph) [] w₂ in
-    let w₄ = transformUntilComplete tryMergeCommonSuffices (fuelFor w₃.graph) w₃ in
-    let c₁ = until-count tryMergeDiamond (fuelFor w.graph) w in
-    let c₂ = until-count (tryMergeTails least) (fuelFor w₁.graph) w₁ in
-    let c₃ = splits-count (fuelFor w₂.graph) [] w₂ in
-    let c₄ = until-count tryMergeCommonSuffices (fuelFor w₃.graph) w₃ in
-    let c₅ : w₄.rewrites ≤ (zipLinearChains w₄).rewrites = unfold zipLinearChains in (zip-count _ _ w₄) in
-    let k₁ = until-idle tryMergeDiamond w (omega (arith, e, c₁, c₂, c₃, c₄, c₅)) in
-    let k₂ = until-idle (tryMergeTails least) w₁ (omega (arith, e, c₁, c₂, c₃, c₄, c₅)) in
+    let w₁ = transform_until_complete try_merge_diamond (fuel_for w.graph) w in
+    let w₂ = transform_until_complete (try_merge_tails least) (fuel_for w₁.graph) w₁ in
+    let w₃ = split_until_complete (fuel_for w₂.graph) [] w₂ in
+    let w₄ = transform_until_complete try_merge_common_suffices (fuel_for w₃.graph) w₃ in
+    let c₁ = until-count try_merge_diamond (fuel_for w.graph) w in
+    let c₂ = until-count (try_merge_tails least) (fuel_for w₁.graph) w₁ in
+    let c₃ = splits-count (fuel_for w₂.graph) [] w₂ in
+    let c₄ = until-count try_merge_common_suffices (fuel_for w₃.graph) w₃ in
+    let c₅ : w₄.rewrites ≤ (zip_linear_chains w₄).rewrites = unfold zip_linear_chains in (zip-count _ _ w₄) in
+    let k₁ = until-idle try_merge_diamond w (omega (arith, e, c₁, c₂, c₃, c₄, c₅)) in
+    let k₂ = until-idle (try_merge_tails least) w₁ (omega (arith, e, c₁, c₂, c₃, c₄, c₅)) in
     let k₃ = splits-idle w₂ (omega (arith, e, c₁, c₂, c₃, c₄, c₅)) in
-    let k₄ = until-idle tryMergeCommonSuffices w₃ (omega (arith, e, c₁, c₂, c₃, c₄, c₅)) in
+    let k₄ = until-idle try_merge_common_suffices w₃ (omega (arith, e, c₁, c₂, c₃, c₄, c₅)) in
     let k₅ = zip-idle w₄ (omega (arith, e, c₁, c₂, c₃, c₄, c₅)) in
     let q₂ = k₂.0 ∙ k₁.0 in
     let q₃ = k₃.0 ∙ q₂ in
@@ -162,9 +162,9 @@ round-idle least w e =
       k₅.0 ∙ q₄,
       record {
         diamonds = k₁.1;
-        tails = at-graph (Rests (tryMergeTails least)) w₁ w k₁.0 k₂.1;
-        splits = at-graph (Rests trySplitCommonSuffix) w₂ w q₂ k₃.1;
-        merges = at-graph (Rests tryMergeCommonSuffices) w₃ w q₃ k₄.1;
+        tails = at-graph (Rests (try_merge_tails least)) w₁ w k₁.0 k₂.1;
+        splits = at-graph (Rests try_split_common_suffix) w₂ w q₂ k₃.1;
+        merges = at-graph (Rests try_merge_common_suffices) w₃ w q₃ k₄.1;
         chains = at-graph NoChain w₄ w q₄ k₅.1;
       },
     )
@@ -189,28 +189,28 @@ abbrev Calm : ℕ → Simplified → Type 0
 Calm least r = r.end ≡ quiet → Still least r.graph
 
 calm-turn : (least remaining n : ℕ) (sig : List ℕ) (w : Work)
-    → ((m : ℕ) (l : List ℕ) → Calm least (roundsFrom least remaining m l (simplifyGraphOnce least w)))
-    → Calm least (roundsFrom least (suc remaining) n sig w)
-unfolding roundsFrom simplified
-calm-turn least remaining n sig w ih = byTest (eqb (simplifyGraphOnce least w).rewrites w.rewrites)
-    (λ t. rw (t, roundsFrom) (λ _. let z = round-idle least w (eqb-true _ _ t) in still-at (sym z.0) z.1))
-    (λ t. byTest (ltb n 6)
-    (λ s. rw (t, roundsFrom) (rw s (ih (suc n) sig)))
-    (λ s. byTest (same_list sig (graphTopologySignature (simplifyGraphOnce least w).graph))
-    (λ e. rw (t, roundsFrom) (rw s (rw e quiet-repeated)))
-    (λ e. rw (t, roundsFrom) (rw s (rw e (ih (suc n) (graphTopologySignature (simplifyGraphOnce least w).graph)))))))
+    → ((m : ℕ) (l : List ℕ) → Calm least (rounds_from least remaining m l (simplify_graph_once least w)))
+    → Calm least (rounds_from least (suc remaining) n sig w)
+unfolding rounds_from simplified
+calm-turn least remaining n sig w ih = by_test (eqb (simplify_graph_once least w).rewrites w.rewrites)
+    (λ t. rw (t, rounds_from) (λ _. let z = round-idle least w (eqb-true _ _ t) in still-at (sym z.0) z.1))
+    (λ t. by_test (ltb n 6)
+    (λ s. rw (t, rounds_from) (rw s (ih (suc n) sig)))
+    (λ s. by_test (same_list sig (graph_topology_signature (simplify_graph_once least w).graph))
+    (λ e. rw (t, rounds_from) (rw s (rw e quiet-repeated)))
+    (λ e. rw (t, rounds_from) (rw s (rw e (ih (suc n) (graph_topology_signature (simplify_graph_once least w).graph)))))))
   where
     still-at : {a b : Work} → a ≡ b → Still least a.graph → Still least b.graph
     still-at q p = rw q at p
 
-calm-end : (least n : ℕ) (sig : List ℕ) (w : Work) → Calm least (roundsFrom least zero n sig w)
-unfolding roundsFrom simplified
+calm-end : (least n : ℕ) (sig : List ℕ) (w : Work) → Calm least (rounds_from least zero n sig w)
+unfolding rounds_from simplified
 calm-end least n sig w = quiet-full
 
-rounds-calm : (least remaining n : ℕ) (sig : List ℕ) (w : Work) → Calm least (roundsFrom least remaining n sig w)
+rounds-calm : (least remaining n : ℕ) (sig : List ℕ) (w : Work) → Calm least (rounds_from least remaining n sig w)
 rounds-calm least zero n sig w = calm-end least n sig w
-rounds-calm least (suc remaining) n sig w = calm-turn least remaining n sig w (λ m l. rounds-calm least remaining m l (simplifyGraphOnce least w))
+rounds-calm least (suc remaining) n sig w = calm-turn least remaining n sig w (λ m l. rounds-calm least remaining m l (simplify_graph_once least w))
 
-pub simplify-quiet : (least : ℕ) (g : Graph) → (simplifyGraphFull least g).end ≡ quiet → Still least (simplifyGraphFull least g).graph
-unfolding simplifyGraphFull
-simplify-quiet least g = rounds-calm least 100 0 [] (zipLinearChains (begun g))
+pub simplify-quiet : (least : ℕ) (g : Graph) → (simplify_graph_full least g).end ≡ quiet → Still least (simplify_graph_full least g).graph
+unfolding simplify_graph_full
+simplify-quiet least g = rounds-calm least 100 0 [] (zip_linear_chains (begun g))

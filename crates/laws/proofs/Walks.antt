@@ -56,9 +56,9 @@ then {N} (step {q = q} {s = s} g v) w = rw append_assoc (step g (then v w))
 pub single : {N : Net} {p q : Pt} → Go N p q → Steps N p q (text N q)
 single {N} {q = q} g = cast (append-nil (text N q)) (step g stay)
 
-pub byTest : {X : Type 0} (b : Bool) → (b ≡ true → X) → (b ≡ false → X) → X
-byTest true f g = f refl
-byTest false f g = g refl
+pub by_test : {X : Type 0} (b : Bool) → (b ≡ true → X) → (b ≡ false → X) → X
+by_test true f g = f refl
+by_test false f g = g refl
 
 -- local replacement
 abbrev pub kept : (ℕ → Bool) → Pt → Bool
@@ -77,18 +77,18 @@ Replaces N M keep = (p q : Pt) (s : List ℕ) → kept keep p ≡ true → Tour 
 
 module _ (N M : Net) (keep : ℕ → Bool) where
   -- `a` is what is spelled since the last kept point p₀
-  fromMid : Replaces N M keep → {p q : Pt} {s : List ℕ} → Steps N p q s → kept keep q ≡ true
+  from_mid : Replaces N M keep → {p q : Pt} {s : List ℕ} → Steps N p q s → kept keep q ≡ true
       → (p₀ : Pt) (a : List ℕ) → ((r : Pt) (t : List ℕ) → Tour N keep p r t → Steps M p₀ r (a ++ t)) → (kept keep p ≡ true → Steps M p₀ p a)
       → Steps M p₀ q (a ++ s)
-  fromMid each stay kq p₀ a rest fin = rw append-nil (fin kq)
-  fromMid each (step {q = m} {r = q} {s = s} g w) kq p₀ a rest fin =
+  from_mid each stay kq p₀ a rest fin = rw append-nil (fin kq)
+  from_mid each (step {q = m} {r = q} {s = s} g w) kq p₀ a rest fin =
       cast (append_assoc a (text N m) s)
-      (byTest (kept keep m)
-      (λ km. then (rest m (text N m) (hit g km)) (fromMid each w kq m [] (λ r t. each m r t km) (λ _. stay)))
-      (λ nk. fromMid each w kq p₀ (a ++ text N m) (λ r t u. rw append_assoc (rest r (text N m ++ t) (pass g nk u))) (λ k. absurd (true≢false (sym k ∙ nk)))))
+      (by_test (kept keep m)
+      (λ km. then (rest m (text N m) (hit g km)) (from_mid each w kq m [] (λ r t. each m r t km) (λ _. stay)))
+      (λ nk. from_mid each w kq p₀ (a ++ text N m) (λ r t u. rw append_assoc (rest r (text N m ++ t) (pass g nk u))) (λ k. absurd (true≢false (sym k ∙ nk)))))
 
   pub replaced : Replaces N M keep → {p q : Pt} {s : List ℕ} → Steps N p q s → kept keep p ≡ true → kept keep q ≡ true → Steps M p q s
-  replaced each {p = p} w kp kq = fromMid each w kq p [] (λ r t. each p r t kp) (λ _. stay)
+  replaced each {p = p} w kp kq = from_mid each w kq p [] (λ r t. each p r t kp) (λ _. stay)
 
   pub reads : Replaces N M keep → {s : List ℕ} → Reads N s → Reads M s
   reads each w = replaced each w refl refl
@@ -112,24 +112,24 @@ module _ {N M : Net} {R : ℕ → ℕ → Type 0} (c : Carries N M R) where
   Rel stop (at v) = ⊥
   Rel stop stop = Unit {0}
 
-  carryOne : (p q p' : Pt) → Rel p p' → Go N p q → (q' : Pt) × Rel q q' × Go M p' q' × (text M q' ≡ text N q)
-  carryOne start start start h g = absurd g
-  carryOne start (at v) start h g = let b = c.begins v g in (at b.0, b.1, b.2, c.same v b.0 b.1)
-  carryOne start stop start h g = absurd g
-  carryOne start q (at v) h g = absurd h
-  carryOne start q stop h g = absurd h
-  carryOne (at u) q start h g = absurd h
-  carryOne (at u) start (at v) h g = absurd g
-  carryOne (at u) (at w) (at v) h g = let b = c.along u v w h g in (at b.0, b.1, b.2, c.same w b.0 b.1)
-  carryOne (at u) stop (at v) h g = (stop, tt, c.ends u v h g, refl)
-  carryOne (at u) q stop h g = absurd h
-  carryOne stop q p' h g = absurd g
+  carry_one : (p q p' : Pt) → Rel p p' → Go N p q → (q' : Pt) × Rel q q' × Go M p' q' × (text M q' ≡ text N q)
+  carry_one start start start h g = absurd g
+  carry_one start (at v) start h g = let b = c.begins v g in (at b.0, b.1, b.2, c.same v b.0 b.1)
+  carry_one start stop start h g = absurd g
+  carry_one start q (at v) h g = absurd h
+  carry_one start q stop h g = absurd h
+  carry_one (at u) q start h g = absurd h
+  carry_one (at u) start (at v) h g = absurd g
+  carry_one (at u) (at w) (at v) h g = let b = c.along u v w h g in (at b.0, b.1, b.2, c.same w b.0 b.1)
+  carry_one (at u) stop (at v) h g = (stop, tt, c.ends u v h g, refl)
+  carry_one (at u) q stop h g = absurd h
+  carry_one stop q p' h g = absurd g
 
-  carryAll : {p q : Pt} {s : List ℕ} → Steps N p q s → (p' : Pt) → Rel p p' → (q' : Pt) × Rel q q' × Steps M p' q' s
-  carryAll stay p' h = (p', h, stay)
-  carryAll (step {p = p} {q = q} {s = s} g w) p' h =
-      let b = carryOne p q p' h g in
-      let d = carryAll w b.0 b.1 in
+  carry_all : {p q : Pt} {s : List ℕ} → Steps N p q s → (p' : Pt) → Rel p p' → (q' : Pt) × Rel q q' × Steps M p' q' s
+  carry_all stay p' h = (p', h, stay)
+  carry_all (step {p = p} {q = q} {s = s} g w) p' h =
+      let b = carry_one p q p' h g in
+      let d = carry_all w b.0 b.1 in
       (d.0, d.1, cast (ap (λ t. t ++ s) b.3) (step b.2 d.2))
 
   stops : {p : Pt} {s : List ℕ} (q : Pt) → Rel stop q → Steps M p q s → Steps M p stop s
@@ -138,4 +138,4 @@ module _ {N M : Net} {R : ℕ → ℕ → Type 0} (c : Carries N M R) where
   stops stop h w = w
 
   pub carry : {s : List ℕ} → Reads N s → Reads M s
-  carry w = let d = carryAll w start tt in stops d.0 d.1 d.2
+  carry w = let d = carry_all w start tt in stops d.0 d.1 d.2

@@ -12,24 +12,24 @@ use lib.ListN.{length, get_or, set, length-set, length-map}
 use lib.Seq.{get_or-set_same, get_or-set_other}
 use borrow.Author.Tests.{eqb-true, eqb-false, eq-eqb, ne_eqb, not-true}
 use Rattle.defs.specs.Lists.{concat, elem_of, head_or}
-use Rattle.defs.specs.SeqGraph.{Edge, Graph, nodeCount, vertexSequence, outgoingNodes, incomingNodes, edgesFrom, edges_into, outDegree}
-use Rattle.defs.specs.SeqGraph.{inDegree, isReferenceNode, keeps, removeVerticesById, compactVertices}
-use Rattle.defs.specs.Zip.{chainGoesOn, traceLinearChain, last_of, moveFrom, mergeLinearChain}
+use Rattle.defs.specs.SeqGraph.{Edge, Graph, node_count, vertex_sequence, outgoing_nodes, incoming_nodes, edges_from, edges_into, out_degree}
+use Rattle.defs.specs.SeqGraph.{in_degree, is_reference_node, keeps, remove_vertices_by_id, compact_vertices}
+use Rattle.defs.specs.Zip.{chain_goes_on, trace_linear_chain, last_of, move_from, merge_linear_chain}
 use Rattle.defs.specs.Strings.{HasEdge, Spells}
 use Rattle.laws.proofs.Walks.{Net, Pt, start, at, stop, Go, text, IsSource, IsSink, Steps, stay, step, single, then, cast, Reads}
-use Rattle.laws.proofs.Walks.{Tour, hit, pass, Replaces, kept, reads, byTest}
+use Rattle.laws.proofs.Walks.{Tour, hit, pass, Replaces, kept, reads, by_test}
 use Rattle.laws.proofs.ListLaws.{clash, and_split, by_order}
-use Rattle.laws.proofs.Nets.{Ranks, ranks-restrict, closed, netOf, part_of, Bounded, reads-restrict, of-reads-restrict, spells-reads}
+use Rattle.laws.proofs.Nets.{Ranks, ranks-restrict, closed, net_of, part_of, Bounded, reads-restrict, of-reads-restrict, spells-reads}
 use Rattle.laws.proofs.Nets.{reads-spells, bounded-restrict, edge-inside}
-use Rattle.laws.proofs.Edges.{Linked, keeps-not, not-keeps, keeps-other, elemOf-true, elemOf-mem, only_out}
+use Rattle.laws.proofs.Edges.{Linked, keeps-not, not-keeps, keeps-other, elem_of-true, elem_of-mem, only_out_lem}
 use Rattle.laws.proofs.Sound.{Keeps}
 use Rattle.laws.proofs.MergeCounts.{mem-head}
 use Rattle.laws.proofs.Diamonds.{of-mem-outs, only-in}
 use Rattle.laws.proofs.Changes.{Agree, Via, agree-replaces}
 
-first_out : (g : Graph) (x : ℕ) → outDegree g x ≡ 1 → HasEdge g x (head_or 0 (outgoingNodes g x))
-first_out g x d = of-mem-outs g x (head_or 0 (outgoingNodes g x)) (mem-head (outgoingNodes g x) (unfold outgoingNodes outDegree in
-    omega (arith, d, length-map (edgesFrom g x) (λ (e : Edge). e.to))))
+first_out : (g : Graph) (x : ℕ) → out_degree g x ≡ 1 → HasEdge g x (head_or 0 (outgoing_nodes g x))
+first_out g x d = of-mem-outs g x (head_or 0 (outgoing_nodes g x)) (mem-head (outgoing_nodes g x) (unfold outgoing_nodes out_degree in
+    omega (arith, d, length-map (edges_from g x) (λ (e : Edge). e.to))))
 
 -- x and then each of ys: each leads only to the next, and the next is led to only from it
 abbrev pub Chained : Graph → ℕ → List ℕ → Type 0
@@ -38,10 +38,10 @@ Chained g x (y ∷ ys) = HasEdge g x y × ((w : ℕ) → HasEdge g x w → w ≡
 
 module _ (g : Graph) (bounded : Bounded g) (r : ℕ → ℕ) (ranks : Ranks g r) where
   abbrev pub N : Net
-  N = netOf g
+  N = net_of g
 
   -- along the chain
-  pub along : (x : ℕ) (ys : List ℕ) → Chained g x ys → Steps N (at x) (at (last_of x ys)) (concat (map (vertexSequence g) ys))
+  pub along : (x : ℕ) (ys : List ℕ) → Chained g x ys → Steps N (at x) (at (last_of x ys)) (concat (map (vertex_sequence g) ys))
   unfolding last_of concat
   along x [] c = stay
   along x (y ∷ ys) (h, o, i, c) = step {p = at x} {q = at y} h (along y ys c)
@@ -87,8 +87,8 @@ module _ (g : Graph) (bounded : Bounded g) (r : ℕ → ℕ) (ranks : Ranks g r)
     abbrev pub G : Graph
     G = record {
       k = g.k;
-      verts = set g.verts s (concat (map (vertexSequence g) (s ∷ y ∷ ys)));
-      edges = map (moveFrom last (s ∷ y ∷ ys) s) g.edges;
+      verts = set g.verts s (concat (map (vertex_sequence g) (s ∷ y ∷ ys)));
+      edges = map (move_from last (s ∷ y ∷ ys) s) g.edges;
     }
 
     pub common : ℕ → Bool
@@ -104,50 +104,50 @@ module _ (g : Graph) (bounded : Bounded g) (r : ℕ → ℕ) (ranks : Ranks g r)
     s-not-last e = let a = ranks s y chained.0 in let b = rank-in s rest chained y (Memᴰ.tail (Memᴰ.head refl)) in omega (arith, ap r e)
 
     -- the edges of the joined graph
-    pub src-moved : (e : Edge) → Memᴰ e g.edges → e.from ≡ last → (moveFrom last (s ∷ rest) s e).from ≡ s
-    unfolding moveFrom
+    pub src-moved : (e : Edge) → Memᴰ e g.edges → e.from ≡ last → (move_from last (s ∷ rest) s e).from ≡ s
+    unfolding move_from
     src-moved e m p =
         rw (
           eq-eqb e.from last p,
-          byTest {X = elem_of e.to (s ∷ rest) ≡ false} (elem_of e.to (s ∷ rest)) (λ t.
-              absurd (out-last e.to (e, m, p, refl) (elemOf-true _ _ t))) (λ t. t),
+          by_test {X = elem_of e.to (s ∷ rest) ≡ false} (elem_of e.to (s ∷ rest)) (λ t.
+              absurd (out-last e.to (e, m, p, refl) (elem_of-true _ _ t))) (λ t. t),
         )
 
-    pub src-kept : (e : Edge) → (e.from ≡ last → ⊥) → (moveFrom last (s ∷ rest) s e).from ≡ e.from
-    unfolding moveFrom
+    pub src-kept : (e : Edge) → (e.from ≡ last → ⊥) → (move_from last (s ∷ rest) s e).from ≡ e.from
+    unfolding move_from
     src-kept e n = rw (ne_eqb e.from last n)
 
     pub moved : (w : ℕ) → HasEdge g last w → HasEdge G s w
-    unfolding moveFrom
-    moved w (e, m, p, q) = (moveFrom last (s ∷ rest) s e, Memᴰ.map (moveFrom last (s ∷ rest) s) m, src-moved e m p, q)
+    unfolding move_from
+    moved w (e, m, p, q) = (move_from last (s ∷ rest) s e, Memᴰ.map (move_from last (s ∷ rest) s) m, src-moved e m p, q)
 
     pub unmoved : (u w : ℕ) → HasEdge g u w → (u ≡ last → ⊥) → HasEdge G u w
-    unfolding moveFrom
-    unmoved u w (e, m, p, q) n = (moveFrom last (s ∷ rest) s e, Memᴰ.map (moveFrom last (s ∷ rest) s) m, src-kept e (λ i. n (sym p ∙ i)) ∙ p, q)
+    unfolding move_from
+    unmoved u w (e, m, p, q) n = (move_from last (s ∷ rest) s e, Memᴰ.map (move_from last (s ∷ rest) s) m, src-kept e (λ i. n (sym p ∙ i)) ∙ p, q)
 
     pub of-G : {X : Type 0} (u w : ℕ) → HasEdge G u w → (HasEdge g u w → (u ≡ last → ⊥) → X) → (u ≡ s → HasEdge g last w → X) → X
-    unfolding moveFrom
+    unfolding move_from
     of-G u w (e, m, p, q) k h =
-        let a = Memᴰ.of_map (moveFrom last (s ∷ rest) s) g.edges m in
+        let a = Memᴰ.of_map (move_from last (s ∷ rest) s) g.edges m in
         let f = a.0 in
         let d : f.to ≡ w = ap (λ (e : Edge). e.to) a.2 ∙ q in
-        let b : (moveFrom last (s ∷ rest) s f).from ≡ u = ap (λ (e : Edge). e.from) a.2 ∙ p in
-        byTest (eqb f.from last)
+        let b : (move_from last (s ∷ rest) s f).from ≡ u = ap (λ (e : Edge). e.from) a.2 ∙ p in
+        by_test (eqb f.from last)
         (λ t. let i = eqb-true f.from last t in h (sym b ∙ src-moved f a.1 i) (f, a.1, i, d))
         (λ t. let n = eqb-false f.from last t in let j = sym (src-kept f n) ∙ b in k (f, a.1, j, d) (λ i. n (j ∙ i)))
 
     -- its vertices
-    pub order-G : nodeCount G ≡ nodeCount g
-    unfolding nodeCount
+    pub order-G : node_count G ≡ node_count g
+    unfolding node_count
     order-G = length-set g.verts s _
 
-    pub seq-other : (v : ℕ) → (v ≡ s → ⊥) → vertexSequence G v ≡ vertexSequence g v
-    unfolding vertexSequence
+    pub seq-other : (v : ℕ) → (v ≡ s → ⊥) → vertex_sequence G v ≡ vertex_sequence g v
+    unfolding vertex_sequence
     seq-other v n = get_or-set_other g.verts s v _ [] n
 
-    pub seq-s : vertexSequence G s ≡ vertexSequence g s ++ concat (map (vertexSequence g) rest)
-    unfolding vertexSequence nodeCount concat
-    seq-s = get_or-set_same g.verts s _ [] (unfold nodeCount in (edge-inside g bounded s y chained.0).0)
+    pub seq-s : vertex_sequence G s ≡ vertex_sequence g s ++ concat (map (vertex_sequence g) rest)
+    unfolding vertex_sequence node_count concat
+    seq-s = get_or-set_same g.verts s _ [] (unfold node_count in (edge-inside g bounded s y chained.0).0)
 
     pub common-not : (v : ℕ) → common v ≡ true → Memᴰ v (s ∷ rest) → ⊥
     unfolding common
@@ -190,11 +190,11 @@ module _ (g : Graph) (bounded : Bounded g) (r : ℕ → ℕ) (ranks : Ranks g r)
           ((rw (order-G, e) (edge-inside g bounded s y chained.0).0, h.1), (rw order-G (edge-inside g bounded last v l).1, h.2)));
       ed = λ u v a b h. of-G u v h.0 (λ l _. l) (λ e _. absurd (common-not u a (Memᴰ.head e)));
       lab = λ v t h. sym (seq-other v (λ e. common-not v t (Memᴰ.head e)));
-      source = λ v t h x k. byTest (common x)
+      source = λ v t h x k. by_test (common x)
           (λ c. h.1 x (unmoved x v k (last-not x c), common-keep x c, common-keep v t))
           (λ c. ⊎_elim (λ (e : x ≡ last). h.1 s (moved v (rw e at k), s-keep, common-keep v t)) (λ m. common-not v t (Memᴰ.tail m))
           (out-in s rest chained x v (not-common x c) k));
-      sink = λ v t h x k. byTest (common x)
+      sink = λ v t h x k. by_test (common x)
           (λ c. h.1 x (unmoved v x k (last-not v t), common-keep v t, common-keep x c))
           (λ c. ⊎_elim
           (λ (e : x ≡ s). h.1 s (rw e at (unmoved v x k (last-not v t)), common-keep v t, s-keep))
@@ -207,7 +207,7 @@ module _ (g : Graph) (bounded : Bounded g) (r : ℕ → ℕ) (ranks : Ranks g r)
     Leaves q t = (Go N (at last) q) × (kept common q ≡ true) × (t ≡ text N q)
 
     pub follow : (x : ℕ) (zs : List ℕ) → Chained g x zs → ((w : ℕ) → Memᴰ w zs → Memᴰ w (s ∷ rest)) → last_of x zs ≡ last
-        → {q : Pt} {t : List ℕ} → Tour N common (at x) q t → (t₁ : List ℕ) × (t ≡ concat (map (vertexSequence g) zs) ++ t₁) × Leaves q t₁
+        → {q : Pt} {t : List ℕ} → Tour N common (at x) q t → (t₁ : List ℕ) × (t ≡ concat (map (vertex_sequence g) zs) ++ t₁) × Leaves q t₁
     unfolding last_of concat Leaves
     follow x [] c sub e (hit {q = q} h k) = (text N q, refl, (rw e at h, k, refl))
     follow x [] c sub e (pass {q = start} h k w) = absurd h
@@ -221,8 +221,8 @@ module _ (g : Graph) (bounded : Bounded g) (r : ℕ → ℕ) (ranks : Ranks g r)
         let j = o v h in
         let d = follow z zs c (λ w m. sub w (Memᴰ.tail m)) e (rw j at w) in (
           d.0,
-          ap (λ v. vertexSequence g v ++ t) j ∙ (ap (λ l. vertexSequence g z ++ l) d.1
-              ∙ sym (append_assoc (vertexSequence g z) (concat (map (vertexSequence g) zs)) d.0)),
+          ap (λ v. vertex_sequence g v ++ t) j ∙ (ap (λ l. vertex_sequence g z ++ l) d.1
+              ∙ sym (append_assoc (vertex_sequence g z) (concat (map (vertex_sequence g) zs)) d.0)),
           d.2,
         )
     follow x (z ∷ zs) (a, o, i, c) sub e (pass {q = stop} h k w) = absurd (true≢false k)
@@ -233,10 +233,10 @@ module _ (g : Graph) (bounded : Bounded g) (r : ℕ → ℕ) (ranks : Ranks g r)
     enter (at u) x t h m f = ⊎_elim f (λ n. absurd (common-not u t (in-in s rest chained u x n h))) (Memᴰ.cases_cons m)
     enter stop x t h m f = absurd h
 
-    pub s-old : s < nodeCount g
+    pub s-old : s < node_count g
     s-old = (edge-inside g bounded s y chained.0).0
 
-    pub last-old : last < nodeCount g
+    pub last-old : last < node_count g
     last-old = ⊎_elim (λ (e : last ≡ s). rw e s-old) (λ n. let a = pred_in s rest chained last n in (edge-inside g bounded a.0 last a.1).1)
         (Memᴰ.cases_cons (last-in s rest))
 
@@ -270,7 +270,7 @@ module _ (g : Graph) (bounded : Bounded g) (r : ℕ → ℕ) (ranks : Ranks g r)
     leave (at w) k h = cast (seq-other w (λ e. common-not w k (Memᴰ.head e))) (single {p = at s} {q = at w} (U-last w h))
     leave stop k h = single {p = at s} {q = stop} ((rw order-G s-old, s-keep), λ w l. out-s w l (h.1 w))
 
-    pub over-chain : (p q : Pt) (t : List ℕ) → kept common p ≡ true → Go N p (at s) → Tour N common (at s) q t → Steps U p q (vertexSequence g s ++ t)
+    pub over-chain : (p q : Pt) (t : List ℕ) → kept common p ≡ true → Go N p (at s) → Tour N common (at s) q t → Steps U p q (vertex_sequence g s ++ t)
     unfolding Leaves U
     over-chain p q t k h w =
         let d = follow s rest chained (λ w m. Memᴰ.tail m) refl w in
@@ -289,11 +289,11 @@ module _ (g : Graph) (bounded : Bounded g) (r : ℕ → ℕ) (ranks : Ranks g r)
         kept_of (at u) h = h.2
         kept_of stop h = absurd h
 
-    pub through : (p q : Pt) → Go N p (at s) → Go N (at last) q → Steps N p q (vertexSequence G s ++ text N q)
+    pub through : (p q : Pt) → Go N p (at s) → Go N (at last) q → Steps N p q (vertex_sequence G s ++ text N q)
     through p q h l =
         cast (rw (seq-s, append_assoc)) (step {q = at s} h (then (along s rest chained) (single {p = at last} {q = q} l)))
 
-    pub over-joined : (p q : Pt) (t : List ℕ) → kept common p ≡ true → Go U p (at s) → Tour U common (at s) q t → Steps N p q (vertexSequence G s ++ t)
+    pub over-joined : (p q : Pt) (t : List ℕ) → kept common p ≡ true → Go U p (at s) → Tour U common (at s) q t → Steps N p q (vertex_sequence G s ++ t)
     unfolding U
     over-joined p q t k h (hit {q = start} j n) = absurd j
     over-joined p q t k h (hit {q = at v} j n) = out-s v j λ l. rw (seq-other v (λ e. common-not v n (Memᴰ.head e))) (through p (at v) (of-s p k h) l)
@@ -306,45 +306,45 @@ module _ (g : Graph) (bounded : Bounded g) (r : ℕ → ℕ) (ranks : Ranks g r)
     unfolding U
     via-back p q t x k h n w = is-s p x h n λ e. rw e (over-joined p q t k (rw e at h) (rw e at w))
 
-    pub boundedG : Bounded G
-    boundedG e m = of-G e.from e.to (e, m, refl, refl)
+    pub bounded_g : Bounded G
+    bounded_g e m = of-G e.from e.to (e, m, refl, refl)
         (λ l _. let b = edge-inside g bounded e.from e.to l in (rw order-G b.0, rw order-G b.1))
         (λ i l. (rw (order-G, i) s-old, rw order-G (edge-inside g bounded last e.to l).1))
 
-    pub bounded-zip : Bounded (mergeLinearChain g s rest)
-    unfolding mergeLinearChain removeVerticesById
-    bounded-zip = bounded-restrict (keeps rest) G boundedG
+    pub bounded-zip : Bounded (merge_linear_chain g s rest)
+    unfolding merge_linear_chain remove_vertices_by_id
+    bounded-zip = bounded-restrict (keeps rest) G bounded_g
 
-    pub zip-spells : {t : List ℕ} → Spells g t ↔ Spells (mergeLinearChain g s rest) t
-    unfolding mergeLinearChain removeVerticesById U
+    pub zip-spells : {t : List ℕ} → Spells g t ↔ Spells (merge_linear_chain g s rest) t
+    unfolding merge_linear_chain remove_vertices_by_id U
     zip-spells = (
-      λ w. reads-spells (mergeLinearChain g s rest) bounded-zip
-          (reads-restrict (keeps rest) G boundedG (reads N U common (agree-replaces N U common forth via-forth) (spells-reads g w))),
+      λ w. reads-spells (merge_linear_chain g s rest) bounded-zip
+          (reads-restrict (keeps rest) G bounded_g (reads N U common (agree-replaces N U common forth via-forth) (spells-reads g w))),
       λ w. reads-spells g bounded (reads U N common (agree-replaces U N common back via-back)
-          (of-reads-restrict (keeps rest) G boundedG (spells-reads (mergeLinearChain g s rest) w))),
+          (of-reads-restrict (keeps rest) G bounded_g (spells-reads (merge_linear_chain g s rest) w))),
     )
 
-    pub ranksG : Ranks G r
-    ranksG u v h = of-G u v h (λ l _. ranks u v l) (λ e l. let a = rank-in s rest chained last (last-in s rest) in omega (arith, ap r e, ranks last v l))
+    pub ranks_g : Ranks G r
+    ranks_g u v h = of-G u v h (λ l _. ranks u v l) (λ e l. let a = rank-in s rest chained last (last-in s rest) in omega (arith, ap r e, ranks last v l))
 
-    pub zip-keeps : Keeps g (mergeLinearChain g s rest)
-    unfolding mergeLinearChain removeVerticesById
+    pub zip-keeps : Keeps g (merge_linear_chain g s rest)
+    unfolding merge_linear_chain remove_vertices_by_id
     zip-keeps = record {
-      sound = record { bounded = bounded-zip; rank = closed (keeps rest) G boundedG r; ranks = ranks-restrict (keeps rest) G boundedG r ranksG };
+      sound = record { bounded = bounded-zip; rank = closed (keeps rest) G bounded_g r; ranks = ranks-restrict (keeps rest) G bounded_g r ranks_g };
       spells = λ t. zip-spells;
     }
 
 -- the chain that is traced is one
-pub chained-after : (g : Graph) (fuel x : ℕ) → Chained g x (traceLinearChain fuel g x)
-unfolding traceLinearChain chainGoesOn
+pub chained-after : (g : Graph) (fuel x : ℕ) → Chained g x (trace_linear_chain fuel g x)
+unfolding trace_linear_chain chain_goes_on
 chained-after g zero x = tt
 chained-after g (suc fuel) x =
-    let y = head_or 0 (outgoingNodes g x) in
-    byTest (chainGoesOn g x y)
-    (λ t. rw (t, traceLinearChain)
-    (let a = and_split (eqb (outDegree g x) 1) _ t in
-    let b = and_split (eqb (inDegree g y) 1) _ a.1 in
-    let d : outDegree g x ≡ 1 = eqb-true _ _ a.0 in
+    let y = head_or 0 (outgoing_nodes g x) in
+    by_test (chain_goes_on g x y)
+    (λ t. rw (t, trace_linear_chain)
+    (let a = and_split (eqb (out_degree g x) 1) _ t in
+    let b = and_split (eqb (in_degree g y) 1) _ a.1 in
+    let d : out_degree g x ≡ 1 = eqb-true _ _ a.0 in
     let h = first_out g x d in
-    (h, λ w l. only_out g x w y d l h, λ u l. only-in g u x y (eqb-true _ _ b.0) l h, chained-after g fuel y)))
-    (λ t. rw (t, traceLinearChain) tt)
+    (h, λ w l. only_out_lem g x w y d l h, λ u l. only-in g u x y (eqb-true _ _ b.0) l h, chained-after g fuel y)))
+    (λ t. rw (t, trace_linear_chain) tt)

@@ -10,13 +10,13 @@ use Rattle.defs.specs.Record.{le32}
 use Rattle.tabs.proofs.SumTabs.{sum-none, sum_more, sum_below, sum-equal, fields-none, fields-more, fields-length}
 use Rattle.tabs.proofs.Writing.{put-behind, Growing, growing-start, growing-len, growing-more, growing-end}
 use Rattle.haplotypes.proofs.Listing.{le32-length}
-use Rattle.list_haplotypes.specs.Writing.{lengthsBefore, entry_of, EntriesFit}
+use Rattle.list_haplotypes.specs.Writing.{lengths_before, entry_of, EntriesFit}
 
 entry_length : (c : ℕ) (lens : List ℕ) (i : ℕ) → length (entry_of c lens i) ≡ 8
 entry_length c lens i = omega (
   arith,
-  length-append (le32 (4 + 8 * c + lengthsBefore lens i)) (le32 (get_or lens i 0)),
-  le32-length (4 + 8 * c + lengthsBefore lens i),
+  length-append (le32 (4 + 8 * c + lengths_before lens i)) (le32 (get_or lens i 0)),
+  le32-length (4 + 8 * c + lengths_before lens i),
   le32-length (get_or lens i 0),
 )
 
@@ -27,7 +27,7 @@ entries-long c lens i = fields-length (entry_of c lens) (λ (j : ℕ). 8) i (λ 
 
 pub record Entering (c : ℕ) (lens out₀ out : List ℕ) (at i : ℕ) : Type 0 where
   pub grown : Growing c (λ (j : ℕ). concat (tab j (entry_of c lens))) out₀ 4 out i
-  pub at-is : at ≡ 4 + 8 * c + lengthsBefore lens i
+  pub at-is : at ≡ 4 + 8 * c + lengths_before lens i
 
 module _ {c : ℕ} {lens out₀ : List ℕ} where
   pub entering-start : Entering c lens out₀ out₀ (4 + 8 * c) 0
@@ -41,9 +41,9 @@ module _ {c : ℕ} {lens out₀ : List ℕ} where
   }
     where
       both : l' ≡ sets out (4 + 8 * i) (entry_of c lens i)
-      both = put-behind out (le32 (4 + 8 * c + lengthsBefore lens i)) (le32 (get_or lens i 0)) (4 + 8 * i) (8 + 8 * i)
+      both = put-behind out (le32 (4 + 8 * c + lengths_before lens i)) (le32 (get_or lens i 0)) (4 + 8 * i) (8 + 8 * i)
           (p ∙ ap (λ (n : ℕ). sets out (4 + 8 * i) (le32 n)) E.at-is) q
-          (omega (arith, le32-length (4 + 8 * c + lengthsBefore lens i)))
+          (omega (arith, le32-length (4 + 8 * c + lengths_before lens i)))
 
   pub entering-end : {out : List ℕ} {at i : ℕ} → Entering c lens out₀ out at i → c ≤ i → out ≡ sets out₀ 4 (concat (tab c (entry_of c lens)))
   entering-end E h = growing-end E.grown h

@@ -6,10 +6,10 @@ use native.Mathlib.Omega.{arith}
 use lib.ListN.{length, drop}
 use lib.Seq.{sets, sets-eq}
 use Rattle.defs.specs.SeqGraph.{Graph}
-use Rattle.defs.specs.Simplify.{sequenceBytes}
-use Rattle.defs.specs.Haplotypes.{pathCount, haplotypes, listing}
+use Rattle.defs.specs.Simplify.{sequence_bytes}
+use Rattle.defs.specs.Haplotypes.{path_count, haplotypes, listing}
 use Rattle.defs.specs.Forms.{sgr1}
-use Rattle.defs.specs.Refusals.{sequenceOnly, recordRefusal}
+use Rattle.defs.specs.Refusals.{sequence_only, record_refusal}
 use Rattle.haplotypes.proofs.PathCounts.{counts-exact}
 use Rattle.haplotypes.proofs.Sizes.{listing-most}
 use Rattle.sound.proofs.Accepted.{accepted-layout, accepted-good, accepted-no-cycle, sequence-within, order-read, edges-read}
@@ -18,48 +18,48 @@ use Rattle.index.specs.Index.{Indexed}
 use Rattle.cycle.specs.Peel.{NoCycle, TopologicalOrder, Peelable}
 use Rattle.memory.specs.Memory.{graph_of}
 use Rattle.memory.specs.declared.Held.{Held}
-use Rattle.accept.specs.Accept.{RoomToRead, ReadAs, readNumber}
+use Rattle.accept.specs.Accept.{RoomToRead, ReadAs, read_number}
 use Rattle.accept.specs.declared.Read.{Read}
 use Rattle.accept.specs.declared.Read.TheVariants as read
 use Rattle.form.specs.declared.Form as Code
 use Rattle.form.specs.declared.Form.TheVariants.{Sgr1}
-use Rattle.form.specs.Coded.{formIs}
+use Rattle.form.specs.Coded.{form_is}
 use Rattle.calls.specs.Sending.{Responds}
 use Rattle.calls.specs.declared.Answer.{Answer}
 use Rattle.path_counts.specs.Counts.{CountsCapped, PathsCountable, CountsKnown, PathsNumbered}
 use Rattle.haplotype_order.specs.Reading.{Legible}
 use Rattle.haplotype_order.specs.Order.{IsPathNumber, HaplotypeOrder}
 use Rattle.list_haplotypes.specs.Writing.{HaplotypesOrdered, HaplotypesMeasured, EntriesFit, ListingFits}
-use Rattle.list_haplotypes.specs.Listed.{PathRoom, CountedGraph, Listable, ListingSent, GraphListed, listingResponse}
+use Rattle.list_haplotypes.specs.Listed.{PathRoom, CountedGraph, Listable, ListingSent, GraphListed, listing_response}
 use Rattle.list_haplotypes.proofs.ResponseLaws.{refusal-responds, graph-responds}
 use Rattle.list_haplotypes.proofs.StringsLaws.{lengths-total, listing-long}
 
 -- ---- a record that was read
 
 module _ {bs : List ℕ} {x : Read} {es vs : List ℕ} (A : ReadAs bs x es vs) where
-  read-accepted : {h : Held} → x ≡ read.Graph h → recordRefusal sequenceOnly bs ≡ 0
-  unfolding readNumber
-  read-accepted ok = sym A.number ∙ ap readNumber ok
+  read-accepted : {h : Held} → x ≡ read.Graph h → record_refusal sequence_only bs ≡ 0
+  unfolding read_number
+  read-accepted ok = sym A.number ∙ ap read_number ok
 
-  read_number : {n : ℕ} → x ≡ read.Refused n → recordRefusal sequenceOnly bs ≡ n
-  unfolding readNumber
-  read_number e = sym A.number ∙ ap readNumber e
+  read_number_lem : {n : ℕ} → x ≡ read.Refused n → record_refusal sequence_only bs ≡ n
+  unfolding read_number
+  read_number_lem e = sym A.number ∙ ap read_number e
 
   pub read-listable : {heads nexts nodes mp : List ℕ} → RoomToRead bs es vs heads nexts nodes mp → {h : Held} → x ≡ read.Graph h
       → Listable h es vs bs heads nexts nodes mp
   read-listable Z {h} ok =
       let z = read-accepted ok in
       let L = A.loaded h ok in
-      let R = Z.room (accepted-layout sequenceOnly bs z) in
+      let R = Z.room (accepted-layout sequence_only bs z) in
       let most = sequence-within bs z in
       record {
         sequenced = record {
-          sound = rw L.is (accepted-good sequenceOnly bs z).0;
+          sound = rw L.is (accepted-good sequence_only bs z).0;
           vs-room = omega (arith, L.n, R.vs-room);
           within = L.within;
-          bytes = omega (arith, ap (λ (g : Graph). sequenceBytes g.verts) L.is, most.few);
+          bytes = omega (arith, ap (λ (g : Graph). sequence_bytes g.verts) L.is, most.few);
         };
-        no-cycle = rw L.is (accepted-no-cycle sequenceOnly bs z);
+        no-cycle = rw L.is (accepted-no-cycle sequence_only bs z);
         indexable = record {
           room = omega (arith, L.m, R.es-room);
           heads-room = omega (arith, L.n, R.heads-room);
@@ -73,17 +73,17 @@ module _ {bs : List ℕ} {x : Read} {es vs : List ℕ} (A : ReadAs bs x es vs) w
       }
 
   module _ {out : List ℕ} where
-    pub listing-refused : {n : ℕ} → x ≡ read.Refused n → Responds (listingResponse bs (length out)) out record { number = n; length = 0 } out
-    listing-refused {n} e = refusal-responds bs (read_number e) (A.refused n e) refl refl
+    pub listing-refused : {n : ℕ} → x ≡ read.Refused n → Responds (listing_response bs (length out)) out record { number = n; length = 0 } out
+    listing-refused {n} e = refusal-responds bs (read_number_lem e) (A.refused n e) refl refl
 
     pub listing-answered : {h : Held} → x ≡ read.Graph h → {s : Answer} {out' : List ℕ} → GraphListed (graph_of h es vs bs) out s out'
-        → Responds (listingResponse bs (length out)) out s out'
+        → Responds (listing_response bs (length out)) out s out'
     listing-answered {h} ok G = graph-responds bs (read-accepted ok) (A.loaded h ok).is G
 
 -- a record that does not begin SGR2
-pub first-form : (form : Code.Form) → form ≡ Sgr1 → formIs form ≡ sgr1
-unfolding formIs
-first-form form e = ap formIs e
+pub first-form : (form : Code.Form) → form ≡ Sgr1 → form_is form ≡ sgr1
+unfolding form_is
+first-form form e = ap form_is e
 
 -- ---- the paths counted
 
@@ -118,12 +118,12 @@ module _ {h : Held} {es vs p heads nexts nodes mp : List ℕ} (L : Listable h es
     counted = C;
   }
 
-  pub listable-counted : {heads' nexts' counts : List ℕ} {c : ℕ} → CountsKnown h es vs p heads' nexts' counts → c ≡ min 1025 (pathCount (graph_of h es vs p))
+  pub listable-counted : {heads' nexts' counts : List ℕ} {c : ℕ} → CountsKnown h es vs p heads' nexts' counts → c ≡ min 1025 (path_count (graph_of h es vs p))
       → c ≤ 1024 → CountedGraph h es vs p heads' nexts' counts c
   listable-counted K e l = record { sequenced = L.sequenced; known = K; all = omega (arith, e); few = l }
 
 -- 12, or what is sent of a graph with at most 1,024 paths
-module _ {g : Graph} {c : ℕ} (e : c ≡ min 1025 (pathCount g)) {out : List ℕ} where
+module _ {g : Graph} {c : ℕ} (e : c ≡ min 1025 (path_count g)) {out : List ℕ} where
   pub many-listed : 1024 < c → GraphListed g out record { number = 12; length = 0 } out
   many-listed l = record { many = λ _. (refl, refl); sent = λ few. absurd (omega arith) }
 
@@ -133,7 +133,7 @@ module _ {g : Graph} {c : ℕ} (e : c ≡ min 1025 (pathCount g)) {out : List �
 -- ---- the paths numbered and in order
 
 module _ {h : Held} {es vs p heads nexts counts : List ℕ} {c : ℕ} (C : CountedGraph h es vs p heads nexts counts c) where
-  paths-few : pathCount (graph_of h es vs p) ≤ 1024
+  paths-few : path_count (graph_of h es vs p) ≤ 1024
   paths-few = omega (arith, C.all, C.few)
 
   pub counted-legible : {starts starts' order scratch : List ℕ} → PathRoom starts order scratch → length starts' ≡ length starts
@@ -190,7 +190,7 @@ module _ {h : Held} {es vs p heads nexts counts starts order : List ℕ} {c : �
     small = omega (arith, listing-long O.ordered, lengths-total O.ordered lens F.each, listing-small);
   }
 
-  pub strings-fit : {lens out : List ℕ} → ListingFits (graph_of h es vs p) c lens out → 4 + 8 * c + sequenceBytes (haplotypes (graph_of h es vs p)) ≤ length out
+  pub strings-fit : {lens out : List ℕ} → ListingFits (graph_of h es vs p) c lens out → 4 + 8 * c + sequence_bytes (haplotypes (graph_of h es vs p)) ≤ length out
   strings-fit F = omega (arith, listing-long O.ordered, F.out-room)
 
   module _ {lens : List ℕ} {bytes : ℕ} (M : HaplotypesMeasured (graph_of h es vs p) c lens bytes) where

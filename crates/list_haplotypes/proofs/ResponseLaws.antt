@@ -6,11 +6,11 @@ use native.Mathlib.Omega.{arith}
 use lib.ListN.{length}
 use borrow.Author.Tests.{lt-ltb, le-ltb}
 use Rattle.defs.specs.SeqGraph.{Graph}
-use Rattle.defs.specs.Haplotypes.{pathCount, haplotypes, listing}
+use Rattle.defs.specs.Haplotypes.{path_count, haplotypes, listing}
 use Rattle.defs.specs.Record.{decode}
-use Rattle.defs.specs.Refusals.{Cause, sequenceOnly, layoutCauses, recordCauses, recordRefusal}
-use Rattle.defs.specs.Calls.{Response, refused, accepted, number_of, length_of, written_of, pathsCause, haplotypeListing}
-use Rattle.defs.specs.Calls.{listHaplotypesCauses, listHaplotypesResponse}
+use Rattle.defs.specs.Refusals.{Cause, sequence_only, layout_causes, record_causes, record_refusal}
+use Rattle.defs.specs.Calls.{Response, refused, accepted, number_of, length_of, written_of, paths_cause, haplotype_listing}
+use Rattle.defs.specs.Calls.{list_haplotypes_causes, list_haplotypes_response}
 use Rattle.laws.proofs.ListLaws.{by_order}
 use Rattle.responses.specs.Responses.{fits}
 use Rattle.responses.proofs.ResponseLaws.{fits-short, fits-enough, respond-refused, respond-fits}
@@ -18,27 +18,27 @@ use Rattle.responses.proofs.CauseLaws.{behind-numbered, behind-refused, behind-p
 use Rattle.responses.proofs.CallerLaws.{respond-above, respond-within}
 use Rattle.calls.specs.Sending.{Responds}
 use Rattle.calls.specs.declared.Answer.{Answer}
-use Rattle.list_haplotypes.specs.Listed.{ListingSent, GraphListed, listingResponse}
+use Rattle.list_haplotypes.specs.Listed.{ListingSent, GraphListed, listing_response}
 
 module _ (bs : List ℕ) (room : ℕ) where
   -- 1 to 7, 12
   abbrev causes : List Cause
-  causes = recordCauses sequenceOnly bs ++ (pathsCause bs ∷ [])
+  causes = record_causes sequence_only bs ++ (paths_cause bs ∷ [])
 
-  record-refused : {n : ℕ} → recordRefusal sequenceOnly bs ≡ n → (n ≡ 0 → ⊥) → listingResponse bs room ≡ refused n
-  unfolding listingResponse
-  record-refused {n} e o = respond-refused causes room (haplotypeListing bs) n (behind-refused sequenceOnly bs 12 _ e o) o
+  record-refused : {n : ℕ} → record_refusal sequence_only bs ≡ n → (n ≡ 0 → ⊥) → listing_response bs room ≡ refused n
+  unfolding listing_response
+  record-refused {n} e o = respond-refused causes room (haplotype_listing bs) n (behind-refused sequence_only bs 12 _ e o) o
 
-  module _ (z : recordRefusal sequenceOnly bs ≡ 0) where
-    many-refused : 1024 < pathCount (decode bs) → listingResponse bs room ≡ refused 12
-    unfolding listingResponse
-    many-refused l = respond-refused causes room (haplotypeListing bs) 12 (behind-present sequenceOnly bs 12 _ z (lt-ltb 1024 _ l)) (λ q. omega arith)
+  module _ (z : record_refusal sequence_only bs ≡ 0) where
+    many-refused : 1024 < path_count (decode bs) → listing_response bs room ≡ refused 12
+    unfolding listing_response
+    many-refused l = respond-refused causes room (haplotype_listing bs) 12 (behind-present sequence_only bs 12 _ z (lt-ltb 1024 _ l)) (λ q. omega arith)
 
-    few-fit : pathCount (decode bs) ≤ 1024 → listingResponse bs room ≡ fits room (haplotypeListing bs)
-    unfolding listingResponse
+    few-fit : path_count (decode bs) ≤ 1024 → listing_response bs room ≡ fits room (haplotype_listing bs)
+    unfolding listing_response
     few-fit l =
-        respond-fits causes room (haplotypeListing bs) (behind-numbered sequenceOnly bs 12 _ (omega arith))
-        (behind-absent sequenceOnly bs 12 _ z (le-ltb 1024 _ l))
+        respond-fits causes room (haplotype_listing bs) (behind-numbered sequence_only bs 12 _ (omega arith))
+        (behind-absent sequence_only bs 12 _ z (le-ltb 1024 _ l))
 
 -- ---- what is sent responds
 
@@ -66,27 +66,27 @@ module _ {x : Response} {out : List ℕ} {s : Answer} {out' : List ℕ} where
       (λ l. sends-refusal (e ∙ fits-short (length out) (listing (haplotypes g)) l) (L.short l).0 (L.short l).1)
 
 module _ (bs : List ℕ) {out : List ℕ} {s : Answer} {out' : List ℕ} where
-  pub refusal-responds : {n : ℕ} → recordRefusal sequenceOnly bs ≡ n → (n ≡ 0 → ⊥) → s ≡ record { number = n; length = 0 } → out' ≡ out
-      → Responds (listingResponse bs (length out)) out s out'
+  pub refusal-responds : {n : ℕ} → record_refusal sequence_only bs ≡ n → (n ≡ 0 → ⊥) → s ≡ record { number = n; length = 0 } → out' ≡ out
+      → Responds (listing_response bs (length out)) out s out'
   refusal-responds e o = sends-refusal (record-refused bs (length out) e o)
 
   -- the graph of an accepted record
-  graph-listed : recordRefusal sequenceOnly bs ≡ 0 → GraphListed (decode bs) out s out' → Responds (listingResponse bs (length out)) out s out'
-  graph-listed z G = by_order (pathCount (decode bs)) 1024
+  graph-listed : record_refusal sequence_only bs ≡ 0 → GraphListed (decode bs) out s out' → Responds (listing_response bs (length out)) out s out'
+  graph-listed z G = by_order (path_count (decode bs)) 1024
       (λ l. listing-sent {g = decode bs} (few-fit bs (length out) z l) (G.sent l))
       (λ l. sends-refusal (many-refused bs (length out) z l) (G.many l).0 (G.many l).1)
 
-  pub graph-responds : {g : Graph} → recordRefusal sequenceOnly bs ≡ 0 → g ≡ decode bs → GraphListed g out s out'
-      → Responds (listingResponse bs (length out)) out s out'
+  pub graph-responds : {g : Graph} → record_refusal sequence_only bs ≡ 0 → g ≡ decode bs → GraphListed g out s out'
+      → Responds (listing_response bs (length out)) out s out'
   graph-responds z e G = graph-listed z (subst (λ (h : Graph). GraphListed h out s out') e G)
 
 -- ---- a caller
 
 module _ (bs : List ℕ) (room caller : ℕ) where
-  pub caller-above : 15 < caller → listHaplotypesResponse bs room caller ≡ refused 18
-  unfolding listHaplotypesResponse listHaplotypesCauses
+  pub caller-above : 15 < caller → list_haplotypes_response bs room caller ≡ refused 18
+  unfolding list_haplotypes_response list_haplotypes_causes
   caller-above l = respond-above caller _ _ l
 
-  pub caller-within : caller ≤ 15 → listHaplotypesResponse bs room caller ≡ listingResponse bs room
-  unfolding listHaplotypesResponse listHaplotypesCauses listingResponse recordCauses layoutCauses
+  pub caller-within : caller ≤ 15 → list_haplotypes_response bs room caller ≡ listing_response bs room
+  unfolding list_haplotypes_response list_haplotypes_causes listing_response record_causes layout_causes
   caller-within l = respond-within caller _ _ l

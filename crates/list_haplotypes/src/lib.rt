@@ -6,16 +6,16 @@ ghost use Prim.Native.Nat.{◌+◌, ◌*◌, ◌<◌, ◌≤◌};
 ghost use lib.ListN.{length};
 ghost use lib.Seq.{sets};
 ghost use Rattle.defs.specs.Lists.{tab, concat};
-ghost use Rattle.defs.specs.Simplify.{sequenceBytes};
-ghost use Rattle.defs.specs.Forms.{formOf};
-ghost use Rattle.defs.specs.Record.{verticesOf, edgesOf, le32};
+ghost use Rattle.defs.specs.Simplify.{sequence_bytes};
+ghost use Rattle.defs.specs.Forms.{form_of};
+ghost use Rattle.defs.specs.Record.{vertices_of, edges_of, le32};
 ghost use Rattle.defs.specs.Haplotypes.{haplotypes, listing};
-ghost use Rattle.form.specs.Coded.{formIs};
+ghost use Rattle.form.specs.Coded.{form_is};
 ghost use Rattle.memory.specs.Memory.{graph_of};
 ghost use Rattle.arrays.specs.Sized.{FewToRead};
 ghost use Rattle.calls.specs.Sending.{Responds};
 ghost use Rattle.list_haplotypes.specs.Writing.{HaplotypesOrdered, HaplotypesMeasured, entry_of, EntriesFit, ListingFits};
-ghost use Rattle.list_haplotypes.specs.Listed.{PathRoom, CountedGraph, Listable, ListingSent, GraphListed, listingResponse};
+ghost use Rattle.list_haplotypes.specs.Listed.{PathRoom, CountedGraph, Listable, ListingSent, GraphListed, listing_response};
 ghost use Rattle.list_haplotypes.specs.ListsHaplotypes.{ListsHaplotypes};
 
 use accept::Read;
@@ -90,7 +90,7 @@ fn put_strings(
     out: &mut [u8],
     at: usize,
 )
-    requires { (at + sequenceBytes (haplotypes (graph_of held es.now vs.now p.now)) ≤ length out.old)
+    requires { (at + sequence_bytes (haplotypes (graph_of held es.now vs.now p.now)) ≤ length out.old)
         × HaplotypesOrdered held es.now vs.now p.now heads.now nexts.now counts.now starts.now order.now c }
     ensures { out.new ≡ sets out.old at (concat (haplotypes (graph_of held es.now vs.now p.now))) }
 {
@@ -252,7 +252,7 @@ fn vast_with(
     order: &mut [u32; MOST_PATHS],
     scratch: &mut [u32; MOST_PATHS],
 ) -> Answer
-    ensures { Responds (listingResponse rec.now (length out.old)) out.old result out.new }
+    ensures { Responds (listing_response rec.now (length out.old)) out.old result out.new }
 {
     let held = match accept::read_sequence_graph(rec, es, vs, heads, nexts, nodes, map) {
         Read::Graph(held) => held,
@@ -267,7 +267,7 @@ fn vast_with(
 }
 
 fn vast(rec: &[u8], out: &mut [u8]) -> Answer
-    ensures { Responds (listingResponse rec.now (length out.old)) out.old result out.new }
+    ensures { Responds (listing_response rec.now (length out.old)) out.old result out.new }
 {
     let mut es = [0u32; 4 * MOST_EDGES];
     let mut vs = [0u32; 2 * MOST_VERTICES];
@@ -307,7 +307,7 @@ fn large_with(
     scratch: &mut [u32; MOST_PATHS],
 ) -> Answer
     requires { FewToRead 2048 4096 rec.now }
-    ensures { Responds (listingResponse rec.now (length out.old)) out.old result out.new }
+    ensures { Responds (listing_response rec.now (length out.old)) out.old result out.new }
 {
     let held = match accept::read_sequence_graph(rec, es, vs, heads, nexts, nodes, map) {
         Read::Graph(held) => held,
@@ -323,7 +323,7 @@ fn large_with(
 
 fn large(rec: &[u8], out: &mut [u8]) -> Answer
     requires { FewToRead 2048 4096 rec.now }
-    ensures { Responds (listingResponse rec.now (length out.old)) out.old result out.new }
+    ensures { Responds (listing_response rec.now (length out.old)) out.old result out.new }
 {
     let mut es = [0u32; 4 * MANY_EDGES];
     let mut vs = [0u32; 2 * MANY_VERTICES];
@@ -363,7 +363,7 @@ fn small_with(
     scratch: &mut [u32; MOST_PATHS],
 ) -> Answer
     requires { FewToRead 512 512 rec.now }
-    ensures { Responds (listingResponse rec.now (length out.old)) out.old result out.new }
+    ensures { Responds (listing_response rec.now (length out.old)) out.old result out.new }
 {
     let held = match accept::read_sequence_graph(rec, es, vs, heads, nexts, nodes, map) {
         Read::Graph(held) => held,
@@ -379,7 +379,7 @@ fn small_with(
 
 fn small(rec: &[u8], out: &mut [u8]) -> Answer
     requires { FewToRead 512 512 rec.now }
-    ensures { Responds (listingResponse rec.now (length out.old)) out.old result out.new }
+    ensures { Responds (listing_response rec.now (length out.old)) out.old result out.new }
 {
     let mut es = [0u32; 4 * FEW_EDGES];
     let mut vs = [0u32; 2 * FEW_VERTICES];
@@ -408,8 +408,8 @@ fn small(rec: &[u8], out: &mut [u8]) -> Answer
 // A record past the small class, with v vertices and e edges by its counts. One that does not begin SGR2 is refused, if it is, by the limits of SGR1, for
 // which the large arrays are enough.
 fn past_small(rec: &[u8], out: &mut [u8], form: Form, v: usize, e: usize) -> Answer
-    requires { (formIs form ≡ formOf rec.now) × ((v ≡ verticesOf rec.now) × (e ≡ edgesOf rec.now)) }
-    ensures { Responds (listingResponse rec.now (length out.old)) out.old result out.new }
+    requires { (form_is form ≡ form_of rec.now) × ((v ≡ vertices_of rec.now) × (e ≡ edges_of rec.now)) }
+    ensures { Responds (listing_response rec.now (length out.old)) out.old result out.new }
 {
     match form {
         Form::Sgr1 => return large(rec, out),
@@ -427,7 +427,7 @@ fn past_small(rec: &[u8], out: &mut [u8], form: Form, v: usize, e: usize) -> Ans
 // In the arrays of the record's class. Those of each but the small one stand behind two tests: with one call of a function that has arrays the compiler
 // would lay its frame into this one, and every record would take it.
 fn by_class(rec: &[u8], out: &mut [u8]) -> Answer
-    ensures { Responds (listingResponse rec.now (length out.old)) out.old result out.new }
+    ensures { Responds (listing_response rec.now (length out.old)) out.old result out.new }
 {
     if rec.len() <= SMALL_RECORD {
         return small(rec, out);

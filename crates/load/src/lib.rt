@@ -1,9 +1,9 @@
 // The graph of an accepted record, read into the slices. The sequences stay where they stand: the record itself is the pool. Where a graph is
 // rewritten they are copied to a pool of its own.
 ghost use Rattle.std.specs.Prelude.{◌≡◌, ◌+◌, ◌*◌, ◌≤◌, ◌<◌, length};
-ghost use Rattle.defs.specs.Forms.{formOf};
-ghost use Rattle.defs.specs.Record.{k_of, edgesOf, verticesOf, bytes_at};
-ghost use Rattle.form.specs.Coded.{formIs};
+ghost use Rattle.defs.specs.Forms.{form_of};
+ghost use Rattle.defs.specs.Record.{k_of, edges_of, vertices_of, bytes_at};
+ghost use Rattle.form.specs.Coded.{form_is};
 ghost use Rattle.load.specs.Loaded.{Laid, EdgesRead, VerticesRead, BytesRead, Loadable, Loaded, Poolable, SequencesPooled};
 
 use form::Form;
@@ -11,7 +11,7 @@ use kmer::KmerSize;
 use memory::Held;
 
 fn load_edges(rec: &[u8], form: Form, es: &mut [u32], m: usize)
-    requires { Laid rec.now × ((formIs form ≡ formOf rec.now) × ((m ≡ edgesOf rec.now) × (4 * m ≤ length es.old))) }
+    requires { Laid rec.now × ((form_is form ≡ form_of rec.now) × ((m ≡ edges_of rec.now) × (4 * m ≤ length es.old))) }
     ensures { EdgesRead rec.now m es.new }
 {
     let mut i = 0;
@@ -26,8 +26,8 @@ fn load_edges(rec: &[u8], form: Form, es: &mut [u32], m: usize)
 
 // Where each sequence starts, if the first one starts at `at`, and how long it is.
 fn load_vertices(rec: &[u8], form: Form, vs: &mut [u32], n: usize, at: usize)
-    requires { Laid rec.now × ((formIs form ≡ formOf rec.now) × ((n ≡ verticesOf rec.now)
-        × ((2 * n ≤ length vs.old) × (at ≤ bytes_at (formOf rec.now) (verticesOf rec.now) (edgesOf rec.now))))) }
+    requires { Laid rec.now × ((form_is form ≡ form_of rec.now) × ((n ≡ vertices_of rec.now)
+        × ((2 * n ≤ length vs.old) × (at ≤ bytes_at (form_of rec.now) (vertices_of rec.now) (edges_of rec.now))))) }
     ensures { VerticesRead rec.now at n vs.new }
 {
     let mut i = 0;

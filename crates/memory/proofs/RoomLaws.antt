@@ -4,23 +4,23 @@ use mathlib.Core.List.{List}
 use Prim.Native.Nat.{ℕ, ◌+◌, ◌/◌, ◌≤◌, ◌<◌}
 use native.Mathlib.Omega.{arith}
 use lib.ListN.{length, get_or}
-use Rattle.defs.specs.SeqGraph.{Edge, Graph, nodeCount}
-use Rattle.defs.specs.Simplify.{sequenceBytes, emptyVertices}
+use Rattle.defs.specs.SeqGraph.{Edge, Graph, node_count}
+use Rattle.defs.specs.Simplify.{sequence_bytes, empty_vertices}
 use Rattle.laws.proofs.Measures.{weight, load, order-weight, Tame}
 use Rattle.tabs.proofs.Tabs.{length-tab}
-use Rattle.store.specs.Store.{edgeIn, edgesIn, seqIn, graphIn, EndsBelow, Within}
+use Rattle.store.specs.Store.{edge_in, edges_in, seq_in, graph_in, EndsBelow, Within}
 use Rattle.compact.proofs.CompactLaws.{order-in, mem-ends}
-use Rattle.memory.specs.Memory.{graph_of, vertexRoom, edgeRoom, Room, Fit, Holds}
+use Rattle.memory.specs.Memory.{graph_of, vertex_room, edge_room, Room, Fit, Holds}
 use Rattle.memory.specs.declared.Held.{Held}
 
-pub fit-vertices : {g : Graph} {heads nexts : List ℕ} → Fit g heads nexts → nodeCount g ≤ vertexRoom heads
+pub fit-vertices : {g : Graph} {heads nexts : List ℕ} → Fit g heads nexts → node_count g ≤ vertex_room heads
 fit-vertices {g} F = omega (arith, F.light, order-weight g)
 
-pub fit_edges : {g : Graph} {heads nexts : List ℕ} → Fit g heads nexts → length g.edges ≤ edgeRoom nexts
+pub fit_edges : {g : Graph} {heads nexts : List ℕ} → Fit g heads nexts → length g.edges ≤ edge_room nexts
 unfolding load
 fit_edges {g} F = omega (arith, F.surplus, F.light, order-weight g)
 
-pub fit-bytes : {g : Graph} {heads nexts : List ℕ} → Fit g heads nexts → sequenceBytes g.verts ≤ vertexRoom heads
+pub fit-bytes : {g : Graph} {heads nexts : List ℕ} → Fit g heads nexts → sequence_bytes g.verts ≤ vertex_room heads
 unfolding weight
 fit-bytes {g} F = omega (arith, F.light)
 
@@ -30,11 +30,11 @@ fit-tame F t = record { good = t.good; light = omega (arith, F.light, t.light); 
 
 -- of a held graph
 module _ {h : Held} {es vs p heads nexts : List ℕ} (H : Holds h es vs p heads nexts) where
-  pub held-vertices : h.n ≤ vertexRoom heads
+  pub held-vertices : h.n ≤ vertex_room heads
   held-vertices = omega (arith, fit-vertices H.fit, order-in h.k.0 h.n h.m es vs p)
 
-  pub held-edges : h.m ≤ edgeRoom nexts
-  held-edges = omega (arith, fit_edges H.fit, length-tab h.m (edgeIn es))
+  pub held-edges : h.m ≤ edge_room nexts
+  held-edges = omega (arith, fit_edges H.fit, length-tab h.m (edge_in es))
 
   pub held-ends : EndsBelow h.n h.m es
   held-ends = mem-ends h.n h.m es (λ e b. rw (order-in h.k.0 h.n h.m es vs p) at (H.fit.good.0.bounded e b))

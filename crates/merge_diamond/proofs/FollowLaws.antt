@@ -6,25 +6,25 @@ use mathlib.Core.List.{List, [], ◌∷◌, map, Memᴰ}
 use Prim.Native.Nat.{ℕ, ◌+◌, ◌-◌, ◌≤◌, ◌<◌}
 use native.Mathlib.Omega.{arith}
 use lib.ListN.{length, get_or, drop}
-use Rattle.defs.specs.Lists.{head_or, commonPrefix, commonSuffix}
-use Rattle.defs.specs.SeqGraph.{Graph, vertexSequence, outgoingNodes}
-use Rattle.defs.specs.Rewrites.{sharedPrefix, sharedSuffix}
-use Rattle.laws.proofs.ListLaws.{by_order, of-keepIf}
-use Rattle.tabs.proofs.Tabs.{getD-tab, tab-ext}
+use Rattle.defs.specs.Lists.{head_or, common_prefix, common_suffix}
+use Rattle.defs.specs.SeqGraph.{Graph, vertex_sequence, outgoing_nodes}
+use Rattle.defs.specs.Rewrites.{shared_prefix, shared_suffix}
+use Rattle.laws.proofs.ListLaws.{by_order, of-keep_if}
+use Rattle.tabs.proofs.Tabs.{get_or-tab, tab-ext}
 use Rattle.tabs.proofs.ListTabs.{mem-tab, of-mem-tab}
 use Rattle.tabs.proofs.SumTabs.{map-tab}
-use Rattle.store.specs.Store.{seqIn, seqsIn, numsIn, EndsBelow}
+use Rattle.store.specs.Store.{seq_in, seqs_in, nums_in, EndsBelow}
 use Rattle.store.proofs.VertexLaws.{part-long}
 use Rattle.compact.specs.Compact.{Below}
-use Rattle.index.specs.Index.{Index, edgeEnd, incidentEdges, atFrom, pair_at, Indexed, Collected}
+use Rattle.index.specs.Index.{Index, edge_end, incident_edges, at_from, pair_at, Indexed, Collected}
 use Rattle.index.proofs.AdjLaws.{at_head, at-step, at-end}
 use Rattle.index.proofs.IndexLaws.{outgoing-is}
 use Rattle.memory.specs.Memory.{graph_of, Room, Holds}
 use Rattle.memory.specs.declared.Held.{Held}
 use Rattle.memory.proofs.RoomLaws.{held-vertices, held-edges, held-ends}
-use Rattle.shared.specs.Shared.{Parts, start_at, len_at, seqsAt, Prefix, Suffix}
+use Rattle.shared.specs.Shared.{Parts, start_at, len_at, seqs_at, Prefix, Suffix}
 use Rattle.shared.proofs.SharedLoops.{in-pool}
-use Rattle.split_and_update.specs.Split.{Middle, prefixAt, suffixAt, updateChange, Splittable}
+use Rattle.split_and_update.specs.Split.{Middle, prefix_at, suffix_at, update_change, Splittable}
 use Rattle.merge_diamond.proofs.GrownLaws.{GraphGrown}
 
 pub record Follows (h : Held) (es vs p heads nexts nodes mp : List ℕ) (top c : ℕ) : Type 0 where
@@ -57,8 +57,8 @@ module _ {h : Held} {es vs p heads nexts nodes₀ mp : List ℕ} {top : ℕ} (R 
     found = C;
   }
 
-at-below : (off m : ℕ) (es : List ℕ) (v e : ℕ) → Memᴰ e (incidentEdges (edgeEnd off es) m v) → e < m
-at-below off m es v e k = let b = of-mem-tab (m - 0) (λ (x : ℕ). x) (of-keepIf _ _ k).0 in omega (arith, b.1, b.2)
+at-below : (off m : ℕ) (es : List ℕ) (v e : ℕ) → Memᴰ e (incident_edges (edge_end off es) m v) → e < m
+at-below off m es v e k = let b = of-mem-tab (m - 0) (λ (x : ℕ). x) (of-keep_if _ _ k).0 in omega (arith, b.1, b.2)
 
 first_below : (n : ℕ) (f : ℕ → ℕ) (l : List ℕ) → 0 < n → ((e : ℕ) → Memᴰ e l → f e < n) → head_or 0 (map f l) < n
 unfolding head_or
@@ -75,7 +75,7 @@ module _ {h : Held} {es vs p heads nexts nodes mp : List ℕ} {top c : ℕ} (F :
   abbrev g : Graph
   g = graph_of h es vs p
 
-  pub nodes-are : numsIn c nodes ≡ outgoingNodes g top
+  pub nodes-are : nums_in c nodes ≡ outgoing_nodes g top
   nodes-are = F.found.is ∙ sym (outgoing-is h.k.0 n m es vs p top)
 
   ends : EndsBelow n m es
@@ -83,12 +83,12 @@ module _ {h : Held} {es vs p heads nexts nodes mp : List ℕ} {top c : ℕ} (F :
 
   below : (i : ℕ) → i < c → get_or nodes i 0 < n
   below i b =
-      let a = Memᴰ.of_map (edgeEnd 1 es) (incidentEdges (edgeEnd 0 es) m top) (subst (λ (l : List ℕ). Memᴰ (get_or nodes i 0) l) F.found.is
+      let a = Memᴰ.of_map (edge_end 1 es) (incident_edges (edge_end 0 es) m top) (subst (λ (l : List ℕ). Memᴰ (get_or nodes i 0) l) F.found.is
       (mem-tab c (λ (j : ℕ). get_or nodes j 0) i b)) in
       omega (arith, (ends.at a.0 (at-below 0 m es top a.0 a.1)).1, a.2)
 
-  pub bottom-below : (v : ℕ) → head_or 0 (map (edgeEnd 1 es) (incidentEdges (edgeEnd 0 es) m v)) < n
-  bottom-below v = first_below n (edgeEnd 1 es) (incidentEdges (edgeEnd 0 es) m v) (omega (arith, F.top-old)) (λ e k. (ends.at e (at-below 0 m es v e k)).1)
+  pub bottom-below : (v : ℕ) → head_or 0 (map (edge_end 1 es) (incident_edges (edge_end 0 es) m v)) < n
+  bottom-below v = first_below n (edge_end 1 es) (incident_edges (edge_end 0 es) m v) (omega (arith, F.top-old)) (λ e k. (ends.at e (at-below 0 m es v e k)).1)
 
   pub nodes-below : Below nodes c n
   nodes-below = record { room = omega (arith, F.found.most, held-edges F.holds, F.room.nodes-room); at = below }
@@ -106,16 +106,16 @@ module _ {h : Held} {es vs p heads nexts nodes mp : List ℕ} {top c : ℕ} (F :
   }
 
   -- one edge in: the index has it
-  middle : (v : ℕ) → v < n → length (incidentEdges (edgeEnd 1 es) m v) ≡ 1 → Middle m es heads v
+  middle : (v : ℕ) → v < n → length (incident_edges (edge_end 1 es) m v) ≡ 1 → Middle m es heads v
   middle v b one = record {
     first = here;
     into = into ∙ ap (λ (l : List ℕ). e₁ ∷ l) rest;
     out = λ k. (
-      atFrom (edgeEnd 0 es) m v (pair_at 0 nexts e₀),
-      at_head (edgeEnd 0 es) m n (pair_at 0 heads) (pair_at 0 nexts) v I₀ b
-          ∙ at-step (edgeEnd 0 es) m n (pair_at 0 heads) (pair_at 0 nexts) v e₀ I₀ k ((I₀.heads v b).hit k),
+      at_from (edge_end 0 es) m v (pair_at 0 nexts e₀),
+      at_head (edge_end 0 es) m n (pair_at 0 heads) (pair_at 0 nexts) v I₀ b
+          ∙ at-step (edge_end 0 es) m n (pair_at 0 heads) (pair_at 0 nexts) v e₀ I₀ k ((I₀.heads v b).hit k),
     );
-    end = λ k. at_head (edgeEnd 0 es) m n (pair_at 0 heads) (pair_at 0 nexts) v I₀ b ∙ at-end (edgeEnd 0 es) m v e₀ k;
+    end = λ k. at_head (edge_end 0 es) m n (pair_at 0 heads) (pair_at 0 nexts) v I₀ b ∙ at-end (edge_end 0 es) m v e₀ k;
   }
     where
       e₀ : ℕ
@@ -124,55 +124,55 @@ module _ {h : Held} {es vs p heads nexts nodes mp : List ℕ} {top c : ℕ} (F :
       e₁ : ℕ
       e₁ = pair_at 1 heads v
 
-      I₀ : Index (edgeEnd 0 es) m n (pair_at 0 heads) (pair_at 0 nexts)
+      I₀ : Index (edge_end 0 es) m n (pair_at 0 heads) (pair_at 0 nexts)
       I₀ = F.index.index 0 (omega arith)
 
-      I₁ : Index (edgeEnd 1 es) m n (pair_at 1 heads) (pair_at 1 nexts)
+      I₁ : Index (edge_end 1 es) m n (pair_at 1 heads) (pair_at 1 nexts)
       I₁ = F.index.index 1 (omega arith)
 
-      from : incidentEdges (edgeEnd 1 es) m v ≡ atFrom (edgeEnd 1 es) m v e₁
-      from = at_head (edgeEnd 1 es) m n (pair_at 1 heads) (pair_at 1 nexts) v I₁ b
+      from : incident_edges (edge_end 1 es) m v ≡ at_from (edge_end 1 es) m v e₁
+      from = at_head (edge_end 1 es) m n (pair_at 1 heads) (pair_at 1 nexts) v I₁ b
 
       here : e₁ < m
-      here = by_order m e₁ (λ (k : m ≤ e₁). absurd (omega (arith, one, ap length from, ap length (at-end (edgeEnd 1 es) m v e₁ k)))) (λ (k : e₁ < m). k)
+      here = by_order m e₁ (λ (k : m ≤ e₁). absurd (omega (arith, one, ap length from, ap length (at-end (edge_end 1 es) m v e₁ k)))) (λ (k : e₁ < m). k)
 
-      into : incidentEdges (edgeEnd 1 es) m v ≡ e₁ ∷ atFrom (edgeEnd 1 es) m v (pair_at 1 nexts e₁)
-      into = from ∙ at-step (edgeEnd 1 es) m n (pair_at 1 heads) (pair_at 1 nexts) v e₁ I₁ here ((I₁.heads v b).hit here)
+      into : incident_edges (edge_end 1 es) m v ≡ e₁ ∷ at_from (edge_end 1 es) m v (pair_at 1 nexts e₁)
+      into = from ∙ at-step (edge_end 1 es) m n (pair_at 1 heads) (pair_at 1 nexts) v e₁ I₁ here ((I₁.heads v b).hit here)
 
       none_left : (l : List ℕ) → length l ≡ 0 → l ≡ []
       none_left [] z = refl
       none_left (x ∷ l) z = absurd (omega arith)
 
-      rest : atFrom (edgeEnd 1 es) m v (pair_at 1 nexts e₁) ≡ []
-      rest = none_left (atFrom (edgeEnd 1 es) m v (pair_at 1 nexts e₁)) (omega (arith, one, ap length into))
+      rest : at_from (edge_end 1 es) m v (pair_at 1 nexts e₁) ≡ []
+      rest = none_left (at_from (edge_end 1 es) m v (pair_at 1 nexts e₁)) (omega (arith, one, ap length into))
 
-  seqs-are : map (vertexSequence g) (numsIn c nodes) ≡ seqsAt vs p nodes c
-  unfolding vertexSequence
-  seqs-are = map-tab (vertexSequence g) c (λ (i : ℕ). get_or nodes i 0)
-      ∙ tab-ext c (λ (i : ℕ). get_or (seqsIn n vs p) (get_or nodes i 0) []) (λ (i : ℕ). seqIn vs p (get_or nodes i 0)) (λ i b.
-      getD-tab n (seqIn vs p) (get_or nodes i 0) [] (below i b))
+  seqs-are : map (vertex_sequence g) (nums_in c nodes) ≡ seqs_at vs p nodes c
+  unfolding vertex_sequence
+  seqs-are = map-tab (vertex_sequence g) c (λ (i : ℕ). get_or nodes i 0)
+      ∙ tab-ext c (λ (i : ℕ). get_or (seqs_in n vs p) (get_or nodes i 0) []) (λ (i : ℕ). seq_in vs p (get_or nodes i 0)) (λ i b.
+      get_or-tab n (seq_in vs p) (get_or nodes i 0) [] (below i b))
 
   module _ {x y : ℕ} (s : 1 ≤ c) (X : Prefix vs p nodes c x) (Y : Suffix vs p nodes x c y) where
     inside : start_at vs nodes 0 + len_at vs nodes 0 ≤ length p
     inside = in-pool (parts s) 0 (omega arith)
 
-    pub length-prefix : length (prefixAt vs p nodes x) ≡ x
+    pub length-prefix : length (prefix_at vs p nodes x) ≡ x
     length-prefix = part-long p (start_at vs nodes 0) x (omega (arith, inside, X.all 0 (omega arith)))
 
-    pub length-suffix : length (suffixAt vs p nodes y) ≡ y
+    pub length-suffix : length (suffix_at vs p nodes y) ≡ y
     length-suffix = part-long p (start_at vs nodes 0 + len_at vs nodes 0 - y) y (omega (arith, inside, Y.all 0 (omega arith)))
 
-    pub prefix-is : sharedPrefix g (numsIn c nodes) ≡ prefixAt vs p nodes x
-    unfolding sharedPrefix
-    prefix-is = ap commonPrefix seqs-are ∙ X.is
+    pub prefix-is : shared_prefix g (nums_in c nodes) ≡ prefix_at vs p nodes x
+    unfolding shared_prefix
+    prefix-is = ap common_prefix seqs-are ∙ X.is
 
-    pub suffix-is : sharedSuffix g (numsIn c nodes) ≡ suffixAt vs p nodes y
-    unfolding sharedSuffix
-    suffix-is = (λ i. commonSuffix (map (drop ((ap length prefix-is ∙ length-prefix) i)) (seqs-are i))) ∙ Y.is
+    pub suffix-is : shared_suffix g (nums_in c nodes) ≡ suffix_at vs p nodes y
+    unfolding shared_suffix
+    suffix-is = (λ i. common_suffix (map (drop ((ap length prefix-is ∙ length-prefix) i)) (seqs-are i))) ∙ Y.is
 
     pub splittable : (bottom : ℕ) (ends? : Bool) (g' : Graph) → bottom < n → (ends? ≡ false → bottom ≡ 0) → 0 < x + y
-        → ((i : ℕ) → i < c → length (incidentEdges (edgeEnd 1 es) m (get_or nodes i 0)) ≡ 1)
-        → GraphGrown g (updateChange g top ends? bottom vs p nodes c x y) g' heads nexts → Splittable h es vs p heads nodes c mp top bottom ends? x y
+        → ((i : ℕ) → i < c → length (incident_edges (edge_end 1 es) m (get_or nodes i 0)) ≡ 1)
+        → GraphGrown g (update_change g top ends? bottom vs p nodes c x y) g' heads nexts → Splittable h es vs p heads nodes c mp top bottom ends? x y
     splittable bottom ends? g' b z some one G = record {
       parts = parts s;
       middles = λ i k. middle (get_or nodes i 0) (below i k) (one i k);
@@ -191,7 +191,7 @@ module _ {h : Held} {es vs p heads nexts nodes mp : List ℕ} {top c : ℕ} (F :
       small = omega (arith, G.vertices, F.found.most, held-edges F.holds, F.room.vertices-edges, F.room.small);
     }
 
-  pub bottom-first : {b : ℕ} → b ≡ head_or 0 (map (edgeEnd 1 es) (incidentEdges (edgeEnd 0 es) m (get_or nodes 0 0))) → b < n
+  pub bottom-first : {b : ℕ} → b ≡ head_or 0 (map (edge_end 1 es) (incident_edges (edge_end 0 es) m (get_or nodes 0 0))) → b < n
   bottom-first q = omega (arith, bottom-below (get_or nodes 0 0))
 
   pub sum-small : {x y : ℕ} → 1 ≤ c → Suffix vs p nodes x c y → x + y < 4294967296

@@ -2,16 +2,16 @@
 // `nodes` and `map` are lent for the work; heads and nexts are the index of the graph given.
 ghost use Rattle.std.specs.Prelude.{◌≡◌, map, ◌+◌, ◌*◌, ◌<◌, length};
 ghost use Rattle.defs.specs.Lists.{head_or};
-ghost use Rattle.defs.specs.Rewrites.{tryMergeDiamond, tryMergeTails};
-ghost use Rattle.index.specs.Index.{Indexed, edgeEnd, incidentEdges};
+ghost use Rattle.defs.specs.Rewrites.{try_merge_diamond, try_merge_tails};
+ghost use Rattle.index.specs.Index.{Indexed, edge_end, incident_edges};
 ghost use Rattle.memory.specs.Memory.{graph_of, Room, Holds, Left};
-ghost use Rattle.merge_diamond.specs.Answer.{notMerged, hasMerged};
+ghost use Rattle.merge_diamond.specs.Answer.{not_merged, has_merged};
 
 use memory::{Held, Tried};
 use split_and_update::split_and_update;
 
 pub fn not_merged(held: Held) -> Tried
-    ensures { result ≡ notMerged held }
+    ensures { result ≡ not_merged held }
 {
     Tried {
         done: false,
@@ -20,7 +20,7 @@ pub fn not_merged(held: Held) -> Tried
 }
 
 pub fn merged(held: Held) -> Tried
-    ensures { result ≡ hasMerged held }
+    ensures { result ≡ has_merged held }
 {
     Tried {
         done: true,
@@ -31,7 +31,7 @@ pub fn merged(held: Held) -> Tried
 // The vertex that v's first edge enters, or 0.
 pub fn first_follower(es: &[u32], m: usize, n: usize, heads: &[u32], nexts: &[u32], v: usize) -> u32
     requires { (v < n) × Indexed m n es.now heads.now nexts.now }
-    ensures { result ≡ head_or 0 (map (edgeEnd 1 es.now) (incidentEdges (edgeEnd 0 es.now) m v)) }
+    ensures { result ≡ head_or 0 (map (edge_end 1 es.now) (incident_edges (edge_end 0 es.now) m v)) }
 {
     let e = heads[2 * v] as usize;
     if e < m {
@@ -53,7 +53,7 @@ pub fn try_merge_diamond(
 ) -> Tried
     requires room { Room es.old vs.old p.now heads.now nexts.now nodes.old map.old × Holds held es.old vs.old p.now heads.now nexts.now }
     requires top_lt_n { (top < held.n) × Indexed held.m held.n es.old heads.now nexts.now }
-    ensures { Left (tryMergeDiamond (graph_of held es.old vs.old p.now) top) held es.old
+    ensures { Left (try_merge_diamond (graph_of held es.old vs.old p.now) top) held es.old
         vs.old p.now heads.now nexts.now result es.new vs.new p.now }
 {
     let n = held.n;
@@ -89,7 +89,7 @@ pub fn try_merge_tails(
 ) -> Tried
     requires room { Room es.old vs.old p.now heads.now nexts.now nodes.old map.old × Holds held es.old vs.old p.now heads.now nexts.now }
     requires lt_least { (3 < least) × ((top < held.n) × Indexed held.m held.n es.old heads.now nexts.now) }
-    ensures { Left (tryMergeTails least (graph_of held es.old vs.old p.now) top) held
+    ensures { Left (try_merge_tails least (graph_of held es.old vs.old p.now) top) held
         es.old vs.old p.now heads.now nexts.now result es.new vs.new
         p.now }
 {

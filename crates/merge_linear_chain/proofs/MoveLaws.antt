@@ -9,13 +9,13 @@ use lib.ListN.{length, get_or, set, length-set}
 use lib.Seq.{get_or-set_same, get_or-set_other}
 use lib.Dec.{eqb}
 use borrow.Author.Tests.{eqb-true, eqb-false}
-use Rattle.laws.proofs.Walks.{byTest}
+use Rattle.laws.proofs.Walks.{by_test}
 use Rattle.tabs.proofs.Tabs.{tab-ext}
 use Rattle.tabs.proofs.SumTabs.{map-tab}
-use Rattle.store.specs.Store.{edge, edgeIn}
-use Rattle.index.specs.Index.{edgeEnd, pair_at, Indexed}
+use Rattle.store.specs.Store.{edge, edge_in}
+use Rattle.index.specs.Index.{edge_end, pair_at, Indexed}
 use Rattle.index.proofs.IndexLaws.{end-first, pair-first}
-use Rattle.merge_linear_chain.specs.Zip.{movedEdge, EdgesMoved}
+use Rattle.merge_linear_chain.specs.Zip.{moved_edge, EdgesMoved}
 
 -- the next edge comes later
 pub later : {m n : ℕ} {es heads nexts : List ℕ} → Indexed m n es heads nexts → (e : ℕ) → e < m → e < get_or nexts (2 * e) 0
@@ -39,7 +39,7 @@ module _ {m n : ℕ} {es₀ heads nexts : List ℕ} (I : Indexed m n es₀ heads
       let z : e ≡ pair_at 0 heads last = q ∙ pair-first heads last in
       record {
         high = omega (arith, N.high);
-        hit = λ b. sym (end-first es₀ e) ∙ ap (edgeEnd 0 es₀) z ∙ N.hit (omega arith);
+        hit = λ b. sym (end-first es₀ e) ∙ ap (edge_end 0 es₀) z ∙ N.hit (omega arith);
         len = refl;
         done = λ j b t. absurd (N.skip j (omega arith) (omega arith) (end-first es₀ j ∙ t));
         kept = λ j b. refl;
@@ -53,11 +53,11 @@ module _ {m n : ℕ} {es₀ heads nexts : List ℕ} (I : Indexed m n es₀ heads
   moving-more {es} {es'} {e} M h put x q =
       let N = (I.index 0 (omega arith)).nexts e h in
       let z : x ≡ pair_at 0 nexts e = q ∙ pair-first nexts e in
-      let at_last : edgeEnd 0 es₀ e ≡ last = end-first es₀ e ∙ M.hit h in
+      let at_last : edge_end 0 es₀ e ≡ last = end-first es₀ e ∙ M.hit h in
       let room : 4 * e < length es = omega (arith, M.len, I.room) in
       rw put (record {
         high = omega (arith, N.high);
-        hit = λ b. sym (end-first es₀ x) ∙ ap (edgeEnd 0 es₀) z ∙ N.hit (omega arith) ∙ at_last;
+        hit = λ b. sym (end-first es₀ x) ∙ ap (edge_end 0 es₀) z ∙ N.hit (omega arith) ∙ at_last;
         len = length-set es _ _ ∙ M.len;
         done = λ j b t. elim (ℕ_discrete j e) [
           | yes y ↦ rw y (get_or-set_same es (4 * e) start 0 room)
@@ -78,14 +78,14 @@ module _ {m n : ℕ} {es₀ heads nexts : List ℕ} (I : Indexed m n es₀ heads
 
   pub moving-end : {es : List ℕ} {e : ℕ} → MovingEdges m es₀ es last start e → m ≤ e → EdgesMoved m es₀ last start es
   moving-end {es} {e} M h = record {
-    is = tab-ext m (edgeIn es) (λ (i : ℕ). movedEdge last start (edgeIn es₀ i)) each
-        ∙ sym (map-tab (movedEdge last start) m (edgeIn es₀));
+    is = tab-ext m (edge_in es) (λ (i : ℕ). moved_edge last start (edge_in es₀ i)) each
+        ∙ sym (map-tab (moved_edge last start) m (edge_in es₀));
   }
     where
       source : (j : ℕ) → j < m → get_or es (4 * j) 0 ≡ cond (eqb (get_or es₀ (4 * j) 0) last) start (get_or es₀ (4 * j) 0)
-      source j b = byTest (eqb (get_or es₀ (4 * j) 0) last)
+      source j b = by_test (eqb (get_or es₀ (4 * j) 0) last)
           (λ t. rw t (M.done j (omega arith) (eqb-true _ _ t)))
           (λ t. rw t (M.kept j (λ w. absurd (eqb-false _ _ t w))))
 
-      each : (j : ℕ) → j < m → edgeIn es j ≡ movedEdge last start (edgeIn es₀ j)
+      each : (j : ℕ) → j < m → edge_in es j ≡ moved_edge last start (edge_in es₀ j)
       each j b = λ i. edge (source j b i) (M.to-kept j i) (M.support-kept j i) (M.flag-kept j i)

@@ -9,11 +9,11 @@ use lib.Seq.{take-add, drop-drop}
 use Rattle.defs.specs.Lists.{concat}
 use Rattle.tabs.proofs.Tabs.{tab-snoc, tab-zero, tab-ext}
 use Rattle.tabs.proofs.SumTabs.{sum-none, sum_more, sum_below, concat-snoc, map-tab}
-use Rattle.store.specs.Store.{part, seqIn, numsIn}
+use Rattle.store.specs.Store.{part, seq_in, nums_in}
 use Rattle.pool.specs.Pool.{Apart, Moved}
 use Rattle.pool.proofs.PoolLaws.{part_same}
 use Rattle.merge_linear_chain.specs.Zip.{SequenceCopyable, Copied, ChainWritable, ChainWritten}
-use Rattle.store.specs.Store.{nodesLength}
+use Rattle.store.specs.Store.{nodes_length}
 
 pub copy_apart : {vs p : List ℕ} {at v : ℕ} {start len : ℕ} → SequenceCopyable vs p at v → start ≡ get_or vs (2 * v) 0 → len ≡ get_or vs (2 * v + 1) 0
     → Apart p at start len
@@ -34,9 +34,9 @@ part-append p a n l = take-add n l (drop a p) ∙ ap (λ (x : List ℕ). take n 
 pub record Writing (vs p₀ : List ℕ) (used start : ℕ) (nodes : List ℕ) (c : ℕ) (p : List ℕ) (at i : ℕ) : Type 0 where
   pub high : i ≤ c
   pub len : length p ≡ length p₀
-  pub end : at ≡ used + get_or vs (2 * start + 1) 0 + nodesLength vs nodes i
+  pub end : at ≡ used + get_or vs (2 * start + 1) 0 + nodes_length vs nodes i
   pub old : (k : ℕ) → k < used → get_or p k 0 ≡ get_or p₀ k 0
-  pub is : part p used (at - used) ≡ concat (map (seqIn vs p₀) (start ∷ numsIn i nodes))
+  pub is : part p used (at - used) ≡ concat (map (seq_in vs p₀) (start ∷ nums_in i nodes))
 
 module _ {vs p₀ : List ℕ} {used start : ℕ} {nodes : List ℕ} {c : ℕ} (F : ChainWritable vs p₀ used start nodes c) where
   pub first-copyable : SequenceCopyable vs p₀ used start
@@ -59,9 +59,9 @@ module _ {vs p₀ : List ℕ} {used start : ℕ} {nodes : List ℕ} {c : ℕ} (F
       end = omega (arith, C.end, W.end, sum_more i (λ (j : ℕ). get_or vs (2 * get_or nodes j 0 + 1) 0));
       old = λ k b. C.old k (omega (arith, W.end)) ∙ W.old k b;
       is = ap (part p' used) size ∙ part-append p' used (at - used) (get_or vs (2 * get_or nodes i 0 + 1) 0)
-          ∙ (λ j. before j ++ behind j) ∙ sym (concat-snoc (map (seqIn vs p₀) (start ∷ numsIn i nodes)) (seqIn vs p₀ (get_or nodes i 0)))
-          ∙ ap concat (sym (map-append (seqIn vs p₀) (start ∷ numsIn i nodes) (get_or nodes i 0 ∷ [])))
-          ∙ ap (λ (l : List ℕ). concat (map (seqIn vs p₀) (start ∷ l))) (sym (tab-snoc i (λ (j : ℕ). get_or nodes j 0)));
+          ∙ (λ j. before j ++ behind j) ∙ sym (concat-snoc (map (seq_in vs p₀) (start ∷ nums_in i nodes)) (seq_in vs p₀ (get_or nodes i 0)))
+          ∙ ap concat (sym (map-append (seq_in vs p₀) (start ∷ nums_in i nodes) (get_or nodes i 0 ∷ [])))
+          ∙ ap (λ (l : List ℕ). concat (map (seq_in vs p₀) (start ∷ l))) (sym (tab-snoc i (λ (j : ℕ). get_or nodes j 0)));
     }
       where
         size : at' - used ≡ (at - used) + get_or vs (2 * get_or nodes i 0 + 1) 0
@@ -70,11 +70,11 @@ module _ {vs p₀ : List ℕ} {used start : ℕ} {nodes : List ℕ} {c : ℕ} (F
         place : used + (at - used) ≡ at
         place = omega (arith, W.end)
 
-        before : part p' used (at - used) ≡ concat (map (seqIn vs p₀) (start ∷ numsIn i nodes))
+        before : part p' used (at - used) ≡ concat (map (seq_in vs p₀) (start ∷ nums_in i nodes))
         before = part_same p p' used used (at - used) (omega (arith, fits, W.len, W.end)) (omega (arith, fits, W.len, q, W.end)) (λ x b.
             C.old (used + x) (omega (arith, W.end))) ∙ W.is
 
-        behind : part p' (used + (at - used)) (get_or vs (2 * get_or nodes i 0 + 1) 0) ≡ seqIn vs p₀ (get_or nodes i 0)
+        behind : part p' (used + (at - used)) (get_or vs (2 * get_or nodes i 0 + 1) 0) ≡ seq_in vs p₀ (get_or nodes i 0)
         behind = ap (λ (x : ℕ). part p' x (get_or vs (2 * get_or nodes i 0 + 1) 0)) place ∙ C.is
             ∙ part_same p₀ p (get_or vs (2 * get_or nodes i 0) 0) (get_or vs (2 * get_or nodes i 0) 0) (get_or vs (2 * get_or nodes i 0 + 1) 0)
             (omega (arith, F.before i h, fits, W.end)) (omega (arith, F.before i h, fits, W.end, W.len)) (λ x b.
@@ -93,7 +93,7 @@ module _ {vs p : List ℕ} {used start : ℕ} {nodes : List ℕ} {c : ℕ} (F : 
     room = omega (arith, F.room, q);
   }
 
-  seq-kept : (v : ℕ) → get_or vs (2 * v) 0 + get_or vs (2 * v + 1) 0 ≤ used → seqIn vs p₁ v ≡ seqIn vs p v
+  seq-kept : (v : ℕ) → get_or vs (2 * v) 0 + get_or vs (2 * v + 1) 0 ≤ used → seq_in vs p₁ v ≡ seq_in vs p v
   seq-kept v b = part_same p p₁ (get_or vs (2 * v) 0) (get_or vs (2 * v) 0) (get_or vs (2 * v + 1) 0) (omega (arith, F.room))
       (omega (arith, F.room, q)) (λ x h. C.old (get_or vs (2 * v) 0 + x) (omega arith))
 
@@ -105,20 +105,20 @@ module _ {vs p : List ℕ} {used start : ℕ} {nodes : List ℕ} {c : ℕ} (F : 
     end = omega (arith, C.end, sum-none (λ (i : ℕ). get_or vs (2 * get_or nodes i 0 + 1) 0));
     old = λ k b. refl;
     is = ap (part p₁ used) size ∙ C.is ∙ sym (seq-kept start F.start-before) ∙ sym (append-nil _)
-        ∙ sym (ap (λ (l : List ℕ). seqIn vs p₁ start ++ concat (map (seqIn vs p₁) l)) (tab-zero (λ (i : ℕ). get_or nodes i 0)));
+        ∙ sym (ap (λ (l : List ℕ). seq_in vs p₁ start ++ concat (map (seq_in vs p₁) l)) (tab-zero (λ (i : ℕ). get_or nodes i 0)));
   }
     where
       size : at₁ - used ≡ get_or vs (2 * start + 1) 0
       size = omega (arith, C.end)
 
-  seqs-kept : map (seqIn vs p₁) (numsIn c nodes) ≡ map (seqIn vs p) (numsIn c nodes)
-  seqs-kept = map-tab (seqIn vs p₁) c (λ (i : ℕ). get_or nodes i 0)
-      ∙ tab-ext c (λ (i : ℕ). seqIn vs p₁ (get_or nodes i 0)) (λ (i : ℕ). seqIn vs p (get_or nodes i 0)) (λ i h.
-      seq-kept (get_or nodes i 0) (F.before i h)) ∙ sym (map-tab (seqIn vs p) c (λ (i : ℕ). get_or nodes i 0))
+  seqs-kept : map (seq_in vs p₁) (nums_in c nodes) ≡ map (seq_in vs p) (nums_in c nodes)
+  seqs-kept = map-tab (seq_in vs p₁) c (λ (i : ℕ). get_or nodes i 0)
+      ∙ tab-ext c (λ (i : ℕ). seq_in vs p₁ (get_or nodes i 0)) (λ (i : ℕ). seq_in vs p (get_or nodes i 0)) (λ i h.
+      seq-kept (get_or nodes i 0) (F.before i h)) ∙ sym (map-tab (seq_in vs p) c (λ (i : ℕ). get_or nodes i 0))
 
   pub writing-end : {p' : List ℕ} {at i : ℕ} → Writing vs p₁ used start nodes c p' at i → c ≤ i → ChainWritten vs p used start nodes c at p'
   writing-end {p'} {at} {i} W h = let e : i ≡ c = omega (arith, W.high) in record {
-    end = W.end ∙ ap (λ (x : ℕ). used + get_or vs (2 * start + 1) 0 + nodesLength vs nodes x) e;
+    end = W.end ∙ ap (λ (x : ℕ). used + get_or vs (2 * start + 1) 0 + nodes_length vs nodes x) e;
     old = λ k b. W.old k b ∙ C.old k b;
-    is = W.is ∙ ap (λ (x : ℕ). concat (map (seqIn vs p₁) (start ∷ numsIn x nodes))) e ∙ (λ j. concat (seq-kept start F.start-before j ∷ seqs-kept j));
+    is = W.is ∙ ap (λ (x : ℕ). concat (map (seq_in vs p₁) (start ∷ nums_in x nodes))) e ∙ (λ j. concat (seq-kept start F.start-before j ∷ seqs-kept j));
   }

@@ -1,4 +1,4 @@
--- The steps of a merge make `mergeChange`, and there is room for them. Assumes nothing.
+-- The steps of a merge make `merge_change`, and there is room for them. Assumes nothing.
 use mathlib.Core.Path.{◌≡◌, refl, sym, ap, ◌∙◌, subst}
 use mathlib.Core.Bool.{true}
 use mathlib.Core.Option.{some}
@@ -13,33 +13,33 @@ use lib.Seq.{get_or-set_same, get_or-set_other}
 use lib.Dec.{eqb}
 use borrow.Author.Tests.{eqb-true, eqb-false}
 use Rattle.defs.specs.Lists.{concat, head_or, given}
-use Rattle.defs.specs.SeqGraph.{Edge, Graph, Change, nodeCount, vertexSequence, edges_into, edgesFrom, incomingNodes, keeps, newEdge, edgeData}
-use Rattle.defs.specs.SeqGraph.{removeVerticesById, withAdditions, applyChange, addOrUpdateEdges}
-use Rattle.defs.specs.Rewrites.{mergesSuffices, mergeChange, redirectedTo, redirectedFrom, tryMergeCommonSuffices}
-use Rattle.laws.proofs.Walks.{byTest}
+use Rattle.defs.specs.SeqGraph.{Edge, Graph, Change, node_count, vertex_sequence, edges_into, edges_from, incoming_nodes, keeps, new_edge, edge_data}
+use Rattle.defs.specs.SeqGraph.{remove_vertices_by_id, with_additions, apply_change, add_or_update_edges}
+use Rattle.defs.specs.Rewrites.{merges_suffices, merge_change, redirected_to, redirected_from, try_merge_common_suffices}
+use Rattle.laws.proofs.Walks.{by_test}
 use Rattle.laws.proofs.ListLaws.{by_order}
-use Rattle.laws.proofs.Edges.{Linked, of-edgesInto, of-edgesFrom, order-grown}
+use Rattle.laws.proofs.Edges.{Linked, of-edges_into, of-edges_from, order-grown}
 use Rattle.laws.proofs.Counts.{total, total_kept}
 use Rattle.laws.proofs.Changes.{edges-grown}
 use Rattle.laws.proofs.Merge as L
 use Rattle.laws.proofs.Fuel.{Good}
 use Rattle.laws.proofs.Measures.{load, Tame, bytes-is, merge-tame}
-use Rattle.tabs.proofs.Tabs.{length-tab, getD-tab, tab-snoc, tab-ext}
+use Rattle.tabs.proofs.Tabs.{length-tab, get_or-tab, tab-snoc, tab-ext}
 use Rattle.tabs.proofs.ListTabs.{mem-tab, head-tab}
-use Rattle.store.specs.Store.{edgeIn, edgesIn, seqIn, seqsIn, graphIn, numsIn, Within, putVertex}
+use Rattle.store.specs.Store.{edge_in, edges_in, seq_in, seqs_in, graph_in, nums_in, Within, put_vertex}
 use Rattle.store.proofs.VertexLaws.{part-long, seq-at}
 use Rattle.compact.specs.Compact.{Compactable, Removed}
 use Rattle.compact.specs.declared.Counts.{Counts}
 use Rattle.compact.proofs.CompactLaws.{order-in, mem-ends}
 use Rattle.index.specs.Index.{Indexed}
-use Rattle.pool.specs.Pool.{bytesIn, Packable, Packed}
+use Rattle.pool.specs.Pool.{bytes_in, Packable, Packed}
 use Rattle.pool.proofs.PoolLaws.{part_same, packed-seqs, packed-within}
 use Rattle.merge_linear_chain.proofs.JoinLaws.{held_bytes}
-use Rattle.memory.specs.Memory.{graph_of, vertexRoom, edgeRoom, Room, Fit, Holds}
+use Rattle.memory.specs.Memory.{graph_of, vertex_room, edge_room, Room, Fit, Holds}
 use Rattle.memory.specs.declared.Held.{Held}
 use Rattle.memory.proofs.RoomLaws.{fit-vertices, fit-bytes, fit-tame, held-vertices, held-edges, held-pool}
 use Rattle.redirect.proofs.SameLaws.{into-all, from_all}
-use Rattle.merge_suffices.specs.Merge.{MergeWritable, MergeWritten, newInto, mergeEdges, MergeEdgesReady, MergeEdgesDone, Mergeable, Merged}
+use Rattle.merge_suffices.specs.Merge.{MergeWritable, MergeWritten, new_into, merge_edges, MergeEdgesReady, MergeEdgesDone, Mergeable, Merged}
 
 map-concat : {A B : Type 0} (f : A → B) (h : ℕ → List A) (l : List ℕ) → concat (map (λ (v : ℕ). map f (h v)) l) ≡ map f (concat (map h l))
 unfolding concat
@@ -55,21 +55,21 @@ module _ {h : Held} {es vs p heads nexts nodes mp : List ℕ} {c bottom : ℕ}
   good = H.fit.good
 
   abbrev prevs : List ℕ
-  prevs = incomingNodes g bottom
+  prevs = incoming_nodes g bottom
 
   abbrev first : ℕ
   first = get_or nodes 0 0
 
   abbrev change : Change
-  change = mergeChange g bottom prevs
+  change = merge_change g bottom prevs
 
-  order : nodeCount g ≡ h.n
+  order : node_count g ≡ h.n
   order = order-in h.k.0 h.n h.m es vs p
 
-  inside : bottom < nodeCount g
+  inside : bottom < node_count g
   inside = omega (arith, order, M.below)
 
-  n_room : h.n ≤ vertexRoom heads
+  n_room : h.n ≤ vertex_room heads
   n_room = held-vertices H
 
   some-prev : 0 < c
@@ -88,22 +88,22 @@ module _ {h : Held} {es vs p heads nexts nodes mp : List ℕ} {c bottom : ℕ}
 
   first-apart : first ≡ bottom → ⊥
   first-apart q = L.not-bottom g bottom good.0.bounded good.0.rank good.0.ranks inside M.ok
-      (subst (λ (l : List ℕ). Memᴰ bottom l) M.are (subst (λ (x : ℕ). Memᴰ x (numsIn c nodes)) q
+      (subst (λ (l : List ℕ). Memᴰ bottom l) M.are (subst (λ (x : ℕ). Memᴰ x (nums_in c nodes)) q
       (mem-tab c (λ (i : ℕ). get_or nodes i 0) 0 some-prev)))
 
   -- ---- the bytes
 
-  pair-bytes : get_or vs (2 * first + 1) 0 + get_or vs (2 * bottom + 1) 0 ≤ vertexRoom heads
+  pair-bytes : get_or vs (2 * first + 1) 0 + get_or vs (2 * bottom + 1) 0 ≤ vertex_room heads
   pair-bytes =
       let k = total_kept length [] g.verts (first ∷ bottom ∷ []) (λ m. first-apart (Memᴰ.eq_of_singleton m), (λ m. Memᴰ.not-nil m, tt)) below in
       omega (arith, k, bytes-is g.verts, fit-bytes H.fit, sums)
     where
       below : (v : ℕ) → Memᴰ v (first ∷ bottom ∷ []) → v < length g.verts
-      below v m = rw (length-tab h.n (seqIn vs p)) (⊎_elim (λ (e : v ≡ first). rw e first_below) (λ k. let e : v ≡ bottom =
+      below v m = rw (length-tab h.n (seq_in vs p)) (⊎_elim (λ (e : v ≡ first). rw e first_below) (λ k. let e : v ≡ bottom =
           Memᴰ.eq_of_singleton k in rw e M.below) (Memᴰ.cases_cons m))
 
       size : (v : ℕ) → v < h.n → length (get_or g.verts v []) ≡ get_or vs (2 * v + 1) 0
-      size v b = ap length (getD-tab h.n (seqIn vs p) v [] b) ∙ part-long p _ _ ((held-pool H R).at v b)
+      size v b = ap length (get_or-tab h.n (seq_in vs p) v [] b) ∙ part-long p _ _ ((held-pool H R).at v b)
 
       sums : total (λ (v : ℕ). length (get_or g.verts v [])) (first ∷ bottom ∷ []) ≡ get_or vs (2 * first + 1) 0 + get_or vs (2 * bottom + 1) 0
       sums = unfold total in omega (arith, size first first_below, size bottom M.below)
@@ -119,24 +119,24 @@ module _ {h : Held} {es vs p heads nexts nodes mp : List ℕ} {c bottom : ℕ}
 
   -- ---- the edges
 
-  into-is : newInto h.n h.m es nodes c ≡ map (redirectedTo (nodeCount g)) (concat (map (edges_into g) prevs))
+  into-is : new_into h.n h.m es nodes c ≡ map (redirected_to (node_count g)) (concat (map (edges_into g) prevs))
   into-is =
       (λ i. concat (map (λ (v : ℕ). into-all h.n h.k.0 h.n h.m es vs p v i) (M.are i)))
-      ∙ map-concat (redirectedTo h.n) (edges_into g) prevs
-      ∙ ap (λ (x : ℕ). map (redirectedTo x) (concat (map (edges_into g) prevs))) (sym order)
+      ∙ map-concat (redirected_to h.n) (edges_into g) prevs
+      ∙ ap (λ (x : ℕ). map (redirected_to x) (concat (map (edges_into g) prevs))) (sym order)
 
-  pub edges_are : mergeEdges h.n h.m es nodes c bottom ≡ change.edges
-  unfolding mergeChange
+  pub edges_are : merge_edges h.n h.m es nodes c bottom ≡ change.edges
+  unfolding merge_change
   edges_are = λ i. into-is i ++ (from_all h.n h.k.0 h.n h.m es vs p bottom
-      ∙ ap (λ (x : ℕ). map (redirectedFrom x) (edgesFrom g bottom)) (sym order)) i
+      ∙ ap (λ (x : ℕ). map (redirected_from x) (edges_from g bottom)) (sym order)) i
 
   stays : (u v : ℕ) → Linked change.edges u v → (keeps change.gone u ≡ true) × (keeps change.gone v ≡ true)
-  unfolding mergeChange redirectedTo redirectedFrom newEdge edgeData
+  unfolding merge_change redirected_to redirected_from new_edge edge_data
   stays u v (e, m, a, b) = ⊎_elim
-      (λ k. let x = Memᴰ.of_map (redirectedTo (nodeCount g)) (concat (map (edges_into g) prevs)) k in
+      (λ k. let x = Memᴰ.of_map (redirected_to (node_count g)) (concat (map (edges_into g) prevs)) k in
       let y = L.of-mem-flat (edges_into g) prevs x.1 in
-      let d = of-edgesInto g y.0 x.0 y.2 in
-      let i : v ≡ nodeCount g = sym b ∙ sym (ap (λ (e : Edge). e.to) x.2) in (
+      let d = of-edges_into g y.0 x.0 y.2 in
+      let i : v ≡ node_count g = sym b ∙ sym (ap (λ (e : Edge). e.to) x.2) in (
         L.into-kept g bottom good.0.bounded good.0.rank good.0.ranks inside M.ok u y.0 y.1 (
           x.0,
           d.0,
@@ -145,26 +145,26 @@ module _ {h : Held} {es vs p heads nexts nodes mp : List ℕ} {c bottom : ℕ}
         ),
         rw i (L.new-kept g bottom good.0.bounded good.0.rank good.0.ranks inside M.ok),
       ))
-      (λ k. let x = Memᴰ.of_map (redirectedFrom (nodeCount g)) (edgesFrom g bottom) k in
-      let d = of-edgesFrom g bottom x.0 x.1 in
-      let i : u ≡ nodeCount g = sym a ∙ sym (ap (λ (e : Edge). e.from) x.2) in (
+      (λ k. let x = Memᴰ.of_map (redirected_from (node_count g)) (edges_from g bottom) k in
+      let d = of-edges_from g bottom x.0 x.1 in
+      let i : u ≡ node_count g = sym a ∙ sym (ap (λ (e : Edge). e.from) x.2) in (
         rw i (L.new-kept g bottom good.0.bounded good.0.rank good.0.ranks inside M.ok),
         L.out-kept g bottom good.0.bounded good.0.rank good.0.ranks inside M.ok v (x.0, d.0, d.1, ap (λ (e : Edge). e.to) x.2 ∙ b),
       ))
-      (Memᴰ.append_cases (map (redirectedTo (nodeCount g)) (concat (map (edges_into g) prevs))) m)
+      (Memᴰ.append_cases (map (redirected_to (node_count g)) (concat (map (edges_into g) prevs))) m)
 
-  did : tryMergeCommonSuffices g bottom ≡ some (applyChange g change)
-  unfolding tryMergeCommonSuffices mergesSuffices given
+  did : try_merge_common_suffices g bottom ≡ some (apply_change g change)
+  unfolding try_merge_common_suffices merges_suffices given
   did = rw M.ok
 
-  tame : Tame g (applyChange g change) × (nodeCount (applyChange g change) < nodeCount g)
-  tame = merge-tame g (applyChange g change) bottom good did
+  tame : Tame g (apply_change g change) × (node_count (apply_change g change) < node_count g)
+  tame = merge-tame g (apply_change g change) bottom good did
 
-  fit-new : Fit (applyChange g change) heads nexts
+  fit-new : Fit (apply_change g change) heads nexts
   fit-new = fit-tame H.fit tame.0
 
   -- one edge less than the room
-  few-edges : length (withAdditions change g).edges + 1 ≤ 2 * edgeRoom nexts
+  few-edges : length (with_additions change g).edges + 1 ≤ 2 * edge_room nexts
   unfolding load
   few-edges = omega (
     arith,
@@ -173,11 +173,11 @@ module _ {h : Held} {es vs p heads nexts nodes mp : List ℕ} {c bottom : ℕ}
     tame.1,
     fit-vertices H.fit,
     held-edges H,
-    length-tab h.m (edgeIn es),
+    length-tab h.m (edge_in es),
   )
 
-  edges-with : addOrUpdateEdges (mergeEdges h.n h.m es nodes c bottom) (edgesIn h.m es) ≡ (withAdditions change g).edges
-  edges-with = ap (λ (x : List Edge). addOrUpdateEdges x (edgesIn h.m es)) edges_are ∙ unfold withAdditions in refl
+  edges-with : add_or_update_edges (merge_edges h.n h.m es nodes c bottom) (edges_in h.m es) ≡ (with_additions change g).edges
+  edges-with = ap (λ (x : List Edge). add_or_update_edges x (edges_in h.m es)) edges_are ∙ unfold with_additions in refl
 
   pub edges-ready : Indexed h.m h.n es heads nexts → MergeEdgesReady h.n h.m es heads nexts nodes c bottom mp
   edges-ready I = record {
@@ -201,23 +201,23 @@ module _ {h : Held} {es vs p heads nexts nodes mp : List ℕ} {c bottom : ℕ}
     pub end_low : h.used ≤ end
     end_low = omega (arith, W.end)
 
-    pub end-high : end ≤ 2 * vertexRoom heads
+    pub end-high : end ≤ 2 * vertex_room heads
     end-high = omega (arith, W.end, pair-bytes, H.used-room)
 
     abbrev vs₁ : List ℕ
-    vs₁ = putVertex vs h.n h.used (end - h.used)
+    vs₁ = put_vertex vs h.n h.used (end - h.used)
 
     put-start : get_or vs₁ (2 * h.n) 0 ≡ h.used
-    unfolding putVertex
+    unfolding put_vertex
     put-start = get_or-set_other (set vs (2 * h.n) h.used) (2 * h.n + 1) (2 * h.n) _ 0 (λ z. omega arith)
         ∙ get_or-set_same vs (2 * h.n) h.used 0 (omega (arith, put-room))
 
     put-size : get_or vs₁ (2 * h.n + 1) 0 ≡ end - h.used
-    unfolding putVertex
+    unfolding put_vertex
     put-size = get_or-set_same (set vs (2 * h.n) h.used) (2 * h.n + 1) _ 0 (rw (length-set vs (2 * h.n) h.used) (omega (arith, put-room)))
 
     put_other : (v : ℕ) → (v ≡ h.n → ⊥) → (get_or vs₁ (2 * v) 0 ≡ get_or vs (2 * v) 0) × (get_or vs₁ (2 * v + 1) 0 ≡ get_or vs (2 * v + 1) 0)
-    unfolding putVertex
+    unfolding put_vertex
     put_other v ne = (
       get_or-set_other (set vs (2 * h.n) h.used) (2 * h.n + 1) (2 * v) _ 0 (λ z. omega arith)
           ∙ get_or-set_other vs (2 * h.n) (2 * v) _ 0 (λ z. ne (omega arith)),
@@ -225,22 +225,22 @@ module _ {h : Held} {es vs p heads nexts nodes mp : List ℕ} {c bottom : ℕ}
           ∙ get_or-set_other vs (2 * h.n) (2 * v + 1) _ 0 (λ z. omega arith),
     )
 
-    seq-new : seqIn vs₁ p₁ h.n ≡ vertexSequence g (head_or 0 prevs) ++ vertexSequence g bottom
-    seq-new = rw (put-start, put-size) (W.is ∙ sym (λ i. (ap (vertexSequence g) head-is
+    seq-new : seq_in vs₁ p₁ h.n ≡ vertex_sequence g (head_or 0 prevs) ++ vertex_sequence g bottom
+    seq-new = rw (put-start, put-size) (W.is ∙ sym (λ i. (ap (vertex_sequence g) head-is
         ∙ seq-at h.k.0 h.n h.m es vs p first first_below) i ++ seq-at h.k.0 h.n h.m es vs p bottom M.below i))
 
-    seq-old : (v : ℕ) → v < h.n → seqIn vs₁ p₁ v ≡ seqIn vs p v
+    seq-old : (v : ℕ) → v < h.n → seq_in vs₁ p₁ v ≡ seq_in vs p v
     seq-old v b = let z = put_other v (λ e. omega arith) in rw (z.0, z.1)
         (part_same p p₁ (get_or vs (2 * v) 0) (get_or vs (2 * v) 0) (get_or vs (2 * v + 1) 0) ((held-pool H R).at v b)
         (omega (arith, (held-pool H R).at v b, q)) (λ x d. W.old (get_or vs (2 * v) 0 + x) (omega (arith, H.within.at v b))))
 
-    verts-with : seqsIn (h.n + 1) vs₁ p₁ ≡ g.verts ++ change.verts
-    unfolding mergeChange
-    verts-with = tab-snoc h.n (seqIn vs₁ p₁) ∙ (λ i. tab-ext h.n (seqIn vs₁ p₁) (seqIn vs p) seq-old i ++ (seq-new i ∷ []))
+    verts-with : seqs_in (h.n + 1) vs₁ p₁ ≡ g.verts ++ change.verts
+    unfolding merge_change
+    verts-with = tab-snoc h.n (seq_in vs₁ p₁) ∙ (λ i. tab-ext h.n (seq_in vs₁ p₁) (seq_in vs p) seq-old i ++ (seq-new i ∷ []))
 
-    within-with : Within (2 * vertexRoom heads) (h.n + 1) vs₁
+    within-with : Within (2 * vertex_room heads) (h.n + 1) vs₁
     within-with = record {
-      at = λ v b. byTest (eqb v h.n)
+      at = λ v b. by_test (eqb v h.n)
           (λ t. rw (eqb-true v h.n t) (omega (arith, put-start, put-size, end-high, end_low)))
           (λ t. let ne = eqb-false v h.n t in let z = put_other v ne in
           omega (arith, z.0, z.1, H.within.at v (by_order h.n v (λ a. absurd (ne (omega arith))) (λ a. a)), H.used-room));
@@ -249,8 +249,8 @@ module _ {h : Held} {es vs p heads nexts nodes mp : List ℕ} {c bottom : ℕ}
     -- ---- closing up
 
     module _ {k : ℕ} {es₁ : List ℕ} (E : MergeEdgesDone h.n h.m es nodes c bottom k es₁) where
-      k-few : k + 1 ≤ 2 * edgeRoom nexts
-      k-few = omega (arith, length-tab k (edgeIn es₁), ap length (E.is ∙ edges-with), few-edges)
+      k-few : k + 1 ≤ 2 * edge_room nexts
+      k-few = omega (arith, length-tab k (edge_in es₁), ap length (E.is ∙ edges-with), few-edges)
 
       pub merge-compactable : {vs₂ mp₂ : List ℕ} → length es₁ ≡ length es → length vs₂ ≡ length vs → length mp₂ ≡ length mp
           → Compactable (h.n + 1) k es₁ vs₂ mp₂
@@ -259,41 +259,41 @@ module _ {h : Held} {es vs p heads nexts nodes mp : List ℕ} {c bottom : ℕ}
         vs-room = omega (arith, b, put-room);
         mp-room = omega (arith, d, n_room, M.below, R.map-room);
         small = omega (arith, n_room, M.below, R.vertices-edges, R.small);
-        ends = mem-ends (h.n + 1) k es₁ (λ e m. let z = L.boundedG g bottom good.0.bounded good.0.rank good.0.ranks inside
+        ends = mem-ends (h.n + 1) k es₁ (λ e m. let z = L.bounded_g g bottom good.0.bounded good.0.rank good.0.ranks inside
             M.ok e (subst (λ (l : List Edge). Memᴰ e l) (E.is ∙ edges-with) m) in
             (omega (arith, z.0, size), omega (arith, z.1, size)));
       }
         where
-          size : nodeCount (withAdditions change g) ≡ h.n + 1
-          size = order-grown g change ∙ unfold mergeChange in (λ i. order i + 1)
+          size : node_count (with_additions change g) ≡ h.n + 1
+          size = order-grown g change ∙ unfold merge_change in (λ i. order i + 1)
 
       module _ {vs₂ : List ℕ} (put : vs₂ ≡ vs₁) {r : Counts} {es₃ vs₃ mp₃ : List ℕ} (D :
-          Removed (h.n + 1) k es₁ vs₂ (bottom ∷ numsIn c nodes) r es₃ vs₃ mp₃) where
-        removed-is : graphIn h.k.0 r.n r.m es₃ vs₃ p₁ ≡ applyChange g change
-        unfolding applyChange withAdditions
-        removed-is = D.is h.k.0 p₁ ∙ (λ i. removeVerticesById (gone i) record {
+          Removed (h.n + 1) k es₁ vs₂ (bottom ∷ nums_in c nodes) r es₃ vs₃ mp₃) where
+        removed-is : graph_in h.k.0 r.n r.m es₃ vs₃ p₁ ≡ apply_change g change
+        unfolding apply_change with_additions
+        removed-is = D.is h.k.0 p₁ ∙ (λ i. remove_vertices_by_id (gone i) record {
           k = h.k.0;
           verts =
-              (ap (λ (x : List ℕ). seqsIn (h.n + 1) x p₁) put ∙ verts-with) i;
+              (ap (λ (x : List ℕ). seqs_in (h.n + 1) x p₁) put ∙ verts-with) i;
           edges = (E.is ∙ edges-with) i;
         })
           where
-            gone : bottom ∷ numsIn c nodes ≡ change.gone
-            gone = ap (λ (l : List ℕ). bottom ∷ l) M.are ∙ unfold mergeChange in refl
+            gone : bottom ∷ nums_in c nodes ≡ change.gone
+            gone = ap (λ (l : List ℕ). bottom ∷ l) M.are ∙ unfold merge_change in refl
 
-        fit-rest : Fit (graphIn h.k.0 r.n r.m es₃ vs₃ p₁) heads nexts
+        fit-rest : Fit (graph_in h.k.0 r.n r.m es₃ vs₃ p₁) heads nexts
         fit-rest = rw removed-is fit-new
 
-        within-rest : Within (2 * vertexRoom heads) r.n vs₃
-        within-rest = D.within (2 * vertexRoom heads) (rw put within-with)
+        within-rest : Within (2 * vertex_room heads) r.n vs₃
+        within-rest = D.within (2 * vertex_room heads) (rw put within-with)
 
         pool-rest : Within (length p₁) r.n vs₃
         pool-rest = record { at = λ v b. omega (arith, within-rest.at v b, R.p-room, q) }
 
-        bytes_rest : bytesIn r.n vs₃ ≤ vertexRoom heads
+        bytes_rest : bytes_in r.n vs₃ ≤ vertex_room heads
         bytes_rest = omega (arith, fit-bytes fit-rest, held_bytes r.n vs₃ p₁ pool-rest)
 
-        pub merge-packable : {base : ℕ} → base ≡ 2 * vertexRoom heads → length vs₃ ≡ length vs → Packable r.n vs₃ p₁ base
+        pub merge-packable : {base : ℕ} → base ≡ 2 * vertex_room heads → length vs₃ ≡ length vs → Packable r.n vs₃ p₁ base
         merge-packable e b = record {
           vs-room = omega (arith, b, D.most-n, put-room);
           within = rw e within-rest;
@@ -306,8 +306,8 @@ module _ {h : Held} {es vs p heads nexts nodes mp : List ℕ} {c bottom : ℕ}
             → Merged h es vs p heads nexts bottom record { k = h.k; n = r.n; m = r.m; used = used } es₃ vs₄ p₄
         merged {used} {vs₄} {p₄} P b =
             let s = packed-seqs P pool-rest (omega (arith, P.used-is, bytes_rest, R.p-room, q, b)) in
-            let same : graphIn h.k.0 r.n r.m es₃ vs₄ p₄ ≡ graphIn h.k.0 r.n r.m es₃ vs₃ p₁ = λ i.
-            record { k = h.k.0; verts = s i; edges = edgesIn r.m es₃ } in
+            let same : graph_in h.k.0 r.n r.m es₃ vs₄ p₄ ≡ graph_in h.k.0 r.n r.m es₃ vs₃ p₁ = λ i.
+            record { k = h.k.0; verts = s i; edges = edges_in r.m es₃ } in
             record {
               is = same ∙ removed-is;
               holds = record {

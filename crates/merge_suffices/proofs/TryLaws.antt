@@ -8,15 +8,15 @@ use native.Mathlib.Nat.{add-zero}
 use native.Mathlib.Omega.{arith}
 use lib.ListN.{length, get_or}
 use Rattle.defs.specs.Lists.{given}
-use Rattle.defs.specs.SeqGraph.{Graph, incomingNodes}
-use Rattle.defs.specs.Rewrites.{isMerge, mergesSuffices, tryMergeCommonSuffices}
+use Rattle.defs.specs.SeqGraph.{Graph, incoming_nodes}
+use Rattle.defs.specs.Rewrites.{is_merge, merges_suffices, try_merge_common_suffices}
 use Rattle.laws.proofs.ListLaws.{clash}
 use Rattle.laws.proofs.Edges.{of-mem-ins}
 use Rattle.tabs.proofs.ListTabs.{mem-tab}
-use Rattle.store.specs.Store.{numsIn}
+use Rattle.store.specs.Store.{nums_in}
 use Rattle.compact.specs.Compact.{Below}
 use Rattle.compact.proofs.CompactLaws.{order-in}
-use Rattle.index.specs.Index.{edgeEnd, incidentEdges, Indexed, Collected}
+use Rattle.index.specs.Index.{edge_end, incident_edges, Indexed, Collected}
 use Rattle.index.proofs.IndexLaws.{incoming-is}
 use Rattle.memory.specs.Memory.{graph_of, Room, Holds, Left}
 use Rattle.memory.specs.declared.Held.{Held}
@@ -38,8 +38,8 @@ module _ {h : Held} {es vs p heads nexts nodes mp : List ℕ} (R : Room es vs p 
   collect-room = omega (arith, held-edges H, R.nodes-room)
 
   module _ {bottom c : ℕ} {nodes' : List ℕ} (C : Collected 1 h.m es bottom c nodes') (q : length nodes' ≡ length nodes) where
-    pub prevs-are : numsIn c nodes' ≡ incomingNodes g bottom
-    prevs-are = C.is ∙ (λ i. map (λ (e : ℕ). get_or es (add-zero (4 * e) i) 0) (incidentEdges (edgeEnd 1 es) h.m bottom))
+    pub prevs-are : nums_in c nodes' ≡ incoming_nodes g bottom
+    prevs-are = C.is ∙ (λ i. map (λ (e : ℕ). get_or es (add-zero (4 * e) i) 0) (incident_edges (edge_end 1 es) h.m bottom))
         ∙ sym (incoming-is h.k.0 h.n h.m es vs p bottom)
 
     pub prevs-below : Below nodes' c h.n
@@ -51,14 +51,14 @@ module _ {h : Held} {es vs p heads nexts nodes mp : List ℕ} (R : Room es vs p 
     }
 
     module _ {t : Bool} (T : Merges h.n h.m es vs p nodes' c t) where
-      answer : t ≡ isMerge g (incomingNodes g bottom)
-      answer = T.is h.k.0 ∙ ap (isMerge g) prevs-are
+      answer : t ≡ is_merge g (incoming_nodes g bottom)
+      answer = T.is h.k.0 ∙ ap (is_merge g) prevs-are
 
       pub mergeable : bottom < h.n → t ≡ true → Mergeable h es vs p nodes' c bottom
       mergeable b y = record { below = b; prevs = prevs-below; are = prevs-are; ok = sym answer ∙ y }
 
-      pub left_not : t ≡ false → Left (tryMergeCommonSuffices g bottom) h es vs p heads nexts record { done = false; held = h } es vs p
-      unfolding tryMergeCommonSuffices mergesSuffices given
+      pub left_not : t ≡ false → Left (try_merge_common_suffices g bottom) h es vs p heads nexts record { done = false; held = h } es vs p
+      unfolding try_merge_common_suffices merges_suffices given
       left_not y = let z = sym answer ∙ y in record {
         no = λ _. rw z;
         same = λ _. refl;
@@ -70,8 +70,8 @@ module _ {h : Held} {es vs p heads nexts nodes mp : List ℕ} (R : Room es vs p 
       }
 
       pub left-done : {r : Held} {es' vs' p' : List ℕ} → t ≡ true → Merged h es vs p heads nexts bottom r es' vs' p'
-          → Left (tryMergeCommonSuffices g bottom) h es vs p heads nexts record { done = true; held = r } es' vs' p'
-      unfolding tryMergeCommonSuffices mergesSuffices given
+          → Left (try_merge_common_suffices g bottom) h es vs p heads nexts record { done = true; held = r } es' vs' p'
+      unfolding try_merge_common_suffices merges_suffices given
       left-done y D = let z = sym answer ∙ y in record {
         no = λ x. clash refl x;
         same = λ x. clash refl x;

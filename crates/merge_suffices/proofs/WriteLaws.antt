@@ -9,7 +9,7 @@ use lib.ListN.{length, get_or, set, take, drop}
 use lib.Seq.{take-add, drop-drop, get_or-set_same, get_or-set_other}
 use borrow.Author.Tests.{eq-eqb, ne_eqb}
 use Rattle.defs.specs.Lists.{bit, elem_of}
-use Rattle.store.specs.Store.{part, seqIn}
+use Rattle.store.specs.Store.{part, seq_in}
 use Rattle.compact.specs.Compact.{Marked}
 use Rattle.pool.specs.Pool.{Apart, Moved}
 use Rattle.pool.proofs.PoolLaws.{part_same}
@@ -39,11 +39,11 @@ module _ {vs p : List ℕ} {used first bottom : ℕ} (F : MergeWritable vs p use
         size : used + x + y - used ≡ x + y
         size = omega arith
 
-        one : part p₂ used x ≡ seqIn vs p first
+        one : part p₂ used x ≡ seq_in vs p first
         one = part_same p p₂ a used x (omega (arith, F.room, F.first-before)) (omega (arith, F.room, l, k)) (λ i h.
             N.before (used + i) (omega arith) ∙ M.copied i h) ∙ (λ i. part p (qa i) (qx i))
 
-        two : take y (drop x (drop used p₂)) ≡ seqIn vs p bottom
+        two : take y (drop x (drop used p₂)) ≡ seq_in vs p bottom
         two = ap (take y) (drop-drop x used p₂) ∙ part_same p p₂ b (used + x) y (omega (arith, F.room, F.bottom-before))
             (omega (arith, F.room, l, k)) (λ i h. N.copied i h ∙ M.before (b + i) (omega (arith, F.bottom-before)))
             ∙ (λ i. part p (qb i) (qy i))

@@ -1,14 +1,14 @@
 -- When the predecessors of a vertex merge with it, and what merging does to the slices. Assumes nothing.
 use Rattle.std.specs.Prelude.{◌≡◌, Bool, true, ◌&&◌, List, ◌++◌, map, ℕ, ◌+◌, ◌*◌, ◌-◌, ◌≤◌, ◌<◌, length, get_or, eqb, ltb}
 use Rattle.defs.specs.Lists.{same_list, concat}
-use Rattle.defs.specs.SeqGraph.{Edge, incomingNodes, applyChange, addOrUpdateEdges}
-use Rattle.defs.specs.Rewrites.{isMerge, mergeChange}
-use Rattle.store.specs.Store.{part, seqIn, edgeIn, edgesIn, graphIn, numsIn, Within}
+use Rattle.defs.specs.SeqGraph.{Edge, incoming_nodes, apply_change, add_or_update_edges}
+use Rattle.defs.specs.Rewrites.{is_merge, merge_change}
+use Rattle.store.specs.Store.{part, seq_in, edge_in, edges_in, graph_in, nums_in, Within}
 use Rattle.compact.specs.Compact.{Below}
-use Rattle.index.specs.Index.{edgeEnd, incidentEdges, Indexed}
+use Rattle.index.specs.Index.{edge_end, incident_edges, Indexed}
 use Rattle.memory.specs.Memory.{graph_of, Holds}
 use Rattle.memory.specs.declared.Held.{Held}
-use Rattle.redirect.specs.Redirect.{redirectedAll, EdgeMarks}
+use Rattle.redirect.specs.Redirect.{redirected_all, EdgeMarks}
 
 -- the sequences of u and v are in the pool
 pub record Comparable (vs p : List ℕ) (u v : ℕ) : Type 0 where
@@ -18,9 +18,9 @@ pub record Comparable (vs p : List ℕ) (u v : ℕ) : Type 0 where
   pub v-pool : get_or vs (2 * v) 0 + get_or vs (2 * v + 1) 0 ≤ length p
 
 -- v has the bytes of `first`, one follower and a predecessor
-abbrev pub isPrev : ℕ → List ℕ → List ℕ → List ℕ → ℕ → ℕ → Bool
-isPrev m es vs p first v =
-    same_list (seqIn vs p v) (seqIn vs p first) && (eqb (length (incidentEdges (edgeEnd 0 es) m v)) 1 && ltb 0 (length (incidentEdges (edgeEnd 1 es) m v)))
+abbrev pub is_prev : ℕ → List ℕ → List ℕ → List ℕ → ℕ → ℕ → Bool
+is_prev m es vs p first v =
+    same_list (seq_in vs p v) (seq_in vs p first) && (eqb (length (incident_edges (edge_end 0 es) m v)) 1 && ltb 0 (length (incident_edges (edge_end 1 es) m v)))
 
 pub record MergeTestable (n m : ℕ) (es vs p heads nexts : List ℕ) : Type 0 where
   pub indexed : Indexed m n es heads nexts
@@ -29,7 +29,7 @@ pub record MergeTestable (n m : ℕ) (es vs p heads nexts : List ℕ) : Type 0 w
 
 -- the answer is the definition's, whatever k
 pub record Merges (n m : ℕ) (es vs p nodes : List ℕ) (c : ℕ) (r : Bool) : Type 0 where
-  pub is : (k : ℕ) → r ≡ isMerge (graphIn k n m es vs p) (numsIn c nodes)
+  pub is : (k : ℕ) → r ≡ is_merge (graph_in k n m es vs p) (nums_in c nodes)
 
 -- the two sequences are before `used`, and there is room for both behind
 pub record MergeWritable (vs p : List ℕ) (used first bottom : ℕ) : Type 0 where
@@ -42,30 +42,30 @@ pub record MergeWritable (vs p : List ℕ) (used first bottom : ℕ) : Type 0 wh
 pub record MergeWritten (vs p : List ℕ) (used first bottom r : ℕ) (p' : List ℕ) : Type 0 where
   pub end : r ≡ used + get_or vs (2 * first + 1) 0 + get_or vs (2 * bottom + 1) 0
   pub old : (k : ℕ) → k < used → get_or p' k 0 ≡ get_or p k 0
-  pub is : part p' used (r - used) ≡ seqIn vs p first ++ seqIn vs p bottom
+  pub is : part p' used (r - used) ≡ seq_in vs p first ++ seq_in vs p bottom
 
 -- the edges into the predecessors, entering the new vertex n, and all its new edges
-abbrev pub newInto : ℕ → ℕ → List ℕ → List ℕ → ℕ → List Edge
-newInto n m es nodes c = concat (map (redirectedAll 1 n m es) (numsIn c nodes))
+abbrev pub new_into : ℕ → ℕ → List ℕ → List ℕ → ℕ → List Edge
+new_into n m es nodes c = concat (map (redirected_all 1 n m es) (nums_in c nodes))
 
-abbrev pub mergeEdges : ℕ → ℕ → List ℕ → List ℕ → ℕ → ℕ → List Edge
-mergeEdges n m es nodes c bottom = newInto n m es nodes c ++ redirectedAll 0 n m es bottom
+abbrev pub merge_edges : ℕ → ℕ → List ℕ → List ℕ → ℕ → ℕ → List Edge
+merge_edges n m es nodes c bottom = new_into n m es nodes c ++ redirected_all 0 n m es bottom
 
 -- there is room for the new edges, and for one more
 pub record RoomToMerge (ns : List Edge) (n m : ℕ) (es : List ℕ) : Type 0 where
-  pub room : 4 * length (addOrUpdateEdges ns (edgesIn m es)) + 4 ≤ length es
-  pub small : length (addOrUpdateEdges ns (edgesIn m es)) + 1 < 4294967296
+  pub room : 4 * length (add_or_update_edges ns (edges_in m es)) + 4 ≤ length es
+  pub small : length (add_or_update_edges ns (edges_in m es)) + 1 < 4294967296
   pub n-small : n < 4294967296
 
 pub record IntoReady (n m : ℕ) (es heads nexts nodes : List ℕ) (c : ℕ) (mp : List ℕ) : Type 0 where
   pub indexed : Indexed m n es heads nexts
   pub prevs : Below nodes c n
   pub marks : EdgeMarks 1 n n m m es mp
-  pub roomy : RoomToMerge (newInto n m es nodes c) n m es
+  pub roomy : RoomToMerge (new_into n m es nodes c) n m es
 
 pub record IntoDone (n m : ℕ) (es nodes : List ℕ) (c k : ℕ) (es' mp' : List ℕ) : Type 0 where
-  pub is : edgesIn k es' ≡ addOrUpdateEdges (newInto n m es nodes c) (edgesIn m es)
-  pub old : (j : ℕ) → j < m → edgeIn es' j ≡ edgeIn es j
+  pub is : edges_in k es' ≡ add_or_update_edges (new_into n m es nodes c) (edges_in m es)
+  pub old : (j : ℕ) → j < m → edge_in es' j ≡ edge_in es j
   pub marks : EdgeMarks 1 n n m k es' mp'
 
 pub record MergeEdgesReady (n m : ℕ) (es heads nexts nodes : List ℕ) (c bottom : ℕ) (mp : List ℕ) : Type 0 where
@@ -73,18 +73,18 @@ pub record MergeEdgesReady (n m : ℕ) (es heads nexts nodes : List ℕ) (c bott
   pub prevs : Below nodes c n
   pub below : bottom < n
   pub mp-room : n ≤ length mp
-  pub roomy : RoomToMerge (mergeEdges n m es nodes c bottom) n m es
+  pub roomy : RoomToMerge (merge_edges n m es nodes c bottom) n m es
 
 pub record MergeEdgesDone (n m : ℕ) (es nodes : List ℕ) (c bottom k : ℕ) (es' : List ℕ) : Type 0 where
-  pub is : edgesIn k es' ≡ addOrUpdateEdges (mergeEdges n m es nodes c bottom) (edgesIn m es)
+  pub is : edges_in k es' ≡ add_or_update_edges (merge_edges n m es nodes c bottom) (edges_in m es)
 
 -- the first c of the nodes are the predecessors of the bottom, and they merge with it
 pub record Mergeable (h : Held) (es vs p nodes : List ℕ) (c bottom : ℕ) : Type 0 where
   pub below : bottom < h.n
   pub prevs : Below nodes c h.n
-  pub are : numsIn c nodes ≡ incomingNodes (graph_of h es vs p) bottom
-  pub ok : isMerge (graph_of h es vs p) (incomingNodes (graph_of h es vs p) bottom) ≡ true
+  pub are : nums_in c nodes ≡ incoming_nodes (graph_of h es vs p) bottom
+  pub ok : is_merge (graph_of h es vs p) (incoming_nodes (graph_of h es vs p) bottom) ≡ true
 
 pub record Merged (h : Held) (es vs p heads nexts : List ℕ) (bottom : ℕ) (r : Held) (es' vs' p' : List ℕ) : Type 0 where
-  pub is : graph_of r es' vs' p' ≡ applyChange (graph_of h es vs p) (mergeChange (graph_of h es vs p) bottom (incomingNodes (graph_of h es vs p) bottom))
+  pub is : graph_of r es' vs' p' ≡ apply_change (graph_of h es vs p) (merge_change (graph_of h es vs p) bottom (incoming_nodes (graph_of h es vs p) bottom))
   pub holds : Holds r es' vs' p' heads nexts

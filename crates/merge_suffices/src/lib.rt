@@ -1,12 +1,12 @@
 // Predecessors of equal bytes join with the vertex that follows them all (`try_merge_common_suffices`).
 ghost use Rattle.std.specs.Prelude.{◌≡◌, ◌∷◌, ◌+◌, ◌*◌, ◌<◌, ◌≤◌, length, get_or};
 ghost use Rattle.defs.specs.Lists.{all_of, same_list};
-ghost use Rattle.defs.specs.Rewrites.{tryMergeCommonSuffices};
-ghost use Rattle.store.specs.Store.{seqIn, numsIn};
+ghost use Rattle.defs.specs.Rewrites.{try_merge_common_suffices};
+ghost use Rattle.store.specs.Store.{seq_in, nums_in};
 ghost use Rattle.compact.specs.Compact.{Below, Compactable, Removed};
 ghost use Rattle.index.specs.Index.{Indexed};
 ghost use Rattle.memory.specs.Memory.{Room, Holds, Left, graph_of};
-ghost use Rattle.merge_suffices.specs.Merge.{Comparable, isPrev, MergeTestable, Merges, MergeWritable, MergeWritten, IntoReady, IntoDone, MergeEdgesReady, MergeEdgesDone, Mergeable, Merged};
+ghost use Rattle.merge_suffices.specs.Merge.{Comparable, is_prev, MergeTestable, Merges, MergeWritable, MergeWritten, IntoReady, IntoDone, MergeEdgesReady, MergeEdgesDone, Mergeable, Merged};
 
 use compact::Counts;
 use memory::{Held, Tried};
@@ -14,7 +14,7 @@ use memory::{Held, Tried};
 // Whether u and v have the same sequence.
 fn same_sequence(vs: &[u32], p: &[u8], u: u32, v: u32) -> bool
     requires { Comparable vs.now p.now u v }
-    ensures { result ≡ same_list (seqIn vs.now p.now u) (seqIn vs.now p.now v) }
+    ensures { result ≡ same_list (seq_in vs.now p.now u) (seq_in vs.now p.now v) }
 {
     let n = store::vertex_len(vs, u);
     if n != store::vertex_len(vs, v) {
@@ -36,7 +36,7 @@ fn is_prev(
     v: u32,
 ) -> bool
     requires { (first < n) × ((v < n) × MergeTestable n m es.now vs.now p.now heads.now nexts.now) }
-    ensures { result ≡ isPrev m es.now vs.now p.now first v }
+    ensures { result ≡ is_prev m es.now vs.now p.now first v }
 {
     if !same_sequence(vs, p, v, first) {
         return false;
@@ -60,8 +60,8 @@ fn all_prevs(
     c: usize,
 ) -> bool
     requires { Below nodes.now c n × MergeTestable n m es.now vs.now p.now heads.now nexts.now }
-    ensures { result ≡ all_of (isPrev m es.now vs.now p.now (get_or nodes.now 0 0))
-        (numsIn c nodes.now) }
+    ensures { result ≡ all_of (is_prev m es.now vs.now p.now (get_or nodes.now 0 0))
+        (nums_in c nodes.now) }
 {
     let mut i = 0;
     while i < c {
@@ -165,7 +165,7 @@ fn remove_merged(
     map: &mut [u32],
 ) -> Counts
     requires { Compactable n m es.old vs.old map.old × (Below nodes.now c n × (bottom < n)) }
-    ensures { Removed n m es.old vs.old (bottom ∷ numsIn c nodes.now) result es.new
+    ensures { Removed n m es.old vs.old (bottom ∷ nums_in c nodes.now) result es.new
         vs.new map.new }
 {
     compact::mark_gone(map, n, nodes, c);
@@ -227,7 +227,7 @@ pub fn try_merge_common_suffices(
     requires { Room es.old vs.old p.old heads.now nexts.now nodes.old map.old
         × (Holds held es.old vs.old p.old heads.now nexts.now
         × (Indexed held.m held.n es.old heads.now nexts.now × (bottom < held.n))) }
-    ensures { Left (tryMergeCommonSuffices (graph_of held es.old vs.old p.old) bottom) held
+    ensures { Left (try_merge_common_suffices (graph_of held es.old vs.old p.old) bottom) held
         es.old vs.old p.old heads.now nexts.now result es.new vs.new
         p.new }
 {

@@ -5,13 +5,13 @@ use mathlib.Core.List.{List, [], ◌∷◌, Memᴰ}
 use Prim.Native.Nat.{ℕ, zero, suc, ◌≤◌, ◌<◌}
 use native.Mathlib.Omega.{arith}
 use lib.ListN.{length}
-use Rattle.defs.specs.Lists.{keepIf, any_of, elem_of, up_from}
-use Rattle.defs.specs.SeqGraph.{Edge, Graph, nodeCount}
-use Rattle.defs.specs.Cleanup.{forward, grow, reached, leadsToSource, leadsFromSink, withoutNonRefEdges, cleanBetween, cleanNonRefPaths}
-use Rattle.defs.specs.Cleanup.{removeSingletonOrphanVertices}
-use Rattle.laws.proofs.Walks.{byTest}
-use Rattle.laws.proofs.ListLaws.{keepIf-yes, keepIf-no, keepIf-same}
-use Rattle.store.specs.Store.{edgesIn, graphIn, EndsBelow}
+use Rattle.defs.specs.Lists.{keep_if, any_of, elem_of, up_from}
+use Rattle.defs.specs.SeqGraph.{Edge, Graph, node_count}
+use Rattle.defs.specs.Cleanup.{forward, grow, reached, leads_to_source, leads_from_sink, without_non_ref_edges, clean_between, clean_non_ref_paths}
+use Rattle.defs.specs.Cleanup.{remove_singleton_orphan_vertices}
+use Rattle.laws.proofs.Walks.{by_test}
+use Rattle.laws.proofs.ListLaws.{keep_if-yes, keep_if-no, keep_if-same}
+use Rattle.store.specs.Store.{edges_in, graph_in, EndsBelow}
 use Rattle.compact.specs.Compact.{Compactable}
 use Rattle.compact.proofs.CompactLaws.{ends-mem}
 use Rattle.index.specs.Index.{Indexed, Indexable, end_at}
@@ -21,13 +21,13 @@ use Rattle.refs.specs.Refs.{FirstSource, FirstSink}
 use Rattle.refs.specs.declared.OptionVertex.{OptionVertex}
 use Rattle.refs.specs.declared.OptionVertex.TheVariants.{Some, None}
 use Rattle.refs.proofs.RefLaws.{source-found, source-missing, sink-found, sink-missing}
-use Rattle.reach.specs.Reach.{step_of, walkStep, Reached}
+use Rattle.reach.specs.Reach.{step_of, walk_step, Reached}
 use Rattle.orphans.specs.Orphans.{Reduced}
-use Rattle.non_ref_paths.specs.CleanNonRef.{staysBy, leads, EdgesKept, EdgesDropped}
+use Rattle.non_ref_paths.specs.CleanNonRef.{stays_by, leads, EdgesKept, EdgesDropped}
 
 -- ---- the marks say which edges go
 
-end_below : (off n m : ℕ) (es : List ℕ) → EndsBelow n m es → (e : Edge) → Memᴰ e (edgesIn m es) → end_at off e < n
+end_below : (off n m : ℕ) (es : List ℕ) → EndsBelow n m es → (e : Edge) → Memᴰ e (edges_in m es) → end_at off e < n
 unfolding end_at
 end_below zero n m es E e k = (ends-mem E e k).0
 end_below (suc off) n m es E e k = (ends-mem E e k).1
@@ -37,11 +37,11 @@ pub dropped : {kind m n : ℕ} {es : List ℕ} {s : ℕ} {marks : List ℕ} {r :
 dropped {kind} {m} {n} {es} {s} {marks} E R K = record {
   most = K.most;
   is = λ k vs p. K.is
-      ∙ keepIf-same (staysBy kind marks) (λ (e : Edge). not (leads kind (graphIn k n m es vs p) s e)) (edgesIn m es) (same k vs p);
+      ∙ keep_if-same (stays_by kind marks) (λ (e : Edge). not (leads kind (graph_in k n m es vs p) s e)) (edges_in m es) (same k vs p);
 }
   where
-    same : (k : ℕ) (vs p : List ℕ) (e : Edge) → Memᴰ e (edgesIn m es) → staysBy kind marks e ≡ not (leads kind (graphIn k n m es vs p) s e)
-    same k vs p e i = unfold staysBy leads in (ap (λ (b : Bool). not (not e.isRef && b)) (R.at k vs p (end_at kind e) (end_below kind n m es E e i)))
+    same : (k : ℕ) (vs p : List ℕ) (e : Edge) → Memᴰ e (edges_in m es) → stays_by kind marks e ≡ not (leads kind (graph_in k n m es vs p) s e)
+    same k vs p e i = unfold stays_by leads in (ap (λ (b : Bool). not (not e.is_ref && b)) (R.at k vs p (end_at kind e) (end_below kind n m es E e i)))
 
 pub kept-indexable : {off m n : ℕ} {es marks : List ℕ} {r : ℕ} {es' heads nexts : List ℕ} → Indexed m n es heads nexts → m < 4294967296
     → EdgesKept off n m es marks r es' → length es' ≡ length es → Indexable r n es' heads nexts
@@ -56,18 +56,18 @@ kept-indexable X s K a = record {
 
 -- ---- a walk in what is left of the edges
 
-keepIf-keepIf : {A : Type 0} (p q : A → Bool) (l : List A) → keepIf q (keepIf p l) ≡ keepIf (λ x. p x && q x) l
-unfolding keepIf
-keepIf-keepIf p q [] = refl
-keepIf-keepIf p q (x ∷ l) = byTest (p x)
-    (λ t. ap (keepIf q) (keepIf-yes p x l t) ∙ byTest (q x)
-    (λ u. keepIf-yes q x (keepIf p l) u ∙ ap (λ r. x ∷ r) (keepIf-keepIf p q l) ∙ sym (keepIf-yes (λ y. p y && q y) x l (rw t u)))
-    (λ u. keepIf-no q x (keepIf p l) u ∙ keepIf-keepIf p q l ∙ sym (keepIf-no (λ y. p y && q y) x l (rw t u))))
-    (λ t. ap (keepIf q) (keepIf-no p x l t) ∙ keepIf-keepIf p q l ∙ sym (keepIf-no (λ y. p y && q y) x l (rw t)))
+keep_if-keep_if : {A : Type 0} (p q : A → Bool) (l : List A) → keep_if q (keep_if p l) ≡ keep_if (λ x. p x && q x) l
+unfolding keep_if
+keep_if-keep_if p q [] = refl
+keep_if-keep_if p q (x ∷ l) = by_test (p x)
+    (λ t. ap (keep_if q) (keep_if-yes p x l t) ∙ by_test (q x)
+    (λ u. keep_if-yes q x (keep_if p l) u ∙ ap (λ r. x ∷ r) (keep_if-keep_if p q l) ∙ sym (keep_if-yes (λ y. p y && q y) x l (rw t u)))
+    (λ u. keep_if-no q x (keep_if p l) u ∙ keep_if-keep_if p q l ∙ sym (keep_if-no (λ y. p y && q y) x l (rw t u))))
+    (λ t. ap (keep_if q) (keep_if-no p x l t) ∙ keep_if-keep_if p q l ∙ sym (keep_if-no (λ y. p y && q y) x l (rw t)))
 
 any-cons : {A : Type 0} (p : A → Bool) (x : A) (l : List A) → any_of p (x ∷ l) ≡ (p x || any_of p l)
 unfolding any_of
-any-cons p x l = byTest (p x) (λ t. rw (t, any_of)) (λ t. rw (t, any_of))
+any-cons p x l = by_test (p x) (λ t. rw (t, any_of)) (λ t. rw (t, any_of))
 
 any_none : {A : Type 0} (l : List A) → any_of (λ (x : A). false) l ≡ false
 unfolding any_of
@@ -81,18 +81,18 @@ module _ (q : Edge → Bool) (step step' : Edge → ℕ → ℕ → Bool) (is : 
   shut-same : (e : Edge) (v : ℕ) (seen : List ℕ) → q e ≡ false → any_of (λ u. step' e u v) seen ≡ false
   shut-same e v seen t = ap (λ f. any_of f seen) (λ i u. (is e u v ∙ ap (λ (b : Bool). b && step e u v) t) i) ∙ any_none seen
 
-  any-kept : (v : ℕ) (seen : List ℕ) (l : List Edge) → any_of (λ e. any_of (λ u. step e u v) seen) (keepIf q l) ≡ any_of (λ e. any_of (λ u. step' e u v) seen) l
-  unfolding keepIf any_of
+  any-kept : (v : ℕ) (seen : List ℕ) (l : List Edge) → any_of (λ e. any_of (λ u. step e u v) seen) (keep_if q l) ≡ any_of (λ e. any_of (λ u. step' e u v) seen) l
+  unfolding keep_if any_of
   any-kept v seen [] = refl
-  any-kept v seen (e ∷ l) = byTest (q e)
-      (λ t. ap (any_of (λ e. any_of (λ u. step e u v) seen)) (keepIf-yes q e l t) ∙ any-cons (λ e. any_of (λ u. step e u v) seen) e (keepIf q l)
+  any-kept v seen (e ∷ l) = by_test (q e)
+      (λ t. ap (any_of (λ e. any_of (λ u. step e u v) seen)) (keep_if-yes q e l t) ∙ any-cons (λ e. any_of (λ u. step e u v) seen) e (keep_if q l)
       ∙ (λ i. sym (open-same e v seen t) i || any-kept v seen l i) ∙ sym (any-cons (λ e. any_of (λ u. step' e u v) seen) e l))
-      (λ t. ap (any_of (λ e. any_of (λ u. step e u v) seen)) (keepIf-no q e l t) ∙ any-kept v seen l
+      (λ t. ap (any_of (λ e. any_of (λ u. step e u v) seen)) (keep_if-no q e l t) ∙ any-kept v seen l
       ∙ sym (any-cons (λ e. any_of (λ u. step' e u v) seen) e l ∙ ap (λ (b : Bool). b || any_of (λ e. any_of (λ u. step' e u v) seen) l) (shut-same e v seen t)))
 
-  module _ (g g' : Graph) (verts-same : g'.verts ≡ g.verts) (edges-kept : g'.edges ≡ keepIf q g.edges) where
-    count_same : nodeCount g' ≡ nodeCount g
-    unfolding nodeCount
+  module _ (g g' : Graph) (verts-same : g'.verts ≡ g.verts) (edges-kept : g'.edges ≡ keep_if q g.edges) where
+    count_same : node_count g' ≡ node_count g
+    unfolding node_count
     count_same = ap length verts-same
 
     grow-kept : (n : ℕ) (seen : List ℕ) → grow step g' n seen ≡ grow step' g n seen
@@ -103,13 +103,13 @@ module _ (q : Edge → Bool) (step step' : Edge → ℕ → ℕ → Bool) (is : 
         found : (v : ℕ) → any_of (λ e. any_of (λ u. step e u v) seen) g'.edges ≡ any_of (λ e. any_of (λ u. step' e u v) seen) g.edges
         found v = ap (any_of (λ e. any_of (λ u. step e u v) seen)) edges-kept ∙ any-kept v seen g.edges
 
-        more : keepIf (λ v. elem_of v seen || any_of (λ e. any_of (λ u. step e u v) seen) g'.edges) (up_from 0 (nodeCount g'))
-            ≡ keepIf (λ v. elem_of v seen || any_of (λ e. any_of (λ u. step' e u v) seen) g.edges) (up_from 0 (nodeCount g))
-        more = λ i. keepIf (λ v. elem_of v seen || found v i) (up_from 0 (count_same i))
+        more : keep_if (λ v. elem_of v seen || any_of (λ e. any_of (λ u. step e u v) seen) g'.edges) (up_from 0 (node_count g'))
+            ≡ keep_if (λ v. elem_of v seen || any_of (λ e. any_of (λ u. step' e u v) seen) g.edges) (up_from 0 (node_count g))
+        more = λ i. keep_if (λ v. elem_of v seen || found v i) (up_from 0 (count_same i))
 
     pub reached-kept : (s : ℕ) → reached step g' s ≡ reached step' g s
     unfolding reached
-    reached-kept s = ap (λ (n : ℕ). grow step g' n (s ∷ [])) count_same ∙ grow-kept (nodeCount g) (s ∷ [])
+    reached-kept s = ap (λ (n : ℕ). grow step g' n (s ∷ [])) count_same ∙ grow-kept (node_count g) (s ∷ [])
 
 -- ---- both walks
 
@@ -122,33 +122,33 @@ both : (a f c : Bool) → (not a && not (f && c)) ≡ not (a || (f && (not a && 
 both true f c = refl
 both false f c = refl
 
-module _ (g g₁ : Graph) (s t : ℕ) (verts-same : g₁.verts ≡ g.verts) (edges-kept : g₁.edges ≡ keepIf (λ (e : Edge). not (leads 1 g s e)) g.edges) where
-  to-source : (e : Edge) → leads 1 g s e ≡ leadsToSource g s e
-  unfolding leads leadsToSource end_at walkStep step_of
+module _ (g g₁ : Graph) (s t : ℕ) (verts-same : g₁.verts ≡ g.verts) (edges-kept : g₁.edges ≡ keep_if (λ (e : Edge). not (leads 1 g s e)) g.edges) where
+  to-source : (e : Edge) → leads 1 g s e ≡ leads_to_source g s e
+  unfolding leads leads_to_source end_at walk_step step_of
   to-source e = refl
 
-  sink-walk : reached (walkStep true 0) g₁ t ≡ reached (λ (d : Edge) (u v : ℕ). not d.isRef && (not (leadsToSource g s d) && forward d u v)) g t
-  sink-walk = reached-kept (λ (e : Edge). not (leads 1 g s e)) (walkStep true 0) (λ (d : Edge) (u v : ℕ). not d.isRef
-      && (not (leadsToSource g s d) && forward d u v)) steps g g₁ verts-same edges-kept t
+  sink-walk : reached (walk_step true 0) g₁ t ≡ reached (λ (d : Edge) (u v : ℕ). not d.is_ref && (not (leads_to_source g s d) && forward d u v)) g t
+  sink-walk = reached-kept (λ (e : Edge). not (leads 1 g s e)) (walk_step true 0) (λ (d : Edge) (u v : ℕ). not d.is_ref
+      && (not (leads_to_source g s d) && forward d u v)) steps g g₁ verts-same edges-kept t
     where
-      steps : (e : Edge) (u v : ℕ) → (not e.isRef && (not (leadsToSource g s e) && forward e u v)) ≡ (not (leads 1 g s e) && walkStep true 0 e u v)
-      steps e u v = unfold walkStep step_of in (swap (not e.isRef) (leadsToSource g s e) (forward e u v)
-          ∙ ap (λ (b : Bool). not b && (not e.isRef && forward e u v)) (sym (to-source e)))
+      steps : (e : Edge) (u v : ℕ) → (not e.is_ref && (not (leads_to_source g s e) && forward e u v)) ≡ (not (leads 1 g s e) && walk_step true 0 e u v)
+      steps e u v = unfold walk_step step_of in (swap (not e.is_ref) (leads_to_source g s e) (forward e u v)
+          ∙ ap (λ (b : Bool). not b && (not e.is_ref && forward e u v)) (sym (to-source e)))
 
-  stays-both : (e : Edge) → (not (leads 1 g s e) && not (leads 0 g₁ t e)) ≡ not (leadsToSource g s e || leadsFromSink g s t e)
-  unfolding leadsFromSink leads end_at
+  stays-both : (e : Edge) → (not (leads 1 g s e) && not (leads 0 g₁ t e)) ≡ not (leads_to_source g s e || leads_from_sink g s t e)
+  unfolding leads_from_sink leads end_at
   stays-both e =
       ap (λ (b : Bool). not b && not (leads 0 g₁ t e)) (to-source e)
-      ∙ ap (λ (l : List ℕ). not (leadsToSource g s e) && not (not e.isRef && elem_of e.from l)) sink-walk
-      ∙ both (leadsToSource g s e) (not e.isRef) (elem_of e.from
-      (reached (λ (d : Edge) (u v : ℕ). not d.isRef && (not (leadsToSource g s d) && forward d u v)) g t))
+      ∙ ap (λ (l : List ℕ). not (leads_to_source g s e) && not (not e.is_ref && elem_of e.from l)) sink-walk
+      ∙ both (leads_to_source g s e) (not e.is_ref) (elem_of e.from
+      (reached (λ (d : Edge) (u v : ℕ). not d.is_ref && (not (leads_to_source g s d) && forward d u v)) g t))
 
-  pub both-walks : keepIf (λ (e : Edge). not (leads 0 g₁ t e)) g₁.edges
-      ≡ keepIf (λ (e : Edge). not (leadsToSource g s e || leadsFromSink g s t e)) g.edges
+  pub both-walks : keep_if (λ (e : Edge). not (leads 0 g₁ t e)) g₁.edges
+      ≡ keep_if (λ (e : Edge). not (leads_to_source g s e || leads_from_sink g s t e)) g.edges
   both-walks =
-      ap (keepIf (λ (e : Edge). not (leads 0 g₁ t e))) edges-kept
-      ∙ keepIf-keepIf (λ (e : Edge). not (leads 1 g s e)) (λ (e : Edge). not (leads 0 g₁ t e)) g.edges
-      ∙ ap (λ (f : Edge → Bool). keepIf f g.edges) (λ i e. stays-both e i)
+      ap (keep_if (λ (e : Edge). not (leads 0 g₁ t e))) edges-kept
+      ∙ keep_if-keep_if (λ (e : Edge). not (leads 1 g s e)) (λ (e : Edge). not (leads 0 g₁ t e)) g.edges
+      ∙ ap (λ (f : Edge → Bool). keep_if f g.edges) (λ i e. stays-both e i)
 
 -- ---- in slices
 
@@ -156,12 +156,12 @@ module _ (h : Held) (s t : ℕ) {es es₁ es₂ : List ℕ} {a b : ℕ} (A : Edg
   abbrev left : Held
   left = record { k = h.k; n = h.n; m = b; used = h.used }
 
-  pub left_is : (vs p : List ℕ) → graph_of left es₂ vs p ≡ withoutNonRefEdges (graph_of h es vs p) s t
-  unfolding withoutNonRefEdges
+  pub left_is : (vs p : List ℕ) → graph_of left es₂ vs p ≡ without_non_ref_edges (graph_of h es vs p) s t
+  unfolding without_non_ref_edges
   left_is vs p = λ i. record {
     k = h.k.0;
     verts = (graph_of h es vs p).verts;
-    edges = (B.is h.k.0 vs p ∙ both-walks (graph_of h es vs p) (graphIn h.k.0 h.n a es₁ vs p) s t refl (A.is h.k.0 vs p)) i;
+    edges = (B.is h.k.0 vs p ∙ both-walks (graph_of h es vs p) (graph_in h.k.0 h.n a es₁ vs p) s t refl (A.is h.k.0 vs p)) i;
   }
 
   pub left-compactable : {vs mp : List ℕ} → Compactable h.n h.m es vs mp → length es₂ ≡ length es → EndsBelow h.n b es₂
@@ -174,10 +174,10 @@ module _ (h : Held) (s t : ℕ) {es es₁ es₂ : List ℕ} {a b : ℕ} (A : Edg
     ends = E;
   }
 
-  pub between-reduced : {vs : List ℕ} {r : Held} {es₃ vs₃ : List ℕ} {l : Held} → l ≡ left → Reduced removeSingletonOrphanVertices l es₂ vs r es₃ vs₃
-      → Reduced (λ (g : Graph). removeSingletonOrphanVertices (withoutNonRefEdges g s t)) h es vs r es₃ vs₃
+  pub between-reduced : {vs : List ℕ} {r : Held} {es₃ vs₃ : List ℕ} {l : Held} → l ≡ left → Reduced remove_singleton_orphan_vertices l es₂ vs r es₃ vs₃
+      → Reduced (λ (g : Graph). remove_singleton_orphan_vertices (without_non_ref_edges g s t)) h es vs r es₃ vs₃
   between-reduced {vs} q R = let R' = rw q at R in record {
-    is = λ p. R'.is p ∙ ap removeSingletonOrphanVertices (left_is vs p);
+    is = λ p. R'.is p ∙ ap remove_singleton_orphan_vertices (left_is vs p);
     most-n = R'.most-n;
     most-m = omega (arith, R'.most-m, A.most, B.most);
     ends = R'.ends;
@@ -188,20 +188,20 @@ module _ (h : Held) (s t : ℕ) {es es₁ es₂ : List ℕ} {a b : ℕ} (A : Edg
 -- ---- the choice
 
 pub untouched : (h : Held) {es vs : List ℕ} → EndsBelow h.n h.m es
-    → ((p : List ℕ) → cleanNonRefPaths (graph_of h es vs p) ≡ graph_of h es vs p) → Reduced cleanNonRefPaths h es vs h es vs
+    → ((p : List ℕ) → clean_non_ref_paths (graph_of h es vs p) ≡ graph_of h es vs p) → Reduced clean_non_ref_paths h es vs h es vs
 untouched h E same = record { is = λ p. sym (same p); most-n = omega arith; most-m = omega arith; ends = E; within = λ used W. W; used-is = refl }
 
 module _ (h : Held) (es vs : List ℕ) {r : OptionVertex} (F : FirstSource h.m h.n es r) where
-  pub no_source : r ≡ None → (p : List ℕ) → cleanNonRefPaths (graph_of h es vs p) ≡ graph_of h es vs p
-  unfolding cleanNonRefPaths cleanBetween
+  pub no_source : r ≡ None → (p : List ℕ) → clean_non_ref_paths (graph_of h es vs p) ≡ graph_of h es vs p
+  unfolding clean_non_ref_paths clean_between
   no_source l p = rw (source-missing F l h.k.0 vs p)
 
   module _ {s : ℕ} (k : r ≡ Some s) {r' : OptionVertex} (T : FirstSink h.m h.n es r') where
-    pub no-sink : r' ≡ None → (p : List ℕ) → cleanNonRefPaths (graph_of h es vs p) ≡ graph_of h es vs p
-    unfolding cleanNonRefPaths cleanBetween
+    pub no-sink : r' ≡ None → (p : List ℕ) → clean_non_ref_paths (graph_of h es vs p) ≡ graph_of h es vs p
+    unfolding clean_non_ref_paths clean_between
     no-sink l p = rw (source-found F k h.k.0 vs p, sink-missing T l h.k.0 vs p)
 
     pub chosen_is : {t : ℕ} → r' ≡ Some t → (p : List ℕ)
-        → removeSingletonOrphanVertices (withoutNonRefEdges (graph_of h es vs p) s t) ≡ cleanNonRefPaths (graph_of h es vs p)
-    unfolding cleanNonRefPaths cleanBetween
+        → remove_singleton_orphan_vertices (without_non_ref_edges (graph_of h es vs p) s t) ≡ clean_non_ref_paths (graph_of h es vs p)
+    unfolding clean_non_ref_paths clean_between
     chosen_is l p = rw (source-found F k h.k.0 vs p, sink-found T l h.k.0 vs p)

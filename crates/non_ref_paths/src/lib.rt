@@ -2,13 +2,13 @@
 // (`clean_non_ref_paths`).
 ghost use Rattle.std.specs.Prelude.{◌≡◌, ◌+◌, ◌*◌, ◌<◌, ◌≤◌, length, get_or};
 ghost use Rattle.defs.specs.SeqGraph.{Graph};
-ghost use Rattle.defs.specs.Cleanup.{withoutNonRefEdges, cleanNonRefPaths, removeSingletonOrphanVertices};
-ghost use Rattle.store.specs.Store.{edgeIn, EndsBelow};
+ghost use Rattle.defs.specs.Cleanup.{without_non_ref_edges, clean_non_ref_paths, remove_singleton_orphan_vertices};
+ghost use Rattle.store.specs.Store.{edge_in, EndsBelow};
 ghost use Rattle.compact.specs.Compact.{Compactable};
 ghost use Rattle.index.specs.Index.{Indexed, Indexable};
 ghost use Rattle.reach.specs.Reach.{Walkable};
 ghost use Rattle.orphans.specs.Orphans.{Reduced};
-ghost use Rattle.non_ref_paths.specs.CleanNonRef.{staysBy, EdgesKept, EdgesDropped};
+ghost use Rattle.non_ref_paths.specs.CleanNonRef.{stays_by, EdgesKept, EdgesDropped};
 
 use memory::Held;
 use refs::OptionVertex;
@@ -16,7 +16,7 @@ use refs::OptionVertex;
 // An edge stays that is a reference edge, or whose end `off` has no mark; off 0 is the end that it leaves, 1 the end that it enters.
 fn edge_stays(es: &[u32], e: usize, off: usize, n: usize, marks: &[u8]) -> bool
     requires { (4 * e + 4 ≤ length es.now) × ((off ≤ 1) × ((get_or es.now (4 * e + off) 0 < n) × (n ≤ length marks.now))) }
-    ensures { result ≡ staysBy off marks.now (edgeIn es.now e) }
+    ensures { result ≡ stays_by off marks.now (edge_in es.now e) }
 {
     if store::edge_is_ref(es, e) {
         return true;
@@ -83,7 +83,7 @@ fn clean_between(
     requires { (s < held.n) × ((t < held.n) × ((held.m < 4294967296)
         × (Compactable held.n held.m es.old vs.old map.old
         × (Indexed held.m held.n es.old heads.old nexts.old × Walkable held.n tried.old nodes.old)))) }
-    ensures { Reduced (λ (g : Graph). removeSingletonOrphanVertices (withoutNonRefEdges g s t)) held es.old
+    ensures { Reduced (λ (g : Graph). remove_singleton_orphan_vertices (without_non_ref_edges g s t)) held es.old
         vs.old result es.new vs.new }
 {
     let n = held.n;
@@ -112,7 +112,7 @@ pub fn clean_non_ref_paths(
 ) -> Held
     requires { Compactable held.n held.m es.old vs.old map.old
         × (Indexable held.m held.n es.old heads.old nexts.old × Walkable held.n tried.old nodes.old) }
-    ensures { Reduced cleanNonRefPaths held es.old vs.old result es.new vs.new }
+    ensures { Reduced clean_non_ref_paths held es.old vs.old result es.new vs.new }
 {
     let n = held.n;
     let m = held.m;

@@ -1,7 +1,7 @@
 // Lone vertices go (`remove_singleton_orphan_vertices`), and so do vertices that are marked.
 ghost use Rattle.std.specs.Prelude.{◌+◌, ◌<◌, ◌≤◌, length};
-ghost use Rattle.defs.specs.SeqGraph.{Graph, compactVertices};
-ghost use Rattle.defs.specs.Cleanup.{removeSingletonOrphanVertices};
+ghost use Rattle.defs.specs.SeqGraph.{Graph, compact_vertices};
+ghost use Rattle.defs.specs.Cleanup.{remove_singleton_orphan_vertices};
 ghost use Rattle.compact.specs.Compact.{Compactable, unmarked};
 ghost use Rattle.index.specs.Index.{Indexed};
 ghost use Rattle.orphans.specs.Orphans.{Orphan, OrphansMarked, Reduced};
@@ -45,7 +45,7 @@ fn mark_orphans(es: &[u32], m: usize, n: usize, heads: &[u32], nexts: &[u32], ma
 // Takes away the vertices that are marked in `map`.
 pub fn remove_marked(held: Held, es: &mut [u32], vs: &mut [u32], map: &mut [u32]) -> Held
     requires { Compactable held.n held.m es.old vs.old map.old }
-    ensures { Reduced (λ (g : Graph). compactVertices (unmarked map.old) g) held es.old vs.old result
+    ensures { Reduced (λ (g : Graph). compact_vertices (unmarked map.old) g) held es.old vs.old result
         es.new vs.new }
 {
     let c = compact::compact_vertices(es, vs, held.n, held.m, map);
@@ -68,7 +68,7 @@ pub fn remove_singleton_orphan_vertices(
     map: &mut [u32],
 ) -> Held
     requires { Compactable held.n held.m es.old vs.old map.old × Indexed held.m held.n es.old heads.now nexts.now }
-    ensures { Reduced removeSingletonOrphanVertices held es.old vs.old result es.new vs.new }
+    ensures { Reduced remove_singleton_orphan_vertices held es.old vs.old result es.new vs.new }
 {
     mark_orphans(es, held.m, held.n, heads, nexts, map);
     remove_marked(held, es, vs, map)

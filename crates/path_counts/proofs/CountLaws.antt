@@ -14,11 +14,11 @@ use Rattle.defs.specs.Strings.{HasEdge}
 use Rattle.laws.proofs.ListLaws.{by_order}
 use Rattle.laws.proofs.Nets.{edge-inside}
 use Rattle.tabs.proofs.ListTabs.{of-mem-tab}
-use Rattle.haplotypes.specs.Ranks.{pathCountFrom}
+use Rattle.haplotypes.specs.Ranks.{path_count_from}
 use Rattle.haplotypes.proofs.PathCounts.{count-at-sink, count-at-other, count_same, count-step-capped}
-use Rattle.store.specs.Store.{edgeIn}
-use Rattle.index.specs.Index.{edgeEnd, Indexed}
-use Rattle.adjacency.specs.Followers.{followersFrom, EdgeOut}
+use Rattle.store.specs.Store.{edge_in}
+use Rattle.index.specs.Index.{edge_end, Indexed}
+use Rattle.adjacency.specs.Followers.{followers_from, EdgeOut}
 use Rattle.adjacency.proofs.FollowerLaws.{node-count, edge-out-first, edge-out-next, followers-first, followers-next, followers-over, none-leaves}
 use Rattle.memory.specs.Memory.{graph_of}
 use Rattle.memory.specs.declared.Held.{Held}
@@ -28,14 +28,14 @@ use Rattle.path_counts.specs.Counts.{CountIs, CountsCapped, PathsCountable}
 -- ---- one vertex: the counts of its followers
 
 -- the counts of the vertices l together
-abbrev countsOf : List ℕ → List ℕ → ℕ
-countsOf counts l = sum (map (λ (w : ℕ). get_or counts w 0) l)
+abbrev counts_of : List ℕ → List ℕ → ℕ
+counts_of counts l = sum (map (λ (w : ℕ). get_or counts w 0) l)
 
 -- c and the counts of the followers from edge e on are those of all followers, from edge `first` on
 pub record CountingAt (es counts : List ℕ) (m v first e c : ℕ) : Type 0 where
   pub following : EdgeOut es m v e
   pub most : c ≤ 1025
-  pub left : min 1025 (c + countsOf counts (followersFrom es m v e)) ≡ min 1025 (countsOf counts (followersFrom es m v first))
+  pub left : min 1025 (c + counts_of counts (followers_from es m v e)) ≡ min 1025 (counts_of counts (followers_from es m v first))
 
 module _ {m n : ℕ} {es heads nexts : List ℕ} (I : Indexed m n es heads nexts) where
   pub counting-at-start : {counts : List ℕ} {v : ℕ} → v < n → CountingAt es counts m v (get_or heads (2 * v) 0) (get_or heads (2 * v) 0) 0
@@ -47,7 +47,7 @@ module _ {m n : ℕ} {es heads nexts : List ℕ} (I : Indexed m n es heads nexts
   counting-at-more {counts} to C h t q = record {
     following = edge-out-next I C.following h;
     most = omega arith;
-    left = omega (arith, C.left, ap (countsOf counts) (followers-next I C.following h), ap (λ (w : ℕ). get_or counts w 0) t);
+    left = omega (arith, C.left, ap (counts_of counts) (followers-next I C.following h), ap (λ (w : ℕ). get_or counts w 0) t);
   }
 
 module _ {h : Held} {es heads nexts : List ℕ} (I : Indexed h.m h.n es heads nexts) where
@@ -64,8 +64,8 @@ module _ {h : Held} {es heads nexts : List ℕ} (I : Indexed h.m h.n es heads ne
       arith,
       C.most,
       C.left,
-      ap (countsOf counts) (followers-over es h.m v e o),
-      ap (countsOf counts) (followers-first I h.k.0 vs p v b),
+      ap (counts_of counts) (followers-over es h.m v e o),
+      ap (counts_of counts) (followers-first I h.k.0 vs p v b),
       count-at-other (graph_of h es vs p) (λ (w : ℕ). get_or counts w 0) v (none-leaves I h.k.0 vs p v b ∙ lt-leb _ _ l),
     );
   }
@@ -76,9 +76,9 @@ module _ {h : Held} {es heads nexts : List ℕ} (I : Indexed h.m h.n es heads ne
 later : (h : Held) (es vs p : List ℕ) {order : List ℕ} (T : TopologicalOrder h.m h.n es order) (u w : ℕ) → HasEdge (graph_of h es vs p) u w
     → T.place u < T.place w
 later h es vs p T u w (d, m, a, b) =
-    let r = of-mem-tab h.m (edgeIn es) m in
-    let from : edgeEnd 0 es r.0 ≡ u = ap (λ (x : ℕ). get_or es x 0) (add-zero (4 * r.0)) ∙ ap (λ (x : Edge). x.from) (sym r.2) ∙ a in
-    let to : edgeEnd 1 es r.0 ≡ w = ap (λ (x : Edge). x.to) (sym r.2) ∙ b in
+    let r = of-mem-tab h.m (edge_in es) m in
+    let from : edge_end 0 es r.0 ≡ u = ap (λ (x : ℕ). get_or es x 0) (add-zero (4 * r.0)) ∙ ap (λ (x : Edge). x.from) (sym r.2) ∙ a in
+    let to : edge_end 1 es r.0 ≡ w = ap (λ (x : Edge). x.to) (sym r.2) ∙ b in
     omega (arith, T.rises r.0 r.1, ap T.place from, ap T.place to)
 
 -- the vertices from place i on have their counts
@@ -86,7 +86,7 @@ pub record CountingBack (h : Held) (es vs p order counts₀ counts : List ℕ) (
   pub high : i ≤ h.n
   pub len : length counts ≡ length counts₀
   pub done : (T : TopologicalOrder h.m h.n es order) (v : ℕ) → v < h.n → i ≤ T.place v
-      → get_or counts v 0 ≡ min 1025 (pathCountFrom (graph_of h es vs p) v)
+      → get_or counts v 0 ≡ min 1025 (path_count_from (graph_of h es vs p) v)
 
 pub back_start : {h : Held} {es vs p order counts : List ℕ} → CountingBack h es vs p order counts counts h.n
 back_start = record { high = omega arith; len = refl; done = λ T v b l. absurd (omega (arith, T.below v b)) }
@@ -95,10 +95,10 @@ module _ {h : Held} {es vs p heads nexts order counts₀ : List ℕ} (K : PathsC
   module _ {counts : List ℕ} {i : ℕ} (B : CountingBack h es vs p order counts₀ counts i) (pos : 0 < i) where
     -- the vertex before place i has followers from place i on only
     back-here : TopologicalOrder h.m h.n es order → {c : ℕ} → CountIs h es counts (get_or order (i - 1) 0) c
-        → c ≡ min 1025 (pathCountFrom (graph_of h es vs p) (get_or order (i - 1) 0))
+        → c ≡ min 1025 (path_count_from (graph_of h es vs p) (get_or order (i - 1) 0))
     back-here T C =
         C.is vs p
-        ∙ ap (min 1025) (count_same g (λ (w : ℕ). get_or counts w 0) (λ (w : ℕ). min 1025 (pathCountFrom g w)) v follower)
+        ∙ ap (min 1025) (count_same g (λ (w : ℕ). get_or counts w 0) (λ (w : ℕ). min 1025 (path_count_from g w)) v follower)
         ∙ sym (count-step-capped g K.traceable.sound 1025 v (omega (arith, node-count h es vs p, T.vertex (i - 1) (omega (arith, B.high)))))
       where
         g : Graph
@@ -107,7 +107,7 @@ module _ {h : Held} {es vs p heads nexts order counts₀ : List ℕ} (K : PathsC
         v : ℕ
         v = get_or order (i - 1) 0
 
-        follower : (w : ℕ) → HasEdge g v w → get_or counts w 0 ≡ min 1025 (pathCountFrom g w)
+        follower : (w : ℕ) → HasEdge g v w → get_or counts w 0 ≡ min 1025 (path_count_from g w)
         follower w l =
             let inside = (edge-inside g K.traceable.sound.bounded v w l).1 in
             B.done T w (omega (arith, node-count h es vs p)) (omega (arith, later h es vs p T v w l, T.placed (i - 1) (omega (arith, B.high))))
@@ -120,7 +120,7 @@ module _ {h : Held} {es vs p heads nexts order counts₀ : List ℕ} (K : PathsC
         v = get_or order (i - 1) 0
 
         done : (T : TopologicalOrder h.m h.n es order) (w : ℕ) → w < h.n → i - 1 ≤ T.place w
-            → get_or (set counts v c) w 0 ≡ min 1025 (pathCountFrom (graph_of h es vs p) w)
+            → get_or (set counts v c) w 0 ≡ min 1025 (path_count_from (graph_of h es vs p) w)
         done T w b l = elim (ℕ_discrete w v) [
           | yes q ↦ rw q (get_or-set_same counts v c 0 (omega (arith, K.counts-room, B.len)) ∙ back-here T C)
           | no ne ↦ (let other : T.place w ≡ i - 1 → ⊥ = λ z. ne (sym (T.found w b) ∙ ap (λ (j : ℕ). get_or order j 0) z) in

@@ -6,7 +6,7 @@ use native.Mathlib.Omega.{arith}
 use native.Mathlib.Decide.{ℕ_discrete}
 use lib.ListN.{length, set, length-set}
 use lib.Seq.{get_or-set_same, get_or-set_other}
-use Rattle.path_counts.specs.Counts.{NumberedFrom, startVertex, startLeft}
+use Rattle.path_counts.specs.Counts.{NumberedFrom, start_vertex, start_left}
 
 -- starts with a and b told of path i
 abbrev tell : List ℕ → ℕ → ℕ → ℕ → List ℕ
@@ -16,16 +16,16 @@ module _ (starts : List ℕ) (i a b : ℕ) where
   tell-length : length (tell starts i a b) ≡ length starts
   tell-length = length-set (set starts (2 * i) a) (2 * i + 1) b ∙ length-set starts (2 * i) a
 
-  tell-first : 2 * i < length starts → startVertex (tell starts i a b) i ≡ a
+  tell-first : 2 * i < length starts → start_vertex (tell starts i a b) i ≡ a
   tell-first l = get_or-set_other (set starts (2 * i) a) (2 * i + 1) (2 * i) b 0 (λ z. omega arith) ∙ get_or-set_same starts (2 * i) a 0 l
 
-  tell-left : 2 * i + 1 < length starts → startLeft (tell starts i a b) i ≡ b
+  tell-left : 2 * i + 1 < length starts → start_left (tell starts i a b) i ≡ b
   tell-left l = get_or-set_same (set starts (2 * i) a) (2 * i + 1) b 0 (omega (arith, length-set starts (2 * i) a))
 
-  first-kept : (j : ℕ) → j < i → startVertex (tell starts i a b) j ≡ startVertex starts j
+  first-kept : (j : ℕ) → j < i → start_vertex (tell starts i a b) j ≡ start_vertex starts j
   first-kept j l = get_or-set_other (set starts (2 * i) a) (2 * i + 1) (2 * j) b 0 (λ z. omega arith) ∙ get_or-set_other starts (2 * i) (2 * j) a 0 (λ z. omega arith)
 
-  left-kept : (j : ℕ) → j < i → startLeft (tell starts i a b) j ≡ startLeft starts j
+  left-kept : (j : ℕ) → j < i → start_left (tell starts i a b) j ≡ start_left starts j
   left-kept j l =
       get_or-set_other (set starts (2 * i) a) (2 * i + 1) (2 * j + 1) b 0 (λ z. omega arith) ∙ get_or-set_other starts (2 * i) (2 * j + 1) a 0 (λ z. omega arith)
 
@@ -62,13 +62,13 @@ numbering-from-more {v} {c} {at} {starts₀} {starts} {i} N h room = record {
   };
 }
   where
-    first : (j : ℕ) → j < i + 1 → startVertex (tell starts (at + i) v i) (at + j) ≡ v
+    first : (j : ℕ) → j < i + 1 → start_vertex (tell starts (at + i) v i) (at + j) ≡ v
     first j b = elim (ℕ_discrete j i) [
       | yes q ↦ rw q (tell-first starts (at + i) v i (omega (arith, N.len)))
       | no ne ↦ first-kept starts (at + i) v i (at + j) (omega arith) ∙ N.done.first j (omega arith)
     ]
 
-    left : (j : ℕ) → j < i + 1 → startLeft (tell starts (at + i) v i) (at + j) ≡ j
+    left : (j : ℕ) → j < i + 1 → start_left (tell starts (at + i) v i) (at + j) ≡ j
     left j b = elim (ℕ_discrete j i) [
       | yes q ↦ rw q (tell-left starts (at + i) v i (omega (arith, N.len)))
       | no ne ↦ left-kept starts (at + i) v i (at + j) (omega arith) ∙ N.done.left j (omega arith)

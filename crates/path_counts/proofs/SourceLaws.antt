@@ -9,40 +9,40 @@ use lib.Dec.{eqb}
 use lib.ListN.{length, get_or, length-append, get_or-append}
 use lib.Seq.{get_or-append-add}
 use borrow.Author.Tests.{le-leb, lt-leb}
-use Rattle.defs.specs.SeqGraph.{Graph, nodeCount, inDegree}
-use Rattle.defs.specs.Haplotypes.{pathsFrom, endToEndPaths, pathCount}
+use Rattle.defs.specs.SeqGraph.{Graph, node_count, in_degree}
+use Rattle.defs.specs.Haplotypes.{paths_from, end_to_end_paths, path_count}
 use Rattle.laws.proofs.ListLaws.{by_order}
-use Rattle.haplotypes.specs.Ranks.{pathCountFrom, pathFrom, pathsBelow}
+use Rattle.haplotypes.specs.Ranks.{path_count_from, path_from, paths_below}
 use Rattle.haplotypes.proofs.PathCounts.{counts-exact}
 use Rattle.haplotypes.proofs.Ranks.{paths-below-none, paths-below-source, paths-below-other, paths-below-all, paths-below-most}
 use Rattle.adjacency.proofs.FollowerLaws.{node-count, none-enters}
 use Rattle.memory.specs.Memory.{graph_of}
 use Rattle.memory.specs.declared.Held.{Held}
-use Rattle.path_counts.specs.Counts.{CountsKnown, Numberable, NumberedFrom, PathsNumbered, startVertex, startLeft}
+use Rattle.path_counts.specs.Counts.{CountsKnown, Numberable, NumberedFrom, PathsNumbered, start_vertex, start_left}
 
 -- ---- one vertex more
 
-more-source : (g : Graph) (v : ℕ) → eqb (inDegree g v) 0 ≡ true → pathsBelow g (v + 1) ≡ pathsBelow g v ++ pathsFrom (nodeCount g) g v
-more-source g v t = ap (pathsBelow g) (add-one v) ∙ paths-below-source g v t
+more-source : (g : Graph) (v : ℕ) → eqb (in_degree g v) 0 ≡ true → paths_below g (v + 1) ≡ paths_below g v ++ paths_from (node_count g) g v
+more-source g v t = ap (paths_below g) (add-one v) ∙ paths-below-source g v t
 
-more-other : (g : Graph) (v : ℕ) → eqb (inDegree g v) 0 ≡ false → pathsBelow g (v + 1) ≡ pathsBelow g v
-more-other g v t = ap (pathsBelow g) (add-one v) ∙ paths-below-other g v t
+more-other : (g : Graph) (v : ℕ) → eqb (in_degree g v) 0 ≡ false → paths_below g (v + 1) ≡ paths_below g v
+more-other g v t = ap (paths_below g) (add-one v) ∙ paths-below-other g v t
 
-length-source : (g : Graph) (v : ℕ) → eqb (inDegree g v) 0 ≡ true → length (pathsBelow g (v + 1)) ≡ length (pathsBelow g v) + pathCountFrom g v
-unfolding pathCountFrom
-length-source g v t = ap length (more-source g v t) ∙ length-append (pathsBelow g v) (pathsFrom (nodeCount g) g v)
+length-source : (g : Graph) (v : ℕ) → eqb (in_degree g v) 0 ≡ true → length (paths_below g (v + 1)) ≡ length (paths_below g v) + path_count_from g v
+unfolding path_count_from
+length-source g v t = ap length (more-source g v t) ∙ length-append (paths_below g v) (paths_from (node_count g) g v)
 
-behind-source : (g : Graph) (v at j : ℕ) → at ≡ length (pathsBelow g v)
-    → get_or (pathsBelow g v ++ pathsFrom (nodeCount g) g v) (at + j) [] ≡ pathFrom g v j
-unfolding pathFrom
+behind-source : (g : Graph) (v at j : ℕ) → at ≡ length (paths_below g v)
+    → get_or (paths_below g v ++ paths_from (node_count g) g v) (at + j) [] ≡ path_from g v j
+unfolding path_from
 behind-source g v at j e =
-    ap (λ (k : ℕ). get_or (pathsBelow g v ++ pathsFrom (nodeCount g) g v) (k + j) []) e ∙ get_or-append-add (pathsBelow g v) (pathsFrom (nodeCount g) g v) j []
+    ap (λ (k : ℕ). get_or (paths_below g v ++ paths_from (node_count g) g v) (k + j) []) e ∙ get_or-append-add (paths_below g v) (paths_from (node_count g) g v) j []
 
 module _ {h : Held} {es vs p heads nexts counts : List ℕ} (K : CountsKnown h es vs p heads nexts counts) {v : ℕ} (b : v < h.n) where
-  source-here : h.m ≤ get_or heads (2 * v + 1) 0 → eqb (inDegree (graph_of h es vs p) v) 0 ≡ true
+  source-here : h.m ≤ get_or heads (2 * v + 1) 0 → eqb (in_degree (graph_of h es vs p) v) 0 ≡ true
   source-here l = none-enters K.traceable.indexed h.k.0 vs p v b ∙ le-leb _ _ l
 
-  other-here : get_or heads (2 * v + 1) 0 < h.m → eqb (inDegree (graph_of h es vs p) v) 0 ≡ false
+  other-here : get_or heads (2 * v + 1) 0 < h.m → eqb (in_degree (graph_of h es vs p) v) 0 ≡ false
   other-here l = none-enters K.traceable.indexed h.k.0 vs p v b ∙ lt-leb _ _ l
 
 -- ---- how many
@@ -50,7 +50,7 @@ module _ {h : Held} {es vs p heads nexts counts : List ℕ} (K : CountsKnown h e
 -- c is the number of the paths that start before v, up to the cap
 pub record CountingAll (h : Held) (es vs p : List ℕ) (v c : ℕ) : Type 0 where
   pub high : v ≤ h.n
-  pub is : c ≡ min 1025 (length (pathsBelow (graph_of h es vs p) v))
+  pub is : c ≡ min 1025 (length (paths_below (graph_of h es vs p) v))
 
 pub counting-all-start : {h : Held} {es vs p : List ℕ} → CountingAll h es vs p 0 0
 counting-all-start {h} {es} {vs} {p} = record { high = omega arith; is = omega (arith, ap length (paths-below-none (graph_of h es vs p))) }
@@ -68,27 +68,27 @@ module _ {h : Held} {es vs p heads nexts counts : List ℕ} (K : CountsKnown h e
       let g = graph_of h es vs p in
       record { high = omega arith; is = A.is ∙ ap (λ ps. min 1025 (length ps)) (sym (more-other g v (other-here K b l))) }
 
-pub counting-all-end : {h : Held} {es vs p : List ℕ} {v c : ℕ} → CountingAll h es vs p v c → h.n ≤ v → c ≡ min 1025 (pathCount (graph_of h es vs p))
-unfolding pathCount
+pub counting-all-end : {h : Held} {es vs p : List ℕ} {v c : ℕ} → CountingAll h es vs p v c → h.n ≤ v → c ≡ min 1025 (path_count (graph_of h es vs p))
+unfolding path_count
 counting-all-end {h} {es} {vs} {p} {v} A l =
     let g = graph_of h es vs p in
-    let e : v ≡ nodeCount g = omega (arith, A.high, node-count h es vs p) in
-    A.is ∙ ap (λ ps. min 1025 (length ps)) (ap (pathsBelow g) e ∙ paths-below-all g)
+    let e : v ≡ node_count g = omega (arith, A.high, node-count h es vs p) in
+    A.is ∙ ap (λ ps. min 1025 (length ps)) (ap (paths_below g) e ∙ paths-below-all g)
 
 -- ---- where each starts
 
 -- path i of the paths ps is path `left` of those from the vertex `first` on
 pub record StartsIn (g : Graph) (ps : List (List ℕ)) (i first left : ℕ) : Type 0 where
-  pub vertex : first < nodeCount g
-  pub within : left < pathCountFrom g first
-  pub is : get_or ps i [] ≡ pathFrom g first left
+  pub vertex : first < node_count g
+  pub within : left < path_count_from g first
+  pub is : get_or ps i [] ≡ path_from g first left
 
 -- `at` paths start before v, and each of them is told
 pub record Telling (h : Held) (es vs p starts₀ starts : List ℕ) (v at : ℕ) : Type 0 where
   pub high : v ≤ h.n
   pub len : length starts ≡ length starts₀
-  pub count : at ≡ length (pathsBelow (graph_of h es vs p) v)
-  pub each : (i : ℕ) → i < at → StartsIn (graph_of h es vs p) (pathsBelow (graph_of h es vs p) v) i (startVertex starts i) (startLeft starts i)
+  pub count : at ≡ length (paths_below (graph_of h es vs p) v)
+  pub each : (i : ℕ) → i < at → StartsIn (graph_of h es vs p) (paths_below (graph_of h es vs p) v) i (start_vertex starts i) (start_left starts i)
 
 pub telling-start : {h : Held} {es vs p starts : List ℕ} → Telling h es vs p starts starts 0 0
 telling-start {h} {es} {vs} {p} =
@@ -96,10 +96,10 @@ telling-start {h} {es} {vs} {p} =
 
 module _ {h : Held} {es vs p heads nexts counts starts₀ : List ℕ} (N : Numberable h es vs p heads nexts counts starts₀) where
   -- there are few paths, so no count is capped
-  exact : (v : ℕ) → v < h.n → get_or counts v 0 ≡ pathCountFrom (graph_of h es vs p) v
+  exact : (v : ℕ) → v < h.n → get_or counts v 0 ≡ path_count_from (graph_of h es vs p) v
   exact v b =
       let g = graph_of h es vs p in
-      let c : v < nodeCount g = omega (arith, node-count h es vs p) in
+      let c : v < node_count g = omega (arith, node-count h es vs p) in
       N.known.counted.at v c ∙ counts-exact g N.known.traceable.sound 1025 v (omega (arith, N.few)) c
 
   module _ {starts : List ℕ} {v at : ℕ} (T : Telling h es vs p starts₀ starts v at) (b : v < h.n) where
@@ -129,11 +129,11 @@ module _ {h : Held} {es vs p heads nexts counts starts₀ : List ℕ} (N : Numbe
         g : Graph
         g = graph_of h es vs p
 
-        t : eqb (inDegree g v) 0 ≡ true
+        t : eqb (in_degree g v) 0 ≡ true
         t = source-here N.known b l
 
         Told : ℕ → Type 0
-        Told i = StartsIn g (pathsBelow g (v + 1)) i (startVertex starts' i) (startLeft starts' i)
+        Told i = StartsIn g (paths_below g (v + 1)) i (start_vertex starts' i) (start_left starts' i)
 
         old : (i : ℕ) → i < at → Told i
         old i d =
@@ -142,7 +142,7 @@ module _ {h : Held} {es vs p heads nexts counts starts₀ : List ℕ} (N : Numbe
             record {
               vertex = s.vertex;
               within = s.within;
-              is = ap (λ ps. get_or ps i []) (more-source g v t) ∙ get_or-append (pathsBelow g v) _ [] i (omega (arith, T.count)) ∙ s.is;
+              is = ap (λ ps. get_or ps i []) (more-source g v t) ∙ get_or-append (paths_below g v) _ [] i (omega (arith, T.count)) ∙ s.is;
             }
 
         new : (j : ℕ) → j < get_or counts v 0 → Told (at + j)
@@ -165,10 +165,10 @@ module _ {h : Held} {es vs p heads nexts counts starts₀ : List ℕ} (N : Numbe
 
 pub telling-end : {h : Held} {es vs p starts₀ starts : List ℕ} {v at : ℕ} → Telling h es vs p starts₀ starts v at → h.n ≤ v
     → PathsNumbered (graph_of h es vs p) starts
-unfolding pathCount
+unfolding path_count
 telling-end {h} {es} {vs} {p} {v = v} T l =
     let g = graph_of h es vs p in
-    let e : pathsBelow g v ≡ endToEndPaths g = ap (pathsBelow g) (omega (arith, T.high, node-count h es vs p)) ∙ paths-below-all g in
+    let e : paths_below g v ≡ end_to_end_paths g = ap (paths_below g) (omega (arith, T.high, node-count h es vs p)) ∙ paths-below-all g in
     record {
       at = λ i b.
           let s = T.each i (omega (arith, T.count, ap length e)) in

@@ -1,10 +1,10 @@
 // The end-to-end paths of a graph in slices: how many there are, and where each of them starts. A path is known by its number among all paths, as
-// `Haplotypes.endToEndPaths` lists them: the counts of the paths from each vertex on take the number apart, so no path is stored.
+// `Haplotypes.end_to_end_paths` lists them: the counts of the paths from each vertex on take the number apart, so no path is stored.
 // Counts stop at 1,025: more than 1,024 is all that is asked of them, and no sum overflows.
 ghost use mathlib.Core.Path.{◌≡◌};
 ghost use Prim.Native.Nat.{◌+◌, ◌*◌, ◌≤◌, ◌<◌, min};
 ghost use lib.ListN.{length};
-ghost use Rattle.defs.specs.Haplotypes.{pathCount};
+ghost use Rattle.defs.specs.Haplotypes.{path_count};
 ghost use Rattle.index.specs.Index.{Indexed};
 ghost use Rattle.memory.specs.Memory.{graph_of};
 ghost use Rattle.path_counts.specs.Counts.{CountIs, CountsCapped, PathsCountable, CountsKnown, Numberable, NumberedFrom, PathsNumbered};
@@ -74,7 +74,7 @@ pub fn count_paths(
     counts: &[u32],
 ) -> u32
     requires { CountsKnown held es.now vs.now p.now heads.now nexts.now counts.now }
-    ensures { result ≡ min 1025 (pathCount (graph_of held es.now vs.now p.now)) }
+    ensures { result ≡ min 1025 (path_count (graph_of held es.now vs.now p.now)) }
 {
     let mut c = 0;
     let mut v = 0;

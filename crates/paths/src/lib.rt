@@ -1,11 +1,11 @@
 // Paths: whether a list of edges is one, and the bytes that it spells (`path_bases_bytes`).
 ghost use Rattle.std.specs.Prelude.{◌≡◌, ◌&&◌, ℕ, ◌+◌, ◌*◌, ◌<◌, ◌≤◌, length, get_or, eqb};
 ghost use Rattle.defs.specs.Lists.{any_of};
-ghost use Rattle.defs.specs.SeqGraph.{hasEnds};
-ghost use Rattle.store.specs.Store.{edgesIn};
+ghost use Rattle.defs.specs.SeqGraph.{has_ends};
+ghost use Rattle.store.specs.Store.{edges_in};
 ghost use Rattle.index.specs.Index.{Indexed};
 ghost use Rattle.defs.specs.Lists.{given};
-ghost use Rattle.defs.specs.Paths.{edgeEnds, isPathOf, pathBasesBytes};
+ghost use Rattle.defs.specs.Paths.{edge_ends, is_path_of, path_bases_bytes};
 ghost use Rattle.memory.specs.Memory.{graph_of};
 ghost use Rattle.spell.specs.Spell.{Told};
 ghost use Rattle.paths.specs.Paths.{EdgePath, PathNodes, Spellable};
@@ -24,7 +24,7 @@ pub fn has_edge(
     v: u32,
 ) -> bool
     requires { (u < n) × Indexed m n es.now heads.now nexts.now }
-    ensures { result ≡ any_of (hasEnds u v) (edgesIn m es.now) }
+    ensures { result ≡ any_of (has_ends u v) (edges_in m es.now) }
 {
     let mut e = heads[2 * (u as usize)] as usize;
     while e < m {
@@ -48,7 +48,7 @@ fn is_step(
     b: u32,
 ) -> bool
     requires { (at < n) × Indexed m n es.now heads.now nexts.now }
-    ensures { result ≡ eqb a at && any_of (hasEnds a b) (edgesIn m es.now) }
+    ensures { result ≡ eqb a at && any_of (has_ends a b) (edges_in m es.now) }
 {
     if a != at {
         return false;
@@ -91,7 +91,7 @@ pub fn is_edge_path(
 
 // Writes the vertices of a path to `nodes`: `start`, and the end of each edge of `list`; how many.
 fn path_nodes(start: u32, list: &[u32], nodes: &mut [u32]) -> usize
-    requires { length (edgeEnds list.now) < length nodes.old }
+    requires { length (edge_ends list.now) < length nodes.old }
     ensures { PathNodes start list.now result nodes.new }
 {
     nodes[0] = start;
@@ -119,8 +119,8 @@ pub fn path_bases_bytes(
     out: &mut [u8],
 ) -> OptionBytes
     requires { Spellable held es.now vs.now p.now nodes.old × Indexed held.m held.n es.now heads.now nexts.now }
-    ensures { Told (given (isPathOf (graph_of held es.now vs.now p.now) start list.now)
-        (pathBasesBytes (graph_of held es.now vs.now p.now) start list.now)) out.old result
+    ensures { Told (given (is_path_of (graph_of held es.now vs.now p.now) start list.now)
+        (path_bases_bytes (graph_of held es.now vs.now p.now) start list.now)) out.old result
         out.new }
 {
     let n = held.n;

@@ -7,13 +7,13 @@ use native.Mathlib.Omega.{arith}
 use lib.ListN.{length, get_or, drop}
 use lib.Seq.{get_or-take, get_or-drop}
 use Rattle.defs.specs.Lists.{same_list}
-use Rattle.laws.proofs.Walks.{byTest}
-use Rattle.laws.proofs.ListLaws.{sameList-eq, sameList-refl}
+use Rattle.laws.proofs.Walks.{by_test}
+use Rattle.laws.proofs.ListLaws.{same_list-eq, same_list-refl}
 use Rattle.store.specs.Store.{part}
 use Rattle.pool.proofs.PoolLaws.{part_same}
 
 pub same_not : (a b : List ℕ) → (a ≡ b → ⊥) → same_list a b ≡ false
-same_not a b h = byTest (same_list a b) (λ t. absurd (h (sameList-eq a b t))) (λ t. t)
+same_not a b h = by_test (same_list a b) (λ t. absurd (h (same_list-eq a b t))) (λ t. t)
 
 -- the first i bytes are equal
 pub record ComparingBytes (p : List ℕ) (a b n i : ℕ) : Type 0 where
@@ -29,4 +29,4 @@ comparing-no {p} {a} {b} {n} {i} C h ne = sym (same_not _ _ (λ q. ne (sym (byte
 
 pub comparing-end : {p : List ℕ} {a b n i : ℕ} → ComparingBytes p a b n i → a + n ≤ length p → b + n ≤ length p → n ≤ i → true ≡ same_list (part p a n) (part p b n)
 comparing-end {p} {a} {b} {n} {i} C ha hb h =
-    sym (ap (λ (l : List ℕ). same_list l (part p b n)) (part_same p p b a n hb ha (λ j d. C.same j (omega (arith, h, d)))) ∙ sameList-refl (part p b n))
+    sym (ap (λ (l : List ℕ). same_list l (part p b n)) (part_same p p b a n hb ha (λ j d. C.same j (omega (arith, h, d)))) ∙ same_list-refl (part p b n))

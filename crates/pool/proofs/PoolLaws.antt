@@ -12,9 +12,9 @@ use lib.Seq.{get_or-set_same, get_or-set_other, ext_get_or, get_or-take, get_or-
 use Rattle.defs.specs.Lists.{tab, sum}
 use Rattle.tabs.proofs.Tabs.{tab-ext}
 use Rattle.tabs.proofs.SumTabs.{sum-none, sum_more, sum_below}
-use Rattle.store.specs.Store.{part, seqIn, seqsIn, Within}
+use Rattle.store.specs.Store.{part, seq_in, seqs_in, Within}
 use Rattle.store.proofs.VertexLaws.{part-long}
-use Rattle.pool.specs.Pool.{Apart, Moved, bytesIn, Packable, Packed}
+use Rattle.pool.specs.Pool.{Apart, Moved, bytes_in, Packable, Packed}
 
 -- ---- copying
 
@@ -50,14 +50,14 @@ module _ {p₀ : List ℕ} {to from n : ℕ} where
 
 -- ---- sums of lengths
 
-pub bytesIn-more : (v : ℕ) (vs : List ℕ) → bytesIn (v + 1) vs ≡ bytesIn v vs + get_or vs (2 * v + 1) 0
-bytesIn-more v vs = sum_more v (λ (v : ℕ). get_or vs (2 * v + 1) 0)
+pub bytes_in-more : (v : ℕ) (vs : List ℕ) → bytes_in (v + 1) vs ≡ bytes_in v vs + get_or vs (2 * v + 1) 0
+bytes_in-more v vs = sum_more v (λ (v : ℕ). get_or vs (2 * v + 1) 0)
 
-pub bytesIn-none : (vs : List ℕ) → bytesIn 0 vs ≡ 0
-bytesIn-none vs = sum-none (λ (v : ℕ). get_or vs (2 * v + 1) 0)
+pub bytes_in-none : (vs : List ℕ) → bytes_in 0 vs ≡ 0
+bytes_in-none vs = sum-none (λ (v : ℕ). get_or vs (2 * v + 1) 0)
 
 -- a vertex's bytes end before those of all
-pub bytes_below : (n v : ℕ) (vs : List ℕ) → v < n → bytesIn v vs + get_or vs (2 * v + 1) 0 ≤ bytesIn n vs
+pub bytes_below : (n v : ℕ) (vs : List ℕ) → v < n → bytes_in v vs + get_or vs (2 * v + 1) 0 ≤ bytes_in n vs
 bytes_below n v vs h = sum_below n v (λ (v : ℕ). get_or vs (2 * v + 1) 0) h
 
 -- ---- gathering
@@ -66,12 +66,12 @@ pub record Gathering (base n : ℕ) (vs₀ p₀ vs p : List ℕ) (used v : ℕ) 
   pub high : v ≤ n
   pub vs-len : length vs ≡ length vs₀
   pub p-len : length p ≡ length p₀
-  pub used-is : used ≡ bytesIn v vs₀
-  pub starts : (u : ℕ) → u < v → get_or vs (2 * u) 0 ≡ bytesIn u vs₀
+  pub used-is : used ≡ bytes_in v vs₀
+  pub starts : (u : ℕ) → u < v → get_or vs (2 * u) 0 ≡ bytes_in u vs₀
   pub sizes : (u : ℕ) → get_or vs (2 * u + 1) 0 ≡ get_or vs₀ (2 * u + 1) 0
   pub rest : (u : ℕ) → v ≤ u → get_or vs (2 * u) 0 ≡ get_or vs₀ (2 * u) 0
   pub below : (k : ℕ) → k < base → get_or p k 0 ≡ get_or p₀ k 0
-  pub bytes : (u : ℕ) → u < v → (i : ℕ) → i < get_or vs₀ (2 * u + 1) 0 → get_or p (base + bytesIn u vs₀ + i) 0 ≡ get_or p₀ (get_or vs₀ (2 * u) 0 + i) 0
+  pub bytes : (u : ℕ) → u < v → (i : ℕ) → i < get_or vs₀ (2 * u + 1) 0 → get_or p (base + bytes_in u vs₀ + i) 0 ≡ get_or p₀ (get_or vs₀ (2 * u) 0 + i) 0
 
 module _ {base n : ℕ} {vs₀ p₀ : List ℕ} (F : Packable n vs₀ p₀ base) where
   pub gathering-start : Gathering base n vs₀ p₀ vs₀ p₀ 0 0
@@ -79,7 +79,7 @@ module _ {base n : ℕ} {vs₀ p₀ : List ℕ} (F : Packable n vs₀ p₀ base)
     high = omega arith;
     vs-len = refl;
     p-len = refl;
-    used-is = sym (bytesIn-none vs₀);
+    used-is = sym (bytes_in-none vs₀);
     starts = λ u h. absurd (omega arith);
     sizes = λ u. refl;
     rest = λ u h. refl;
@@ -109,7 +109,7 @@ module _ {base n : ℕ} {vs₀ p₀ : List ℕ} (F : Packable n vs₀ p₀ base)
         high = omega arith;
         vs-len = ap length e ∙ length-set vs _ _ ∙ G.vs-len;
         p-len = l ∙ G.p-len;
-        used-is = omega (arith, G.used-is, bytesIn-more v vs₀, ql, G.sizes v);
+        used-is = omega (arith, G.used-is, bytes_in-more v vs₀, ql, G.sizes v);
         starts = λ u b. elim (ℕ_discrete u v) [
           | yes q ↦ rw q (ap (λ (x : List ℕ). get_or x (2 * v) 0) e ∙ get_or-set_same vs (2 * v) used 0 (omega (arith, G.vs-len, F.vs-room)) ∙ G.used-is)
           | no ne ↦ other (2 * u) (λ z. ne (omega arith)) ∙ G.starts u (omega arith)
@@ -119,14 +119,14 @@ module _ {base n : ℕ} {vs₀ p₀ : List ℕ} (F : Packable n vs₀ p₀ base)
         below = λ k b. M.before k (omega arith) ∙ G.below k b;
         bytes = λ u b i c. elim (ℕ_discrete u v) [
           | yes q ↦ rw q (here i (rw q at c))
-          | no ne ↦ M.before (base + bytesIn u vs₀ + i) (omega (arith, bytes_below v u vs₀ (omega arith), G.used-is)) ∙ G.bytes u (omega arith) i c
+          | no ne ↦ M.before (base + bytes_in u vs₀ + i) (omega (arith, bytes_below v u vs₀ (omega arith), G.used-is)) ∙ G.bytes u (omega arith) i c
         ];
       }
     where
       other : (k : ℕ) → (k ≡ 2 * v → ⊥) → get_or vs' k 0 ≡ get_or vs k 0
       other k z = ap (λ (x : List ℕ). get_or x k 0) e ∙ get_or-set_other vs (2 * v) k used 0 z
 
-      here : (i : ℕ) → i < get_or vs₀ (2 * v + 1) 0 → get_or p' (base + bytesIn v vs₀ + i) 0 ≡ get_or p₀ (get_or vs₀ (2 * v) 0 + i) 0
+      here : (i : ℕ) → i < get_or vs₀ (2 * v + 1) 0 → get_or p' (base + bytes_in v vs₀ + i) 0 ≡ get_or p₀ (get_or vs₀ (2 * v) 0 + i) 0
       here i c =
           ap (λ (x : ℕ). get_or p' (base + x + i) 0) (sym G.used-is) ∙ M.copied i (omega (arith, ql, G.sizes v))
           ∙ ap (λ (x : ℕ). get_or p (x + i) 0) (qs ∙ G.rest v (omega arith)) ∙ G.below (get_or vs₀ (2 * v) 0 + i) (omega (arith, F.within.at v h))
@@ -135,7 +135,7 @@ module _ {base n : ℕ} {vs₀ p₀ : List ℕ} (F : Packable n vs₀ p₀ base)
   gathering-end {vs} {p} {used} {v} G h =
       let q : v ≡ n = omega (arith, G.high) in
       record {
-        used-is = G.used-is ∙ ap (λ (x : ℕ). bytesIn x vs₀) q;
+        used-is = G.used-is ∙ ap (λ (x : ℕ). bytes_in x vs₀) q;
         starts = λ u b. G.starts u (omega arith);
         sizes = λ u b. G.sizes u;
         bytes = λ u b. G.bytes u (omega arith);
@@ -148,7 +148,7 @@ module _ {base n : ℕ} {vs₀ p₀ : List ℕ} (F : Packable n vs₀ p₀ base)
     starts = P.starts;
     sizes = P.sizes;
     bytes = λ v h i c. ap (λ (x : ℕ). get_or p' x 0) (omega arith)
-        ∙ M.copied (bytesIn v vs₀ + i) (omega (arith, P.used-is, bytes_below n v vs₀ h)) ∙ ap (λ (x : ℕ). get_or p x 0) (omega arith)
+        ∙ M.copied (bytes_in v vs₀ + i) (omega (arith, P.used-is, bytes_below n v vs₀ h)) ∙ ap (λ (x : ℕ). get_or p x 0) (omega arith)
         ∙ P.bytes v h i c;
   }
 
@@ -162,9 +162,9 @@ part_same p p' a b n ha hb e = ext_get_or 0 _ _
     ∙ sym (get_or-take n (drop a p) i 0 c ∙ get_or-drop a p i 0))
 
 module _ {n : ℕ} {vs p vs' p' : List ℕ} {used : ℕ} (P : Packed 0 n vs p used vs' p') (W : Within (length p) n vs) (room : used ≤ length p') where
-  pub packed-seqs : seqsIn n vs' p' ≡ seqsIn n vs p
-  packed-seqs = tab-ext n (seqIn vs' p') (seqIn vs p) (λ v h.
-      rw (P.starts v h, P.sizes v h) (part_same p p' (get_or vs (2 * v) 0) (bytesIn v vs) (get_or vs (2 * v + 1) 0) (W.at v h)
+  pub packed-seqs : seqs_in n vs' p' ≡ seqs_in n vs p
+  packed-seqs = tab-ext n (seq_in vs' p') (seq_in vs p) (λ v h.
+      rw (P.starts v h, P.sizes v h) (part_same p p' (get_or vs (2 * v) 0) (bytes_in v vs) (get_or vs (2 * v + 1) 0) (W.at v h)
       (omega (arith, P.used-is, bytes_below n v vs h, room)) (λ i c. ap (λ (x : ℕ). get_or p' x 0) (omega arith) ∙ P.bytes v h i c)))
 
   pub packed-within : Within used n vs'

@@ -11,26 +11,26 @@ use lib.ListN.{length, get_or, set, length-set}
 use lib.Seq.{get_or-set_same, get_or-set_other}
 use Rattle.defs.specs.Lists.{tab, elem_of}
 use Rattle.defs.specs.Cleanup.{reached}
-use Rattle.laws.proofs.Walks.{byTest}
+use Rattle.laws.proofs.Walks.{by_test}
 use Rattle.laws.proofs.ListLaws.{clash, by_order}
 use Rattle.laws.proofs.Counts.{Distinct}
 use Rattle.laws.proofs.Cycles.{distinct-length}
 use Rattle.laws.proofs.Reach.{Hop, Way, way-more, of-reached, short-reached}
 use Rattle.tabs.proofs.Tabs.{length-tab, set_more}
 use Rattle.tabs.proofs.ListTabs.{of-mem-tab}
-use Rattle.store.specs.Store.{is_set, graphIn, EndsBelow}
+use Rattle.store.specs.Store.{is_set, graph_in, EndsBelow}
 use Rattle.store.proofs.EdgeLaws.{set-not}
 use Rattle.compact.specs.Compact.{Cleared}
 use Rattle.compact.proofs.CompactLaws.{order-in}
-use Rattle.index.specs.Index.{edgeEnd, pair_at, Next, Index, Indexed}
+use Rattle.index.specs.Index.{edge_end, pair_at, Next, Index, Indexed}
 use Rattle.index.proofs.IndexLaws.{end_below}
 use Rattle.tabs.proofs.Ranks.{distinct-tab}
-use Rattle.reach.specs.Reach.{walkStep, takesEnd, passable, bare, Walkable, QueueFound, MarksGrown, Spread, Pushed, VertexLeft, Reached}
+use Rattle.reach.specs.Reach.{walk_step, takes_end, passable, bare, Walkable, QueueFound, MarksGrown, Spread, Pushed, VertexLeft, Reached}
 use Rattle.reach.proofs.StepLaws.{step-hop, hop-step}
 
 pub both_ways : (a b : Bool) → (a ≡ true → b ≡ true) → (b ≡ true → a ≡ true) → a ≡ b
 both_ways true b f g = sym (f refl)
-both_ways false b f g = byTest b (λ t. clash (g t) refl) (λ t. sym t)
+both_ways false b f g = by_test b (λ t. clash (g t) refl) (λ t. sym t)
 
 -- ---- marks and queue
 
@@ -80,7 +80,7 @@ module _ {plain : Bool} {kind m n : ℕ} {es : List ℕ} {s : ℕ} {marks queue 
         )
 
     module _ (marks-room : n ≤ length marks) (queue-room : n ≤ length queue) {h : ℕ} (l : h < tail) (hop :
-        Hop (walkStep plain kind) (bare m es) (get_or queue h 0) w) where
+        Hop (walk_step plain kind) (bare m es) (get_or queue h 0) w) where
       here : get_or (set queue tail w) tail 0 ≡ w
       here = get_or-set_same queue tail w 0 (omega (arith, found-room))
 
@@ -105,10 +105,10 @@ module _ {plain : Bool} {kind m n : ℕ} {es : List ℕ} {s : ℕ} {marks queue 
         | no ne ↦ (let r = F.place v k (ap is_set (sym (get_or-set_other marks w v 1 0 ne)) ∙ t) in (r.0, omega (arith, r.1), before r.0 r.1 ∙ r.2))
       ]
 
-      push-near : (i : ℕ) → i < tail + 1 → (d : ℕ) × (d ≤ i) × Way (walkStep plain kind) (bare m es) d s (get_or (set queue tail w) i 0)
-      push-near = set_more (λ i x. (d : ℕ) × (d ≤ i) × Way (walkStep plain kind) (bare m es) d s x) queue tail w (omega (arith, found-room))
+      push-near : (i : ℕ) → i < tail + 1 → (d : ℕ) × (d ≤ i) × Way (walk_step plain kind) (bare m es) d s (get_or (set queue tail w) i 0)
+      push-near = set_more (λ i x. (d : ℕ) × (d ≤ i) × Way (walk_step plain kind) (bare m es) d s x) queue tail w (omega (arith, found-room))
           F.near
-          (let r = F.near h l in (suc r.0, omega (arith, r.1), way-more (walkStep plain kind) (bare m es) r.0 s (get_or queue h 0) w r.2 hop))
+          (let r = F.near h l in (suc r.0, omega (arith, r.1), way-more (walk_step plain kind) (bare m es) r.0 s (get_or queue h 0) w r.2 hop))
 
       pub found-push : QueueFound plain kind m n es s (set marks w 1) (set queue tail w) (tail + 1)
       found-push = record {
@@ -126,7 +126,7 @@ module _ {plain : Bool} {kind m n : ℕ} {es : List ℕ} {s : ℕ} {marks queue 
 pub record PushingFound (plain : Bool) (kind off m n : ℕ) (es : List ℕ) (s h u : ℕ) (marks₀ queue₀ : List ℕ) (queued : ℕ) (marks queue :
     List ℕ) (tail e : ℕ) : Type 0 where
   pub high : e ≤ m
-  pub hit : e < m → edgeEnd off es e ≡ u
+  pub hit : e < m → edge_end off es e ≡ u
   pub marks-len : length marks ≡ length marks₀
   pub queue-len : length queue ≡ length queue₀
   pub is-u : get_or queue₀ h 0 ≡ u
@@ -135,12 +135,12 @@ pub record PushingFound (plain : Bool) (kind off m n : ℕ) (es : List ℕ) (s h
   pub spread : Spread plain kind off es u e marks
 
 spread-next : {plain : Bool} {kind off m : ℕ} {es : List ℕ} {u e e' : ℕ} {marks : List ℕ} → Spread plain kind off es u e marks
-    → Next (edgeEnd off es) m u (e + 1) e'
-    → (takesEnd kind off ≡ true → passable plain es e ≡ true → is_set (get_or marks (edgeEnd (1 - off) es e) 0) ≡ true) → Spread plain kind off es u e' marks
+    → Next (edge_end off es) m u (e + 1) e'
+    → (takes_end kind off ≡ true → passable plain es e ≡ true → is_set (get_or marks (edge_end (1 - off) es e) 0) ≡ true) → Spread plain kind off es u e' marks
 spread-next {off = off} {es = es} {u} {e} {marks = marks} S N f = record {
   at = λ j b t p q. by_order e j
       (λ (o : e ≤ j). elim (ℕ_discrete j e) [
-        | yes z ↦ ap (λ (x : ℕ). is_set (get_or marks (edgeEnd (1 - off) es x) 0)) z ∙ f t (ap (passable _ es) (sym z) ∙ p)
+        | yes z ↦ ap (λ (x : ℕ). is_set (get_or marks (edge_end (1 - off) es x) 0)) z ∙ f t (ap (passable _ es) (sym z) ∙ p)
         | no ne ↦ absurd (N.skip j (omega arith) b q)
       ])
       (λ (o : j < e). S.at j o t p q);
@@ -152,7 +152,7 @@ spread-stays : {plain : Bool} {kind off : ℕ} {es : List ℕ} {u e : ℕ} {mark
 spread-stays stay S = record { at = λ j b t p q. stay _ (S.at j b t p q) }
 
 module _ {m n : ℕ} {es heads nexts : List ℕ} (X : Indexed m n es heads nexts) {off : ℕ} (o : off ≤ 1) where
-  index_at : Index (edgeEnd off es) m n (pair_at off heads) (pair_at off nexts)
+  index_at : Index (edge_end off es) m n (pair_at off heads) (pair_at off nexts)
   index_at = X.index off o
 
   module _ {plain : Bool} {kind s h : ℕ} where
@@ -171,7 +171,7 @@ module _ {m n : ℕ} {es heads nexts : List ℕ} (X : Indexed m n es heads nexts
 
     module _ {u : ℕ} {marks₀ queue₀ : List ℕ} {queued : ℕ} {marks queue : List ℕ} {tail e : ℕ} (P : PushingFound plain
         kind off m n es s h u marks₀ queue₀ queued marks queue tail e) (k : e < m) where
-      N : Next (edgeEnd off es) m u (e + 1) (pair_at off nexts e)
+      N : Next (edge_end off es) m u (e + 1) (pair_at off nexts e)
       N = let z = index_at.nexts e k in record {
         low = z.low;
         high = z.high;
@@ -182,10 +182,10 @@ module _ {m n : ℕ} {es heads nexts : List ℕ} (X : Indexed m n es heads nexts
       pub pushing-later : e < pair_at off nexts e
       pushing-later = omega (arith, N.low)
 
-      pub pushing-below : edgeEnd (1 - off) es e < n
+      pub pushing-below : edge_end (1 - off) es e < n
       pushing-below = end_below (1 - off) X.ends e k (omega arith)
 
-      passed : (takesEnd kind off ≡ true → passable plain es e ≡ true → is_set (get_or marks (edgeEnd (1 - off) es e) 0) ≡ true)
+      passed : (takes_end kind off ≡ true → passable plain es e ≡ true → is_set (get_or marks (edge_end (1 - off) es e) 0) ≡ true)
           → PushingFound plain kind off m n es s h u marks₀ queue₀ queued marks queue tail (pair_at off nexts e)
       passed f = record {
         high = N.high;
@@ -201,21 +201,21 @@ module _ {m n : ℕ} {es heads nexts : List ℕ} (X : Indexed m n es heads nexts
       pub pushing-shut : passable plain es e ≡ false → PushingFound plain kind off m n es s h u marks₀ queue₀ queued marks queue tail (pair_at off nexts e)
       pushing-shut f = passed (λ t p. clash p f)
 
-      pub pushing-seen : {w : ℕ} → w ≡ edgeEnd (1 - off) es e → is_set (get_or marks w 0) ≡ true
+      pub pushing-seen : {w : ℕ} → w ≡ edge_end (1 - off) es e → is_set (get_or marks w 0) ≡ true
           → PushingFound plain kind off m n es s h u marks₀ queue₀ queued marks queue tail (pair_at off nexts e)
       pushing-seen q t = passed (λ _ _. ap (λ (x : ℕ). is_set (get_or marks x 0)) (sym q) ∙ t)
 
-      module _ (R : Walkable n marks₀ queue₀) {x : ℕ} (is_x : x ≡ edgeEnd (1 - off) es e) (fresh : is_set (get_or marks x 0) ≡ false) where
-        new : is_set (get_or marks (edgeEnd (1 - off) es e) 0) ≡ false
+      module _ (R : Walkable n marks₀ queue₀) {x : ℕ} (is_x : x ≡ edge_end (1 - off) es e) (fresh : is_set (get_or marks x 0) ≡ false) where
+        new : is_set (get_or marks (edge_end (1 - off) es e) 0) ≡ false
         new = ap (λ (y : ℕ). is_set (get_or marks y 0)) (sym is_x) ∙ fresh
 
         pub pushing-room : tail < n
         pushing-room = found-room P.found pushing-below new
 
-        pub pushing-push : h < queued → takesEnd kind off ≡ true → passable plain es e ≡ true
+        pub pushing-push : h < queued → takes_end kind off ≡ true → passable plain es e ≡ true
             → PushingFound plain kind off m n es s h u marks₀ queue₀ queued (set marks x 1) (set queue tail x) (tail + 1) (pair_at off nexts e)
         pushing-push l t p =
-            let w = edgeEnd (1 - off) es e in
+            let w = edge_end (1 - off) es e in
             let r : n ≤ length marks = omega (arith, P.marks-len, R.marks-room) in
             let y : w < length marks = omega (arith, pushing-below) in
             rw is_x (record {
@@ -246,7 +246,7 @@ module _ {m n : ℕ} {es heads nexts : List ℕ} (X : Indexed m n es heads nexts
     pushing-end P l = record { found = P.found; grown = P.grown; spread = record { at = λ j b t p q. P.spread.at j (omega arith) t p (q ∙ P.is-u) } }
 
 pub found_none : {plain : Bool} {kind off m n : ℕ} {es : List ℕ} {s h : ℕ} {marks queue : List ℕ} {tail : ℕ} → QueueFound plain
-    kind m n es s marks queue tail → takesEnd kind off ≡ false
+    kind m n es s marks queue tail → takes_end kind off ≡ false
     → Pushed plain kind off m n es s h marks queue tail marks queue tail
 found_none F f = record { found = F; grown = grown-same; spread = record { at = λ j b t p q. clash t f } }
 
@@ -255,13 +255,13 @@ found_none F f = record { found = F; grown = grown-same; spread = record { at = 
 module _ {plain : Bool} {kind m n : ℕ} {es : List ℕ} {s h : ℕ} {marks queue : List ℕ} {tail : ℕ} (l : h < tail)
     {marks₁ queue₁ : List ℕ} {tail₁ : ℕ} (A : Pushed plain kind 0 m n es s h marks queue tail marks₁ queue₁ tail₁)
     {marks₂ queue₂ : List ℕ} {tail₂ : ℕ} (B : Pushed plain kind 1 m n es s h marks₁ queue₁ tail₁ marks₂ queue₂ tail₂) where
-  step-marked : (off e : ℕ) → off ≤ 1 → e < m → takesEnd kind off ≡ true → passable plain es e ≡ true → edgeEnd off es e ≡ get_or queue h 0
-      → is_set (get_or marks₂ (edgeEnd (1 - off) es e) 0) ≡ true
+  step-marked : (off e : ℕ) → off ≤ 1 → e < m → takes_end kind off ≡ true → passable plain es e ≡ true → edge_end off es e ≡ get_or queue h 0
+      → is_set (get_or marks₂ (edge_end (1 - off) es e) 0) ≡ true
   step-marked zero e o k t p q = B.grown.marks_stay _ (A.spread.at e k t p q)
   step-marked (suc zero) e o k t p q = B.spread.at e k t p (q ∙ sym (A.grown.queue-stays h l))
   step-marked (suc (suc n)) e o k t p q = absurd (omega arith)
 
-  left-h : (w : ℕ) → Hop (walkStep plain kind) (bare m es) (get_or queue h 0) w → is_set (get_or marks₂ w 0) ≡ true
+  left-h : (w : ℕ) → Hop (walk_step plain kind) (bare m es) (get_or queue h 0) w → is_set (get_or marks₂ w 0) ≡ true
   left-h w j = let S = hop-step {plain = plain} {kind = kind} {m = m} {es = es} {u = get_or queue h 0} {w = w} j in
       ap (λ (x : ℕ). is_set (get_or marks₂ x 0)) (sym S.there)
       ∙ step-marked S.off S.edge S.is-end S.below S.takes S.passes S.here
@@ -285,7 +285,7 @@ pub record WalkingQueue (plain : Bool) (kind m n : ℕ) (es : List ℕ) (s : ℕ
   pub queue-len : length queue ≡ length queue₀
   pub found : QueueFound plain kind m n es s marks queue tail
   pub start : is_set (get_or marks s 0) ≡ true
-  pub left : (i : ℕ) → i < h → (w : ℕ) → Hop (walkStep plain kind) (bare m es) (get_or queue i 0) w → is_set (get_or marks w 0) ≡ true
+  pub left : (i : ℕ) → i < h → (w : ℕ) → Hop (walk_step plain kind) (bare m es) (get_or queue i 0) w → is_set (get_or marks w 0) ≡ true
 
 pub walkable-kept : {n : ℕ} {marks marks' queue queue' : List ℕ} → Walkable n marks queue → length marks' ≡ length marks → length queue'
     ≡ length queue → Walkable n marks' queue'
@@ -334,16 +334,16 @@ module _ {plain : Bool} {kind m n : ℕ} {es : List ℕ} {s : ℕ} where
     left = λ i k w j. at i k w (rw (L.grown.queue-stays i (omega arith)) at j);
   }
     where
-      at : (i : ℕ) → i < h + 1 → (w : ℕ) → Hop (walkStep plain kind) (bare m es) (get_or queue i 0) w → is_set (get_or marks' w 0) ≡ true
+      at : (i : ℕ) → i < h + 1 → (w : ℕ) → Hop (walk_step plain kind) (bare m es) (get_or queue i 0) w → is_set (get_or marks' w 0) ≡ true
       at i k w j = elim (ℕ_discrete i h) [ yes q ↦ L.left w (rw q at j) | no ne ↦ L.grown.marks_stay w (W.left i (omega arith) w j) ]
 
   module _ (E : EndsBelow n m es) (b : s < n) {marks₀ queue₀ marks queue : List ℕ} {tail h : ℕ} (W : WalkingQueue plain
       kind m n es s marks₀ queue₀ marks queue tail h) (over : tail ≤ h) where
-    hop-below : (u w : ℕ) → Hop (walkStep plain kind) (bare m es) u w → w < n
+    hop-below : (u w : ℕ) → Hop (walk_step plain kind) (bare m es) u w → w < n
     hop-below u w j = let S = hop-step {plain = plain} {kind = kind} {m = m} {es = es} {u = u} {w = w} j in
         omega (arith, S.there, end_below (1 - S.off) E S.edge S.below (omega arith))
 
-    way-marked : (d u v : ℕ) → u < n → is_set (get_or marks u 0) ≡ true → Way (walkStep plain kind) (bare m es) d u v → is_set (get_or marks v 0) ≡ true
+    way-marked : (d u v : ℕ) → u < n → is_set (get_or marks u 0) ≡ true → Way (walk_step plain kind) (bare m es) d u v → is_set (get_or marks v 0) ≡ true
     way-marked zero u v k t q = rw q at t
     way-marked (suc d) u v k t (w, j, y) =
         let r = W.found.place u k t in
@@ -351,10 +351,10 @@ module _ {plain : Bool} {kind m n : ℕ} {es : List ℕ} {s : ℕ} where
 
     pub walking-end : Reached plain kind m n es s marks
     walking-end = record {
-      at = λ k vs p v l. both_ways (is_set (get_or marks v 0)) (elem_of v (reached (walkStep plain kind) (graphIn k n m es vs p) s))
+      at = λ k vs p v l. both_ways (is_set (get_or marks v 0)) (elem_of v (reached (walk_step plain kind) (graph_in k n m es vs p) s))
           (λ t. let r = W.found.place v l t in
           let y = W.found.near r.0 r.1 in
-          short-reached (walkStep plain kind) (graphIn k n m es vs p) (λ u w j. omega (arith, order-in k n m es vs p, hop-below u w j))
+          short-reached (walk_step plain kind) (graph_in k n m es vs p) (λ u w j. omega (arith, order-in k n m es vs p, hop-below u w j))
           y.0 s v (omega (arith, order-in k n m es vs p, y.1, r.1, found-most W.found)) (omega (arith, order-in k n m es vs p)) (rw r.2 at y.2))
-          (λ t. let r = of-reached (walkStep plain kind) (graphIn k n m es vs p) s v t in way-marked r.0 s v b W.start r.1);
+          (λ t. let r = of-reached (walk_step plain kind) (graph_in k n m es vs p) s v t in way-marked r.0 s v b W.start r.1);
     }

@@ -12,17 +12,17 @@ use Rattle.defs.specs.Cleanup.{forward, backward, either}
 use Rattle.laws.proofs.ListLaws.{and_split, and-true, or_cases, or_left, or_right}
 use Rattle.laws.proofs.Reach.{Hop}
 use Rattle.tabs.proofs.ListTabs.{mem-tab, of-mem-tab}
-use Rattle.store.specs.Store.{edgeIn}
-use Rattle.index.specs.Index.{edgeEnd, end_at}
+use Rattle.store.specs.Store.{edge_in}
+use Rattle.index.specs.Index.{edge_end, end_at}
 use Rattle.index.proofs.IndexLaws.{end_is}
 use Rattle.refs.specs.Refs.{ref_at}
-use Rattle.reach.specs.Reach.{step_of, walkStep, takesEnd, passable, bare}
+use Rattle.reach.specs.Reach.{step_of, walk_step, takes_end, passable, bare}
 
 -- a step by its parts: the end at which it takes the edge
 pub record StepOver (kind : ℕ) (x : Edge) (u w : ℕ) : Type 0 where
   pub off : ℕ
   pub is-end : off ≤ 1
-  pub takes : takesEnd kind off ≡ true
+  pub takes : takes_end kind off ≡ true
   pub here : end_at off x ≡ u
   pub there : end_at (1 - off) x ≡ w
 
@@ -34,8 +34,8 @@ against : (x : Edge) (u w : ℕ) → x.to ≡ u → x.from ≡ w → backward x 
 unfolding backward
 against x u w p q = and-true _ _ (eq-eqb _ _ p) (eq-eqb _ _ q)
 
-pub step-yes : (kind off : ℕ) (x : Edge) (u w : ℕ) → off ≤ 1 → takesEnd kind off ≡ true → end_at off x ≡ u → end_at (1 - off) x ≡ w → step_of kind x u w ≡ true
-unfolding step_of takesEnd end_at either
+pub step-yes : (kind off : ℕ) (x : Edge) (u w : ℕ) → off ≤ 1 → takes_end kind off ≡ true → end_at off x ≡ u → end_at (1 - off) x ≡ w → step_of kind x u w ≡ true
+unfolding step_of takes_end end_at either
 step-yes zero zero x u w l t p q = along x u w p q
 step-yes zero (suc n) x u w l t p q = absurd (omega (arith, eqb-true (suc n) 0 t))
 step-yes (suc zero) zero x u w l t p q = absurd (omega (arith, eqb-true 0 1 t))
@@ -45,32 +45,32 @@ step-yes (suc (suc kind)) zero x u w l t p q = or_left _ _ (along x u w p q)
 step-yes (suc (suc kind)) (suc zero) x u w l t p q = or_right (forward x u w) _ (against x u w p q)
 step-yes (suc (suc kind)) (suc (suc n)) x u w l t p q = absurd (omega arith)
 
-of-along : (kind : ℕ) (x : Edge) (u w : ℕ) → takesEnd kind 0 ≡ true → forward x u w ≡ true → StepOver kind x u w
+of-along : (kind : ℕ) (x : Edge) (u w : ℕ) → takes_end kind 0 ≡ true → forward x u w ≡ true → StepOver kind x u w
 unfolding forward end_at
 of-along kind x u w t e = let h = and_split (eqb x.from u) (eqb x.to w) e in
     record { off = 0; is-end = omega arith; takes = t; here = eqb-true _ _ h.0; there = eqb-true _ _ h.1 }
 
-of-against : (kind : ℕ) (x : Edge) (u w : ℕ) → takesEnd kind 1 ≡ true → backward x u w ≡ true → StepOver kind x u w
+of-against : (kind : ℕ) (x : Edge) (u w : ℕ) → takes_end kind 1 ≡ true → backward x u w ≡ true → StepOver kind x u w
 unfolding backward end_at
 of-against kind x u w t e = let h = and_split (eqb x.to u) (eqb x.from w) e in
     record { off = 1; is-end = omega arith; takes = t; here = eqb-true _ _ h.0; there = eqb-true _ _ h.1 }
 
 pub of-step : (kind : ℕ) (x : Edge) (u w : ℕ) → step_of kind x u w ≡ true → StepOver kind x u w
-unfolding step_of either takesEnd
+unfolding step_of either takes_end
 of-step zero x u w e = of-along zero x u w refl e
 of-step (suc zero) x u w e = of-against (suc zero) x u w refl e
 of-step (suc (suc n)) x u w e = ⊎_elim (of-along (suc (suc n)) x u w refl) (of-against (suc (suc n)) x u w refl) (or_cases (forward x u w) (backward x u w) e)
 
 -- in slices
-walk-yes : (plain : Bool) (kind : ℕ) (es : List ℕ) (e u w : ℕ) → passable plain es e ≡ true → step_of kind (edgeIn es e) u w ≡ true
-    → walkStep plain kind (edgeIn es e) u w ≡ true
-unfolding walkStep passable
+walk-yes : (plain : Bool) (kind : ℕ) (es : List ℕ) (e u w : ℕ) → passable plain es e ≡ true → step_of kind (edge_in es e) u w ≡ true
+    → walk_step plain kind (edge_in es e) u w ≡ true
+unfolding walk_step passable
 walk-yes true kind es e u w p t = and-true _ _ p t
 walk-yes false kind es e u w p t = t
 
-of-walk : (plain : Bool) (kind : ℕ) (es : List ℕ) (e u w : ℕ) → walkStep plain kind (edgeIn es e) u w ≡ true → (passable plain es e ≡ true)
-    × (step_of kind (edgeIn es e) u w ≡ true)
-unfolding walkStep passable
+of-walk : (plain : Bool) (kind : ℕ) (es : List ℕ) (e u w : ℕ) → walk_step plain kind (edge_in es e) u w ≡ true → (passable plain es e ≡ true)
+    × (step_of kind (edge_in es e) u w ≡ true)
+unfolding walk_step passable
 of-walk true kind es e u w t = and_split _ _ t
 of-walk false kind es e u w t = (refl, t)
 
@@ -81,22 +81,22 @@ pub record Step (plain : Bool) (kind m : ℕ) (es : List ℕ) (u w : ℕ) : Type
   pub passes : passable plain es edge ≡ true
   pub off : ℕ
   pub is-end : off ≤ 1
-  pub takes : takesEnd kind off ≡ true
-  pub here : edgeEnd off es edge ≡ u
-  pub there : edgeEnd (1 - off) es edge ≡ w
+  pub takes : takes_end kind off ≡ true
+  pub here : edge_end off es edge ≡ u
+  pub there : edge_end (1 - off) es edge ≡ w
 
-pub step-hop : {plain : Bool} {kind m : ℕ} {es : List ℕ} {u w : ℕ} → Step plain kind m es u w → Hop (walkStep plain kind) (bare m es) u w
+pub step-hop : {plain : Bool} {kind m : ℕ} {es : List ℕ} {u w : ℕ} → Step plain kind m es u w → Hop (walk_step plain kind) (bare m es) u w
 step-hop {plain} {kind} {m} {es} {u} {w} S = (
-  edgeIn es S.edge,
-  mem-tab m (edgeIn es) S.edge S.below,
-  walk-yes plain kind es S.edge u w S.passes (step-yes kind S.off (edgeIn es S.edge) u w S.is-end S.takes
+  edge_in es S.edge,
+  mem-tab m (edge_in es) S.edge S.below,
+  walk-yes plain kind es S.edge u w S.passes (step-yes kind S.off (edge_in es S.edge) u w S.is-end S.takes
       (end_is es S.off S.edge S.is-end ∙ S.here) (end_is es (1 - S.off) S.edge (omega arith) ∙ S.there)),
 )
 
-hop-at : (plain : Bool) (kind m : ℕ) (es : List ℕ) (u w e : ℕ) → e < m → walkStep plain kind (edgeIn es e) u w ≡ true → Step plain kind m es u w
+hop-at : (plain : Bool) (kind m : ℕ) (es : List ℕ) (u w e : ℕ) → e < m → walk_step plain kind (edge_in es e) u w ≡ true → Step plain kind m es u w
 hop-at plain kind m es u w e b t =
     let h = of-walk plain kind es e u w t in
-    let o = of-step kind (edgeIn es e) u w h.1 in
+    let o = of-step kind (edge_in es e) u w h.1 in
     record {
       edge = e;
       below = b;
@@ -108,22 +108,22 @@ hop-at plain kind m es u w e b t =
       there = sym (end_is es (1 - o.off) e (omega arith)) ∙ o.there;
     }
 
-pub hop-step : {plain : Bool} {kind m : ℕ} {es : List ℕ} {u w : ℕ} → Hop (walkStep plain kind) (bare m es) u w → Step plain kind m es u w
-hop-step {plain} {kind} {m} {es} {u} {w} (x, i, t) = let j = of-mem-tab m (edgeIn es) i in hop-at plain
-    kind m es u w j.0 j.1 (ap (λ (y : Edge). walkStep plain kind y u w) (sym j.2) ∙ t)
+pub hop-step : {plain : Bool} {kind m : ℕ} {es : List ℕ} {u w : ℕ} → Hop (walk_step plain kind) (bare m es) u w → Step plain kind m es u w
+hop-step {plain} {kind} {m} {es} {u} {w} (x, i, t) = let j = of-mem-tab m (edge_in es) i in hop-at plain
+    kind m es u w j.0 j.1 (ap (λ (y : Edge). walk_step plain kind y u w) (sym j.2) ∙ t)
 
 -- ---- the tests, as they are made
 
-pub takes_along : (kind off : ℕ) → kind ≡ 0 → eqb off 0 ≡ takesEnd kind off
-unfolding takesEnd
+pub takes_along : (kind off : ℕ) → kind ≡ 0 → eqb off 0 ≡ takes_end kind off
+unfolding takes_end
 takes_along kind off q = rw q
 
-pub takes-against : (kind off : ℕ) → kind ≡ 1 → eqb off 1 ≡ takesEnd kind off
-unfolding takesEnd
+pub takes-against : (kind off : ℕ) → kind ≡ 1 → eqb off 1 ≡ takes_end kind off
+unfolding takes_end
 takes-against kind off q = rw q
 
-pub takes-either : (kind off : ℕ) → (kind ≡ 0 → ⊥) → (kind ≡ 1 → ⊥) → true ≡ takesEnd kind off
-unfolding takesEnd
+pub takes-either : (kind off : ℕ) → (kind ≡ 0 → ⊥) → (kind ≡ 1 → ⊥) → true ≡ takes_end kind off
+unfolding takes_end
 takes-either zero off a b = absurd (a refl)
 takes-either (suc zero) off a b = absurd (b refl)
 takes-either (suc (suc kind)) off a b = refl

@@ -2,11 +2,11 @@
 // they were found; the vertices before `h` have been left along all their edges.
 ghost use Rattle.std.specs.Prelude.{◌≡◌, ◌+◌, ◌*◌, ◌<◌, ◌≤◌, length};
 ghost use Rattle.index.specs.Index.{Indexed};
-ghost use Rattle.reach.specs.Reach.{takesEnd, passable, Walkable, QueueFound, Pushed, VertexLeft, Reached};
+ghost use Rattle.reach.specs.Reach.{takes_end, passable, Walkable, QueueFound, Pushed, VertexLeft, Reached};
 
 // Whether a walk of this kind takes the edges at the end `off` of a vertex. Kind 0 goes along the edges, 1 against them, any other either way.
 fn takes_end(kind: u32, off: usize) -> bool
-    ensures { result ≡ takesEnd kind off }
+    ensures { result ≡ takes_end kind off }
 {
     if kind == 0 {
         return off == 0;

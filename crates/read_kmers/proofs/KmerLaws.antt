@@ -9,20 +9,20 @@ use lib.Dec.{eqb}
 use borrow.Author.Tests.{eq-eqb}
 use Rattle.defs.specs.Lists.{all_of}
 use Rattle.defs.specs.SeqGraph as seq
-use Rattle.defs.specs.SeqGraph.{vertexSequence}
-use Rattle.defs.specs.Forms.{formOf, limits}
-use Rattle.defs.specs.Record.{kind_of, k_of, verticesOf, length_at, decode}
-use Rattle.defs.specs.Refusals.{Cause, refusalOf, kmerOnly, doubledEdge, equalKmers, doubled, hasCycle, edgeWithoutOverlap}
-use Rattle.defs.specs.Refusals.{layoutCauses, doubledCause, overlapCause, cycleCause}
+use Rattle.defs.specs.SeqGraph.{vertex_sequence}
+use Rattle.defs.specs.Forms.{form_of, limits}
+use Rattle.defs.specs.Record.{kind_of, k_of, vertices_of, length_at, decode}
+use Rattle.defs.specs.Refusals.{Cause, refusal_of, kmer_only, doubled_edge, equal_kmers, doubled, has_cycle, edge_without_overlap}
+use Rattle.defs.specs.Refusals.{layout_causes, doubled_cause, overlap_cause, cycle_cause}
 use Rattle.laws.proofs.ListLaws.{clash, or-false}
 use Rattle.laws.proofs.Causes.{CausesNumbered, numbers-above, refusal-nil, refusal-there, refusal-absent, refusal-later, refusal-earlier, refusal-front}
-use Rattle.tabs.proofs.Tabs.{getD-tab}
-use Rattle.store.specs.Store.{edgesIn, seqIn, seqsIn}
+use Rattle.tabs.proofs.Tabs.{get_or-tab}
+use Rattle.store.specs.Store.{edges_in, seq_in, seqs_in}
 use Rattle.store.proofs.VertexLaws.{part-long}
 use Rattle.index.specs.Index.{Indexed, Indexable}
 use Rattle.memory.specs.declared.Held.{Held}
 use Rattle.form.proofs.FormLaws.{limits-small}
-use Rattle.record.specs.Kinds.{takesOf}
+use Rattle.record.specs.Kinds.{takes_of}
 use Rattle.record.specs.declared.Takes.TheVariants.{KmerOnly}
 use Rattle.kmer.specs.declared.KmerSize.{KmerSize}
 use Rattle.record.specs.Layout.{WellFormed, layout_of}
@@ -43,20 +43,20 @@ use Rattle.accept.specs.Accept.{RoomFor, RoomToRead, RoomToMark}
 use Rattle.accept.specs.declared.Read.{Read}
 use Rattle.accept.specs.declared.Read.TheVariants.{Graph, Refused}
 use Rattle.accept.proofs.AcceptLaws.{not-both, number-graph, number-refused, same-held}
-use Rattle.read_kmers.specs.Kmers.{kmerCauses, overlappingCauses, Doubles, HoldsKmers, KmersRead}
+use Rattle.read_kmers.specs.Kmers.{kmer_causes, overlapping_causes, Doubles, HoldsKmers, KmersRead}
 
 -- ---- doubled edges and k-mers
 
-module _ {m n : ℕ} {es vs p : List ℕ} {d : Bool} {order : List ℕ} (q : d ≡ doubledEdge (edgesIn m es)) where
+module _ {m n : ℕ} {es vs p : List ℕ} {d : Bool} {order : List ℕ} (q : d ≡ doubled_edge (edges_in m es)) where
   pub edges-double : d ≡ true → Doubles m n es vs p true order
   edges-double t = record { is = rw (sym q ∙ t); ordered = λ f. clash refl f }
 
-  pub kmers-double : {e : Bool} → d ≡ false → KmerOrder n vs p order → e ≡ equalKmers (seqsIn n vs p) → Doubles m n es vs p e order
+  pub kmers-double : {e : Bool} → d ≡ false → KmerOrder n vs p order → e ≡ equal_kmers (seqs_in n vs p) → Doubles m n es vs p e order
   kmers-double f K r = record { is = rw (sym q ∙ f) r; ordered = λ _. K }
 
 -- ---- the record
 
-refused_as : {causes : List Cause} {bs : List ℕ} (n : ℕ) → n ≡ refusalOf causes → (n ≡ 0 → ⊥) → {es vs heads nexts order : List ℕ}
+refused_as : {causes : List Cause} {bs : List ℕ} (n : ℕ) → n ≡ refusal_of causes → (n ≡ 0 → ⊥) → {es vs heads nexts order : List ℕ}
     → KmersRead causes bs (Refused n) es vs heads nexts order
 refused_as n q o = record {
   number = number-refused refl ∙ q;
@@ -66,43 +66,43 @@ refused_as n q o = record {
 
 module _ (bs : List ℕ) where
   pub read-refused : {r : Layout} {n : ℕ} {es vs heads nexts order : List ℕ}
-      → r ≡ layout_of (refusalOf (layoutCauses (takesOf KmerOnly) bs)) (k_of bs)
-      → r ≡ checked.Refused n → KmersRead (kmerCauses bs) bs (Refused n) es vs heads nexts order
-  unfolding takesOf
+      → r ≡ layout_of (refusal_of (layout_causes (takes_of KmerOnly) bs)) (k_of bs)
+      → r ≡ checked.Refused n → KmersRead (kmer_causes bs) bs (Refused n) es vs heads nexts order
+  unfolding takes_of
   read-refused {n = n} e f =
-      let some = refused-some kmerOnly bs e f in
+      let some = refused-some kmer_only bs e f in
       refused_as n
-      (sym (refusal-earlier (layoutCauses kmerOnly bs) (doubledCause bs ∷ []) (sym (refused-number kmerOnly bs e f)) some)) some
+      (sym (refusal-earlier (layout_causes kmer_only bs) (doubled_cause bs ∷ []) (sym (refused-number kmer_only bs e f)) some)) some
 
-  module _ (layout : refusalOf (layoutCauses kmerOnly bs) ≡ 0) {es vs heads nexts order scratch : List ℕ}
+  module _ (layout : refusal_of (layout_causes kmer_only bs) ≡ 0) {es vs heads nexts order scratch : List ℕ}
       (Y : RoomToRead bs es vs heads nexts order scratch) where
     formed : WellFormed bs
-    formed = well-formed kmerOnly bs layout
+    formed = well-formed kmer_only bs layout
 
     R : RoomFor bs es vs heads nexts order scratch
     R = Y.room formed
 
-    later : refusalOf (kmerCauses bs) ≡ refusalOf (doubledCause bs ∷ [])
-    later = refusal-later (layoutCauses kmerOnly bs) (doubledCause bs ∷ []) (layout-numbered kmerOnly bs) layout
+    later : refusal_of (kmer_causes bs) ≡ refusal_of (doubled_cause bs ∷ [])
+    later = refusal-later (layout_causes kmer_only bs) (doubled_cause bs ∷ []) (layout-numbered kmer_only bs) layout
 
-    size_is : (i : ℕ) → i < verticesOf bs → length_at bs i ≡ k_of bs
+    size_is : (i : ℕ) → i < vertices_of bs → length_at bs i ≡ k_of bs
     size_is = formed.kmers (kmer-kind bs layout)
 
     pub read-loadable : Loadable bs es vs
     read-loadable = record { laid = formed-laid formed; es-room = R.es-room; vs-room = R.vs-room }
 
     module _ {h : Held} {es' vs' : List ℕ} (L : Loaded bs h es' vs') where
-      n-most : h.n ≤ (limits (formOf bs)).vertices
+      n-most : h.n ≤ (limits (form_of bs)).vertices
       n-most = omega (arith, L.n, formed.vertices)
 
-      m-most : h.m ≤ (limits (formOf bs)).edges
+      m-most : h.m ≤ (limits (form_of bs)).edges
       m-most = omega (arith, L.m, formed.edges)
 
       n-small : h.n ≤ 32768
-      n-small = omega (arith, n-most, (limits-small (formOf bs)).vertices)
+      n-small = omega (arith, n-most, (limits-small (form_of bs)).vertices)
 
       m-small : h.m ≤ 65536
-      m-small = omega (arith, m-most, (limits-small (formOf bs)).edges)
+      m-small = omega (arith, m-most, (limits-small (form_of bs)).edges)
 
       pub read-indexable : length es' ≡ length es → Indexable h.m h.n es' heads nexts
       read-indexable l = record {
@@ -124,29 +124,29 @@ module _ (bs : List ℕ) where
         keys = λ v c. record { room = omega (arith, l, L.n, R.vs-room); inside = L.within.at v c };
       }
 
-      doubled-is : doubled bs ≡ (doubledEdge (edgesIn h.m es') || equalKmers (seqsIn h.n vs' bs))
+      doubled-is : doubled bs ≡ (doubled_edge (edges_in h.m es') || equal_kmers (seqs_in h.n vs' bs))
       unfolding doubled
-      doubled-is = (λ j. doubledEdge (sym L.is j).edges || (eqb (kind_of bs) 0 && equalKmers (sym L.is j).verts))
+      doubled-is = (λ j. doubled_edge (sym L.is j).edges || (eqb (kind_of bs) 0 && equal_kmers (sym L.is j).verts))
           ∙ rw (eq-eqb (kind_of bs) 0 (kmer-kind bs layout))
 
       -- a vertex's k-mer has k bytes
       size-held : (v : ℕ) → v < h.n → get_or vs' (2 * v + 1) 0 ≡ h.k.0
       size-held v b =
-          let below : v < verticesOf bs = omega (arith, L.n) in
+          let below : v < vertices_of bs = omega (arith, L.n) in
           sym (part-long bs (get_or vs' (2 * v) 0) (get_or vs' (2 * v + 1) 0) (L.within.at v b))
           ∙ ap length (sequence-is ∙ vertex-is bs v below) ∙ length-sequence bs v below formed ∙ size_is v below ∙ sym L.k
         where
-          sequence-is : seqIn vs' bs v ≡ vertexSequence (decode bs) v
-          sequence-is = unfold vertexSequence in (sym (getD-tab h.n (seqIn vs' bs) v [] b) ∙ ap (λ (g : seq.Graph). get_or g.verts v []) L.is)
+          sequence-is : seq_in vs' bs v ≡ vertex_sequence (decode bs) v
+          sequence-is = unfold vertex_sequence in (sym (get_or-tab h.n (seq_in vs' bs) v [] b) ∙ ap (λ (g : seq.Graph). get_or g.verts v []) L.is)
 
       module _ {d : Bool} {order' : List ℕ} (D : Doubles h.m h.n es' vs' bs d order') where
-        pub read-6 : d ≡ true → {es₂ vs₂ heads₂ nexts₂ order₂ : List ℕ} → KmersRead (kmerCauses bs) bs (Refused 6) es₂ vs₂ heads₂ nexts₂ order₂
-        read-6 t = refused_as 6 (sym (later ∙ refusal-there (doubledCause bs) [] (doubled-is ∙ sym D.is ∙ t))) (λ z. omega arith)
+        pub read-6 : d ≡ true → {es₂ vs₂ heads₂ nexts₂ order₂ : List ℕ} → KmersRead (kmer_causes bs) bs (Refused 6) es₂ vs₂ heads₂ nexts₂ order₂
+        read-6 t = refused_as 6 (sym (later ∙ refusal-there (doubled_cause bs) [] (doubled-is ∙ sym D.is ∙ t))) (λ z. omega arith)
 
         pub read-0 : d ≡ false → {heads' nexts' : List ℕ} → Indexed h.m h.n es' heads' nexts'
-            → KmersRead (kmerCauses bs) bs (Graph h) es' vs' heads' nexts' order'
+            → KmersRead (kmer_causes bs) bs (Graph h) es' vs' heads' nexts' order'
         read-0 t {heads'} {nexts'} I =
-            let apart = or-false (doubledEdge (edgesIn h.m es')) (equalKmers (seqsIn h.n vs' bs)) (sym D.is ∙ t) in
+            let apart = or-false (doubled_edge (edges_in h.m es')) (equal_kmers (seqs_in h.n vs' bs)) (sym D.is ∙ t) in
             let held : HoldsKmers bs h es' vs' heads' nexts' order' = record {
               loaded = L;
               single = apart.0;
@@ -161,58 +161,58 @@ module _ (bs : List ℕ) where
               ordered = D.ordered t;
             } in
             record {
-              number = number-graph refl ∙ sym (later ∙ refusal-absent (doubledCause bs) [] (doubled-is ∙ sym D.is ∙ t) ∙ refusal-nil);
+              number = number-graph refl ∙ sym (later ∙ refusal-absent (doubled_cause bs) [] (doubled-is ∙ sym D.is ∙ t) ∙ refusal-nil);
               holds = λ g e. subst (λ (x : Held). HoldsKmers bs x es' vs' heads' nexts' order') (same-held e) held;
               refused = λ n e. not-both refl e;
             }
 
 -- the layout that was checked
-module _ (bs : List ℕ) {r : Layout} (e : r ≡ layout_of (refusalOf (layoutCauses (takesOf KmerOnly) bs)) (k_of bs)) where
-  pub layout-none : {k : KmerSize} → r ≡ Formed k → refusalOf (layoutCauses kmerOnly bs) ≡ 0
-  unfolding takesOf
-  layout-none f = formed-none kmerOnly bs e f
+module _ (bs : List ℕ) {r : Layout} (e : r ≡ layout_of (refusal_of (layout_causes (takes_of KmerOnly) bs)) (k_of bs)) where
+  pub layout-none : {k : KmerSize} → r ≡ Formed k → refusal_of (layout_causes kmer_only bs) ≡ 0
+  unfolding takes_of
+  layout-none f = formed-none kmer_only bs e f
 
   pub layout-size : {k : KmerSize} → r ≡ Formed k → k.0 ≡ k_of bs
-  layout-size f = formed-size (takesOf KmerOnly) bs e f
+  layout-size f = formed-size (takes_of KmerOnly) bs e f
 
 -- ---- behind 6
 
 module _ (bs : List ℕ) where
-  kmers-numbered : CausesNumbered (kmerCauses bs)
-  unfolding layoutCauses all_of
-  kmers-numbered = numbers-above (kmerCauses bs) refl
+  kmers-numbered : CausesNumbered (kmer_causes bs)
+  unfolding layout_causes all_of
+  kmers-numbered = numbers-above (kmer_causes bs) refl
 
-  kmers-formed : refusalOf (kmerCauses bs) ≡ 0 → refusalOf (layoutCauses kmerOnly bs) ≡ 0
-  kmers-formed z = refusal-front (layoutCauses kmerOnly bs) (doubledCause bs ∷ []) z
+  kmers-formed : refusal_of (kmer_causes bs) ≡ 0 → refusal_of (layout_causes kmer_only bs) ≡ 0
+  kmers-formed z = refusal-front (layout_causes kmer_only bs) (doubled_cause bs ∷ []) z
 
   -- 15 and 7 behind the others
   abbrev behind : List Cause
-  behind = overlapCause bs ∷ cycleCause bs ∷ []
+  behind = overlap_cause bs ∷ cycle_cause bs ∷ []
 
-  overlapping-early : {i : ℕ} → refusalOf (kmerCauses bs) ≡ i → (i ≡ 0 → ⊥) → refusalOf (overlappingCauses bs) ≡ i
-  unfolding layoutCauses
-  overlapping-early e o = refusal-earlier (kmerCauses bs) behind e o
+  overlapping-early : {i : ℕ} → refusal_of (kmer_causes bs) ≡ i → (i ≡ 0 → ⊥) → refusal_of (overlapping_causes bs) ≡ i
+  unfolding layout_causes
+  overlapping-early e o = refusal-earlier (kmer_causes bs) behind e o
 
-  overlapping-late : refusalOf (kmerCauses bs) ≡ 0 → refusalOf (overlappingCauses bs) ≡ refusalOf behind
-  unfolding layoutCauses
-  overlapping-late z = refusal-later (kmerCauses bs) behind kmers-numbered z
+  overlapping-late : refusal_of (kmer_causes bs) ≡ 0 → refusal_of (overlapping_causes bs) ≡ refusal_of behind
+  unfolding layout_causes
+  overlapping-late z = refusal-later (kmer_causes bs) behind kmers-numbered z
 
-module _ {bs : List ℕ} {r : Read} {es vs heads nexts order : List ℕ} (A : KmersRead (kmerCauses bs) bs r es vs heads nexts order) where
+module _ {bs : List ℕ} {r : Read} {es vs heads nexts order : List ℕ} (A : KmersRead (kmer_causes bs) bs r es vs heads nexts order) where
   pub overlapping-refused : {n : ℕ} {es₂ vs₂ heads₂ nexts₂ order₂ : List ℕ} → r ≡ Refused n
-      → KmersRead (overlappingCauses bs) bs (Refused n) es₂ vs₂ heads₂ nexts₂ order₂
+      → KmersRead (overlapping_causes bs) bs (Refused n) es₂ vs₂ heads₂ nexts₂ order₂
   overlapping-refused {n} f = let o = A.refused n f in refused_as n (sym (overlapping-early bs (sym A.number ∙ number-refused f) o)) o
 
   module _ {h : Held} (ok : r ≡ Graph h) where
     held : HoldsKmers bs h es vs heads nexts order
     held = A.holds h ok
 
-    none : refusalOf (kmerCauses bs) ≡ 0
+    none : refusal_of (kmer_causes bs) ≡ 0
     none = sym A.number ∙ number-graph ok
 
     pub kmer-record : KmerRecord bs h.k
     unfolding decode
     kmer-record = record {
-      formed = well-formed kmerOnly bs (kmers-formed bs none);
+      formed = well-formed kmer_only bs (kmers-formed bs none);
       kind = kmer-kind bs (kmers-formed bs none);
       size = ap (λ (g : seq.Graph). g.k) held.loaded.is;
     }
@@ -225,34 +225,34 @@ module _ {bs : List ℕ} {r : Read} {es vs heads nexts order : List ℕ} (A : Km
         let R = Y.reading.room K.formed in (
           held.indexed,
           (
-            omega (arith, held.edges, (limits-small (formOf bs)).edges),
+            omega (arith, held.edges, (limits-small (form_of bs)).edges),
             record {
               degrees-room = omega (arith, l, held.loaded.n, R.mp-room);
               queue-room = omega (arith, held.loaded.n, Y.marks-room K.formed);
-              small = omega (arith, held.vertices, (limits-small (formOf bs)).vertices);
+              small = omega (arith, held.vertices, (limits-small (form_of bs)).vertices);
             },
           ),
         )
 
-    module _ {o : Bool} (O : o ≡ edgeWithoutOverlap (decode bs)) where
+    module _ {o : Bool} (O : o ≡ edge_without_overlap (decode bs)) where
       pub read-15 : o ≡ true → {es₂ vs₂ heads₂ nexts₂ order₂ : List ℕ}
-          → KmersRead (overlappingCauses bs) bs (Refused 15) es₂ vs₂ heads₂ nexts₂ order₂
-      read-15 t = refused_as 15 (sym (overlapping-late bs none ∙ refusal-there (overlapCause bs) _ (sym O ∙ t))) (λ z. omega arith)
+          → KmersRead (overlapping_causes bs) bs (Refused 15) es₂ vs₂ heads₂ nexts₂ order₂
+      read-15 t = refused_as 15 (sym (overlapping-late bs none ∙ refusal-there (overlap_cause bs) _ (sym O ∙ t))) (λ z. omega arith)
 
       module _ (f : o ≡ false) {c : Bool} (C : HasCycle h.m h.n es c) where
-        later-7 : refusalOf (overlappingCauses bs) ≡ refusalOf (cycleCause bs ∷ [])
-        later-7 = overlapping-late bs none ∙ refusal-absent (overlapCause bs) (cycleCause bs ∷ []) (sym O ∙ f)
+        later-7 : refusal_of (overlapping_causes bs) ≡ refusal_of (cycle_cause bs ∷ [])
+        later-7 = overlapping-late bs none ∙ refusal-absent (overlap_cause bs) (cycle_cause bs ∷ []) (sym O ∙ f)
 
-        cycle-is : hasCycle (decode bs) ≡ c
-        cycle-is = ap hasCycle (sym held.loaded.is) ∙ sym (C.is h.k.0 vs bs)
+        cycle-is : has_cycle (decode bs) ≡ c
+        cycle-is = ap has_cycle (sym held.loaded.is) ∙ sym (C.is h.k.0 vs bs)
 
         pub read-7 : c ≡ true → {es₂ vs₂ heads₂ nexts₂ order₂ : List ℕ}
-            → KmersRead (overlappingCauses bs) bs (Refused 7) es₂ vs₂ heads₂ nexts₂ order₂
-        read-7 t = refused_as 7 (sym (later-7 ∙ refusal-there (cycleCause bs) [] (cycle-is ∙ t))) (λ z. omega arith)
+            → KmersRead (overlapping_causes bs) bs (Refused 7) es₂ vs₂ heads₂ nexts₂ order₂
+        read-7 t = refused_as 7 (sym (later-7 ∙ refusal-there (cycle_cause bs) [] (cycle-is ∙ t))) (λ z. omega arith)
 
-        pub read_whole : c ≡ false → KmersRead (overlappingCauses bs) bs (Graph h) es vs heads nexts order
+        pub read_whole : c ≡ false → KmersRead (overlapping_causes bs) bs (Graph h) es vs heads nexts order
         read_whole t = record {
-          number = number-graph refl ∙ sym (later-7 ∙ refusal-absent (cycleCause bs) [] (cycle-is ∙ t) ∙ refusal-nil);
+          number = number-graph refl ∙ sym (later-7 ∙ refusal-absent (cycle_cause bs) [] (cycle-is ∙ t) ∙ refusal-nil);
           holds = λ g e. subst (λ (x : Held). HoldsKmers bs x es vs heads nexts order) (same-held e) held;
           refused = λ n e. not-both refl e;
         }

@@ -5,7 +5,7 @@ ghost use Rattle.doubled.specs.Doubled.{Markable};
 ghost use Rattle.accept.specs.Accept.{RoomToRead, RoomToMark};
 ghost use Rattle.sort.specs.Sort.{Sortable};
 ghost use Rattle.kmer_order.specs.Order.{ReadableSequence};
-ghost use Rattle.read_kmers.specs.Kmers.{kmerCauses, overlappingCauses, Doubles, KmersRead};
+ghost use Rattle.read_kmers.specs.Kmers.{kmer_causes, overlapping_causes, Doubles, KmersRead};
 
 use accept::Read;
 use record::{Layout, Takes};
@@ -44,7 +44,7 @@ pub fn read_kmer_graph(
     scratch: &mut [u32],
 ) -> Read
     requires { RoomToRead rec.now es.old vs.old heads.old nexts.old order.old scratch.old }
-    ensures { KmersRead (kmerCauses rec.now) rec.now result es.new vs.new heads.new
+    ensures { KmersRead (kmer_causes rec.now) rec.now result es.new vs.new heads.new
         nexts.new order.new }
 {
     let k = match record::check_layout(rec, Takes::KmerOnly) {
@@ -73,7 +73,7 @@ pub fn read_overlapping_kmer_graph(
     place: &mut [u32],
 ) -> Read
     requires { RoomToMark rec.now es.old vs.old heads.old nexts.old order.old scratch.old place.old }
-    ensures { KmersRead (overlappingCauses rec.now) rec.now result es.new vs.new
+    ensures { KmersRead (overlapping_causes rec.now) rec.now result es.new vs.new
         heads.new nexts.new order.new }
 {
     let held = match read_kmer_graph(rec, es, vs, heads, nexts, order, scratch) {

@@ -8,12 +8,12 @@ use native.Mathlib.Omega.{arith}
 use lib.ListN.{length}
 use Rattle.defs.specs.Lists.{given}
 use Rattle.defs.specs.SeqGraph.{Graph}
-use Rattle.defs.specs.Simplify.{sequenceBytes}
-use Rattle.defs.specs.Paths.{isPathOf, pathBasesBytes, referencePathBytes}
+use Rattle.defs.specs.Simplify.{sequence_bytes}
+use Rattle.defs.specs.Paths.{is_path_of, path_bases_bytes, reference_path_bytes}
 use Rattle.defs.specs.Record.{decode}
-use Rattle.defs.specs.Refusals.{Cause, sequenceOnly, recordCauses, recordRefusal}
-use Rattle.defs.specs.Calls.{Response, refused, isNothing, bytesOrNone, referenceCause, referenceBytes, pathCause, pathBytes}
-use Rattle.laws.proofs.Walks.{byTest}
+use Rattle.defs.specs.Refusals.{Cause, sequence_only, record_causes, record_refusal}
+use Rattle.defs.specs.Calls.{Response, refused, is_nothing, bytes_or_none, reference_cause, reference_bytes, path_cause, path_bytes}
+use Rattle.laws.proofs.Walks.{by_test}
 use Rattle.laws.proofs.ListLaws.{given-some, by_order, given_yes}
 use Rattle.laws.proofs.Whole.{no-some}
 use Rattle.memory.specs.Memory.{graph_of}
@@ -27,14 +27,14 @@ use Rattle.calls.specs.declared.Answer.{Answer}
 use Rattle.calls.proofs.CauseLaws.{behind-numbered, behind-refused, behind-present, behind-absent}
 use Rattle.calls.proofs.SendLaws.{responds-refused, responds-accepted}
 use Rattle.calls.proofs.ResponseLaws.{fits-short, fits-enough, respond-refused, respond-fits}
-use Rattle.reading_calls.specs.Reading.{referenceResponse, pathResponse, Tells, Tellable, GraphAnswered}
+use Rattle.reading_calls.specs.Reading.{reference_response, path_response, Tells, Tellable, GraphAnswered}
 use Rattle.reading_calls.proofs.LengthLaws.{path-most, reference-most}
 
 -- ---- what is sent, by what is told
 
-byBytes : {A : Type 0} (b : OptionBytes) → ((n : ℕ) → b ≡ Some n → A) → (b ≡ None → A) → A
-byBytes (Some n) f g = f n refl
-byBytes None f g = g refl
+by_bytes : {A : Type 0} (b : OptionBytes) → ((n : ℕ) → b ≡ Some n → A) → (b ≡ None → A) → A
+by_bytes (Some n) f g = f n refl
+by_bytes None f g = g refl
 
 some_or_none : {A : Type 0} {b : OptionBytes} {n : ℕ} → b ≡ None → b ≡ Some n → A
 some_or_none p q = absurd (let z : ◌≡◌ {A = ℕ} 0 1 = cc in omega arith)
@@ -69,55 +69,55 @@ module _ {o : Option (List ℕ)} {out out' : List ℕ} {b : OptionBytes} (T : To
       (y.2.kept (omega (arith, e))))
 
   tells : Responds x out s out'
-  tells = byBytes b whole (λ f. let y = none_told T f in responds-refused (none_is y.0) (A.none f) y.1)
+  tells = by_bytes b whole (λ f. let y = none_told T f in responds-refused (none_is y.0) (A.none f) y.1)
 
 -- ---- the responses
 
 module _ (bs : List ℕ) (room : ℕ) where
   -- 1 to 7, 10
-  abbrev referenceCauses : List Cause
-  referenceCauses = recordCauses sequenceOnly bs ++ (referenceCause bs ∷ [])
+  abbrev reference_causes : List Cause
+  reference_causes = record_causes sequence_only bs ++ (reference_cause bs ∷ [])
 
-  pub reference-refused : {n : ℕ} → recordRefusal sequenceOnly bs ≡ n → (n ≡ 0 → ⊥) → referenceResponse bs room ≡ refused n
-  unfolding referenceResponse
-  reference-refused {n} e o = respond-refused referenceCauses room (referenceBytes bs) n (behind-refused sequenceOnly bs 10 _ e o) o
+  pub reference-refused : {n : ℕ} → record_refusal sequence_only bs ≡ n → (n ≡ 0 → ⊥) → reference_response bs room ≡ refused n
+  unfolding reference_response
+  reference-refused {n} e o = respond-refused reference_causes room (reference_bytes bs) n (behind-refused sequence_only bs 10 _ e o) o
 
-  module _ (z : recordRefusal sequenceOnly bs ≡ 0) where
-    pub reference-none : referencePathBytes (decode bs) ≡ none → referenceResponse bs room ≡ refused 10
-    unfolding referenceResponse isNothing
-    reference-none e = respond-refused referenceCauses room (referenceBytes bs) 10 (behind-present sequenceOnly bs 10 _ z (ap isNothing e)) (λ q. omega arith)
+  module _ (z : record_refusal sequence_only bs ≡ 0) where
+    pub reference-none : reference_path_bytes (decode bs) ≡ none → reference_response bs room ≡ refused 10
+    unfolding reference_response is_nothing
+    reference-none e = respond-refused reference_causes room (reference_bytes bs) 10 (behind-present sequence_only bs 10 _ z (ap is_nothing e)) (λ q. omega arith)
 
-    pub reference-some : (s : List ℕ) → referencePathBytes (decode bs) ≡ some s → referenceResponse bs room ≡ fits room s
-    unfolding referenceResponse isNothing bytesOrNone
+    pub reference-some : (s : List ℕ) → reference_path_bytes (decode bs) ≡ some s → reference_response bs room ≡ fits room s
+    unfolding reference_response is_nothing bytes_or_none
     reference-some s e =
-        respond-fits referenceCauses room (referenceBytes bs) (behind-numbered sequenceOnly bs 10 _ (omega arith))
-        (behind-absent sequenceOnly bs 10 _ z (ap isNothing e))
-        ∙ ap (λ (p : Option (List ℕ)). fits room (bytesOrNone p)) e
+        respond-fits reference_causes room (reference_bytes bs) (behind-numbered sequence_only bs 10 _ (omega arith))
+        (behind-absent sequence_only bs 10 _ z (ap is_nothing e))
+        ∙ ap (λ (p : Option (List ℕ)). fits room (bytes_or_none p)) e
 
 module _ (bs : List ℕ) (start : ℕ) (list : List ℕ) (room : ℕ) where
   abbrev told : Option (List ℕ)
-  told = given (isPathOf (decode bs) start list) (pathBytes bs start list)
+  told = given (is_path_of (decode bs) start list) (path_bytes bs start list)
 
   -- 1 to 7, 9
-  abbrev pathCauses : List Cause
-  pathCauses = recordCauses sequenceOnly bs ++ (pathCause bs start list ∷ [])
+  abbrev path_causes : List Cause
+  path_causes = record_causes sequence_only bs ++ (path_cause bs start list ∷ [])
 
-  pub path-refused : {n : ℕ} → recordRefusal sequenceOnly bs ≡ n → (n ≡ 0 → ⊥) → pathResponse start list bs room ≡ refused n
-  unfolding pathResponse
-  path-refused {n} e o = respond-refused pathCauses room _ n (behind-refused sequenceOnly bs 9 _ e o) o
+  pub path-refused : {n : ℕ} → record_refusal sequence_only bs ≡ n → (n ≡ 0 → ⊥) → path_response start list bs room ≡ refused n
+  unfolding path_response
+  path-refused {n} e o = respond-refused path_causes room _ n (behind-refused sequence_only bs 9 _ e o) o
 
-  module _ (z : recordRefusal sequenceOnly bs ≡ 0) where
-    pub path-none : told ≡ none → pathResponse start list bs room ≡ refused 9
-    unfolding pathResponse
-    path-none e = byTest (isPathOf (decode bs) start list)
-        (λ t. no-some e (given_yes _ (pathBytes bs start list) t))
-        (λ t. respond-refused pathCauses room _ 9 (behind-present sequenceOnly bs 9 _ z (ap not t)) (λ q. omega arith))
+  module _ (z : record_refusal sequence_only bs ≡ 0) where
+    pub path-none : told ≡ none → path_response start list bs room ≡ refused 9
+    unfolding path_response
+    path-none e = by_test (is_path_of (decode bs) start list)
+        (λ t. no-some e (given_yes _ (path_bytes bs start list) t))
+        (λ t. respond-refused path_causes room _ 9 (behind-present sequence_only bs 9 _ z (ap not t)) (λ q. omega arith))
 
-    pub path-some : (s : List ℕ) → told ≡ some s → pathResponse start list bs room ≡ fits room s
-    unfolding pathResponse
+    pub path-some : (s : List ℕ) → told ≡ some s → path_response start list bs room ≡ fits room s
+    unfolding path_response
     path-some s e =
-        let y = given-some (isPathOf (decode bs) start list) (pathBytes bs start list) s e in
-        respond-fits pathCauses room _ (behind-numbered sequenceOnly bs 9 _ (omega arith)) (behind-absent sequenceOnly bs 9 _ z (ap not y.0))
+        let y = given-some (is_path_of (decode bs) start list) (path_bytes bs start list) s e in
+        respond-fits path_causes room _ (behind-numbered sequence_only bs 9 _ (omega arith)) (behind-absent sequence_only bs 9 _ z (ap not y.0))
         ∙ ap (fits room) y.1
 
 -- ---- the two calls
@@ -125,33 +125,33 @@ module _ (bs : List ℕ) (start : ℕ) (list : List ℕ) (room : ℕ) where
 module _ {h : Held} {es vs p : List ℕ} where
   -- what is told can be counted in 32 bits
   module _ {heads nexts nodes : List ℕ} (Q : Tellable h es vs p heads nexts nodes) where
-    most : {o : Option (List ℕ)} → ((s : List ℕ) → o ≡ some s → length s ≤ sequenceBytes (graph_of h es vs p).verts)
+    most : {o : Option (List ℕ)} → ((s : List ℕ) → o ≡ some s → length s ≤ sequence_bytes (graph_of h es vs p).verts)
         → {out out' : List ℕ} {b : OptionBytes} → Told o out b out' → (n : ℕ) → b ≡ Some n → n < 4294967296
     most f T n e = let y = some-told T e in omega (arith, y.2.size, f y.0 y.1, Q.few)
 
-    pub reference-counted : {out out' : List ℕ} {b : OptionBytes} → Told (referencePathBytes (graph_of h es vs p)) out b out' → (n : ℕ)
+    pub reference-counted : {out out' : List ℕ} {b : OptionBytes} → Told (reference_path_bytes (graph_of h es vs p)) out b out' → (n : ℕ)
         → b ≡ Some n → n < 4294967296
     reference-counted T = most (reference-most (graph_of h es vs p) Q.spellable.sound) T
 
     pub path-counted : (start : ℕ) (list : List ℕ) {out out' : List ℕ} {b : OptionBytes}
-        → Told (given (isPathOf (graph_of h es vs p) start list) (pathBasesBytes (graph_of h es vs p) start list)) out b out'
+        → Told (given (is_path_of (graph_of h es vs p) start list) (path_bases_bytes (graph_of h es vs p) start list)) out b out'
         → (n : ℕ) → b ≡ Some n → n < 4294967296
     path-counted start list T =
         let g = graph_of h es vs p in
-        most (λ s e. let y = given-some (isPathOf g start list) (pathBasesBytes g start list) s e in
+        most (λ s e. let y = given-some (is_path_of g start list) (path_bases_bytes g start list) s e in
         omega (arith, ap length y.1, path-most g Q.spellable.sound start list y.0)) T
 
-  pub reference-answered : {out out' : List ℕ} {b : OptionBytes} {s : Answer} → Told (referencePathBytes (graph_of h es vs p)) out b out'
-      → length out' ≡ length out → Tells b (length out') 10 s → GraphAnswered referenceResponse h es vs p out s out'
+  pub reference-answered : {out out' : List ℕ} {b : OptionBytes} {s : Answer} → Told (reference_path_bytes (graph_of h es vs p)) out b out'
+      → length out' ≡ length out → Tells b (length out') 10 s → GraphAnswered reference_response h es vs p out s out'
   reference-answered {out} {out'} {b} T l S = record {
-    is = λ bs _ z e. tells (subst (λ (g : Graph). Told (referencePathBytes g) out b out') e T) (reference-none bs (length out) z)
+    is = λ bs _ z e. tells (subst (λ (g : Graph). Told (reference_path_bytes g) out b out') e T) (reference-none bs (length out) z)
         (reference-some bs (length out) z) l S;
   }
 
   pub path-answered : (start : ℕ) (list : List ℕ) {out out' : List ℕ} {b : OptionBytes} {s : Answer}
-      → Told (given (isPathOf (graph_of h es vs p) start list) (pathBasesBytes (graph_of h es vs p) start list)) out b out'
-      → length out' ≡ length out → Tells b (length out') 9 s → GraphAnswered (pathResponse start list) h es vs p out s out'
+      → Told (given (is_path_of (graph_of h es vs p) start list) (path_bases_bytes (graph_of h es vs p) start list)) out b out'
+      → length out' ≡ length out → Tells b (length out') 9 s → GraphAnswered (path_response start list) h es vs p out s out'
   path-answered start list {out} {out'} {b} T l S = record {
-    is = λ bs _ z e. tells (subst (λ (g : Graph). Told (given (isPathOf g start list) (pathBasesBytes g start list)) out b out') e T)
+    is = λ bs _ z e. tells (subst (λ (g : Graph). Told (given (is_path_of g start list) (path_bases_bytes g start list)) out b out') e T)
         (path-none bs start list (length out) z) (path-some bs start list (length out) z) l S;
   }

@@ -5,13 +5,13 @@ use Prim.Native.Nat.{ℕ, ◌≤◌, ◌<◌}
 use native.Mathlib.Omega.{arith}
 use lib.ListN.{length}
 use Rattle.defs.specs.SeqGraph.{Graph}
-use Rattle.defs.specs.Simplify.{sequenceBytes}
-use Rattle.defs.specs.Cleanup.{cleanNonRefPaths}
-use Rattle.defs.specs.Forms.{Form, formOf, limits}
-use Rattle.defs.specs.Record.{sequenceGraph, bytes_of, encode}
-use Rattle.defs.specs.Refusals.{sequenceOnly, layoutCauses, recordCauses, recordRefusal}
-use Rattle.defs.specs.Calls.{refused, reducedRecord, cleanNonRefPathsCauses, cleanNonRefPathsResponse}
-use Rattle.defs.specs.Calls.{referencePathBytesCauses, referencePathBytesResponse, pathBasesBytesCauses, pathBasesBytesResponse}
+use Rattle.defs.specs.Simplify.{sequence_bytes}
+use Rattle.defs.specs.Cleanup.{clean_non_ref_paths}
+use Rattle.defs.specs.Forms.{Form, form_of, limits}
+use Rattle.defs.specs.Record.{sequence_graph, bytes_of, encode}
+use Rattle.defs.specs.Refusals.{sequence_only, layout_causes, record_causes, record_refusal}
+use Rattle.defs.specs.Calls.{refused, reduced_record, clean_non_ref_paths_causes, clean_non_ref_paths_response}
+use Rattle.defs.specs.Calls.{reference_path_bytes_causes, reference_path_bytes_response, path_bases_bytes_causes, path_bases_bytes_response}
 use Rattle.form.proofs.FormLaws.{between, SmallLimits, limits-small, LimitsFit, limits-fit}
 use Rattle.record.proofs.Accepted.{sequence-kind}
 use Rattle.record.proofs.Sequences.{length-least}
@@ -26,8 +26,8 @@ use Rattle.orphans.specs.Orphans.{Reduced}
 use Rattle.accept.specs.Accept.{RoomToMark, ReadAs}
 use Rattle.accept.specs.declared.Read.{Read}
 use Rattle.accept.specs.declared.Read.TheVariants as read
-use Rattle.accept.proofs.AcceptLaws.{read_none, read_number}
-use Rattle.pool.specs.Pool.{bytesIn}
+use Rattle.accept.proofs.AcceptLaws.{read_none, read_number_lem}
+use Rattle.pool.specs.Pool.{bytes_in}
 use Rattle.pool.proofs.PoolLaws.{bytes_below}
 use Rattle.write_record.specs.Written.{Measured}
 use Rattle.write_record.proofs.WriteLaws.{bytes-are}
@@ -38,7 +38,7 @@ use Rattle.calls.proofs.SendLaws.{responds-refused, responds-as}
 use Rattle.calls.proofs.ResponseLaws.{respond-refused, respond-fits}
 use Rattle.calls.proofs.CauseLaws.{record-numbered}
 use Rattle.calls.proofs.CallerLaws.{respond-above, respond-within}
-use Rattle.reading_calls.specs.Reading.{cleaningResponse, referenceResponse, pathResponse, readingResponse, readingResponseTo}
+use Rattle.reading_calls.specs.Reading.{cleaning_response, reference_response, path_response, reading_response, reading_response_to}
 use Rattle.reading_calls.specs.Reading.{Answerable, GraphAnswered}
 use Rattle.reading_calls.specs.declared.ReadingCall.{ReadingCall}
 use Rattle.reading_calls.specs.declared.ReadingCall.TheVariants.{CleanNonRefPaths, ReferencePathBytes, PathBasesBytes}
@@ -50,11 +50,11 @@ module _ {bs es vs heads nexts nodes mp tried : List ℕ} (Z : RoomToMark bs es 
   room-answerable A {h} ok =
       let z = read_none A ok in
       let L = A.loaded h ok in
-      let W = accepted-layout sequenceOnly bs z in
+      let W = accepted-layout sequence_only bs z in
       let R = Z.reading.room W in
-      let most = limits-small (formOf bs) in
-      let bytes = W.bytes (sequence-kind bs (accepted-early sequenceOnly bs z)) in
-      let total : sequenceBytes (graph_of h es vs bs).verts ≡ bytes_of bs = ap (λ (g : Graph). sequenceBytes g.verts) L.is ∙ read-bytes bs W in
+      let most = limits-small (form_of bs) in
+      let bytes = W.bytes (sequence-kind bs (accepted-early sequence_only bs z)) in
+      let total : sequence_bytes (graph_of h es vs bs).verts ≡ bytes_of bs = ap (λ (g : Graph). sequence_bytes g.verts) L.is ∙ read-bytes bs W in
       record {
         tellable = record {
           indexable = record {
@@ -65,7 +65,7 @@ module _ {bs es vs heads nexts nodes mp tried : List ℕ} (Z : RoomToMark bs es 
             ends = L.ends;
           };
           spellable = record {
-            sound = rw L.is (accepted-good sequenceOnly bs z).0;
+            sound = rw L.is (accepted-good sequence_only bs z).0;
             within = L.within;
             vs-room = omega (arith, L.n, R.vs-room);
             nodes-room = omega (arith, L.n, R.nodes-room);
@@ -96,7 +96,7 @@ module _ {h : Held} {es vs p heads nexts nodes mp tried : List ℕ} (Q : Answera
   answerable-walkable = (Q.compactable, (Q.tellable.indexable, Q.walkable))
 
   -- the cleaned graph's record can be written where it fits
-  pub cleaned-sendable : {f : Form} → f ≡ formOf p → {c : Held} {es' vs' : List ℕ} → Reduced cleanNonRefPaths h es vs c es' vs' → length es' ≡ length es → length vs'
+  pub cleaned-sendable : {f : Form} → f ≡ form_of p → {c : Held} {es' vs' : List ℕ} → Reduced clean_non_ref_paths h es vs c es' vs' → length es' ≡ length es → length vs'
       ≡ length vs → Sendable f 0 c es' vs' p
   cleaned-sendable {f} form {c} {es'} {vs'} R a b = subst (λ (g : Form). Sendable g 0 c es' vs' p) (sym form) record {
     measured = measured;
@@ -117,23 +117,23 @@ module _ {h : Held} {es vs p heads nexts nodes mp tried : List ℕ} (Q : Answera
       within : Within (length p) c.n vs'
       within = R.within (length p) Q.tellable.spellable.within
 
-      most : SmallLimits (formOf p)
-      most = limits-small (formOf p)
+      most : SmallLimits (form_of p)
+      most = limits-small (form_of p)
 
-      fit : LimitsFit (formOf p)
-      fit = limits-fit (formOf p)
+      fit : LimitsFit (form_of p)
+      fit = limits-fit (form_of p)
 
       -- cleaning takes bytes away, if any
-      total : bytesIn c.n vs' ≤ (limits (formOf p)).bytes
+      total : bytes_in c.n vs' ≤ (limits (form_of p)).bytes
       total =
-          let are = bytes-are (formOf p) 0 c.k.0 c.n c.m es' vs' p within in
-          omega (arith, are, ap (λ (g : Graph). sequenceBytes g.verts) (R.is p), clean-bytes (graph_of h es vs p), Q.bytes)
+          let are = bytes-are (form_of p) 0 c.k.0 c.n c.m es' vs' p within in
+          omega (arith, are, ap (λ (g : Graph). sequence_bytes g.verts) (R.is p), clean-bytes (graph_of h es vs p), Q.bytes)
 
-      measured : Measured (formOf p) c vs'
+      measured : Measured (form_of p) c vs'
       measured = record {
         vs-room = omega (arith, b, R.most-n, Q.compactable.vs-room);
         small =
-            let B = between (formOf p) c.n c.m (bytesIn c.n vs') in
+            let B = between (form_of p) c.n c.m (bytes_in c.n vs') in
             omega (
               arith,
               R.most-n,
@@ -150,25 +150,25 @@ module _ {h : Held} {es vs p heads nexts nodes mp tried : List ℕ} (Q : Answera
             );
       }
 
-pub cleaned-answered : {p : List ℕ} {f : Form} → f ≡ formOf p → {h : Held} {es vs : List ℕ} {c : Held} {es' vs' out out' : List ℕ} {s : Answer}
-    → Reduced cleanNonRefPaths h es vs c es' vs'
-    → Responds (fits (length out) (encode f sequenceGraph 0 (graph_of c es' vs' p))) out s out'
-    → GraphAnswered cleaningResponse h es vs p out s out'
-unfolding cleaningResponse recordRefusal
+pub cleaned-answered : {p : List ℕ} {f : Form} → f ≡ form_of p → {h : Held} {es vs : List ℕ} {c : Held} {es' vs' out out' : List ℕ} {s : Answer}
+    → Reduced clean_non_ref_paths h es vs c es' vs'
+    → Responds (fits (length out) (encode f sequence_graph 0 (graph_of c es' vs' p))) out s out'
+    → GraphAnswered cleaning_response h es vs p out s out'
+unfolding cleaning_response record_refusal
 cleaned-answered {p} {f} own {out = out} {out'} {s} R S = record {
-  is = λ bs form z e. responds-as (respond-fits (recordCauses sequenceOnly bs) (length out) (reducedRecord bs) (record-numbered sequenceOnly bs) z)
+  is = λ bs form z e. responds-as (respond-fits (record_causes sequence_only bs) (length out) (reduced_record bs) (record-numbered sequence_only bs) z)
       (subst (λ (l : List ℕ). Responds (fits (length out) l) out s out')
-      (λ i. encode ((own ∙ form) i) sequenceGraph 0 ((R.is p ∙ ap cleanNonRefPaths e) i)) S);
+      (λ i. encode ((own ∙ form) i) sequence_graph 0 ((R.is p ∙ ap clean_non_ref_paths e) i)) S);
 }
 
 -- a record that is refused is refused by every call
-clean-refused : (bs : List ℕ) (room : ℕ) {n : ℕ} → recordRefusal sequenceOnly bs ≡ n → (n ≡ 0 → ⊥) → cleaningResponse bs room ≡ refused n
-unfolding cleaningResponse recordRefusal
-clean-refused bs room {n} e o = respond-refused (recordCauses sequenceOnly bs) room _ n e o
+clean-refused : (bs : List ℕ) (room : ℕ) {n : ℕ} → record_refusal sequence_only bs ≡ n → (n ≡ 0 → ⊥) → cleaning_response bs room ≡ refused n
+unfolding cleaning_response record_refusal
+clean-refused bs room {n} e o = respond-refused (record_causes sequence_only bs) room _ n e o
 
-call-refused : (call : ReadingCall) (list bs : List ℕ) (room : ℕ) {n : ℕ} → recordRefusal sequenceOnly bs ≡ n → (n ≡ 0 → ⊥)
-    → readingResponse call list bs room ≡ refused n
-unfolding readingResponse
+call-refused : (call : ReadingCall) (list bs : List ℕ) (room : ℕ) {n : ℕ} → record_refusal sequence_only bs ≡ n → (n ≡ 0 → ⊥)
+    → reading_response call list bs room ≡ refused n
+unfolding reading_response
 call-refused CleanNonRefPaths list bs room e o = clean-refused bs room e o
 call-refused ReferencePathBytes list bs room e o = reference-refused bs room e o
 call-refused (PathBasesBytes start) list bs room e o = path-refused bs start list room e o
@@ -176,62 +176,62 @@ call-refused (PathBasesBytes start) list bs room e o = path-refused bs start lis
 -- ---- the call that was asked for
 
 module _ (call : ReadingCall) (list : List ℕ) {h : Held} {es vs p out : List ℕ} {s : Answer} {out' : List ℕ} where
-  by_call : {which : ReadingCall} → call ≡ which → GraphAnswered (readingResponse which list) h es vs p out s out'
-      → GraphAnswered (readingResponse call list) h es vs p out s out'
-  by_call w G = subst (λ (y : ReadingCall). GraphAnswered (readingResponse y list) h es vs p out s out') (sym w) G
+  by_call : {which : ReadingCall} → call ≡ which → GraphAnswered (reading_response which list) h es vs p out s out'
+      → GraphAnswered (reading_response call list) h es vs p out s out'
+  by_call w G = subst (λ (y : ReadingCall). GraphAnswered (reading_response y list) h es vs p out s out') (sym w) G
 
-  pub answer-cleaned : call ≡ CleanNonRefPaths → GraphAnswered cleaningResponse h es vs p out s out' → GraphAnswered (readingResponse call list) h es vs p out s out'
-  unfolding readingResponse
+  pub answer-cleaned : call ≡ CleanNonRefPaths → GraphAnswered cleaning_response h es vs p out s out' → GraphAnswered (reading_response call list) h es vs p out s out'
+  unfolding reading_response
   answer-cleaned w G = by_call w G
 
-  pub answer-reference : call ≡ ReferencePathBytes → GraphAnswered referenceResponse h es vs p out s out'
-      → GraphAnswered (readingResponse call list) h es vs p out s out'
-  unfolding readingResponse
+  pub answer-reference : call ≡ ReferencePathBytes → GraphAnswered reference_response h es vs p out s out'
+      → GraphAnswered (reading_response call list) h es vs p out s out'
+  unfolding reading_response
   answer-reference w G = by_call w G
 
-  pub answer-path : {start : ℕ} → call ≡ PathBasesBytes start → GraphAnswered (pathResponse start list) h es vs p out s out'
-      → GraphAnswered (readingResponse call list) h es vs p out s out'
-  unfolding readingResponse
+  pub answer-path : {start : ℕ} → call ≡ PathBasesBytes start → GraphAnswered (path_response start list) h es vs p out s out'
+      → GraphAnswered (reading_response call list) h es vs p out s out'
+  unfolding reading_response
   answer-path w G = by_call w G
 
 -- ---- a record
 
 module _ (call : ReadingCall) (list : List ℕ) {bs : List ℕ} {x : Read} {es vs : List ℕ} (A : ReadAs bs x es vs) {out : List ℕ} where
-  pub record-refused : {n : ℕ} → x ≡ read.Refused n → Responds (readingResponse call list bs (length out)) out record { number = n; length = 0 } out
-  record-refused {n} f = responds-refused (call-refused call list bs (length out) (read_number A f) (A.refused n f)) refl refl
+  pub record-refused : {n : ℕ} → x ≡ read.Refused n → Responds (reading_response call list bs (length out)) out record { number = n; length = 0 } out
+  record-refused {n} f = responds-refused (call-refused call list bs (length out) (read_number_lem A f) (A.refused n f)) refl refl
 
-  pub record-answered : {h : Held} → x ≡ read.Graph h → {s : Answer} {out' : List ℕ} → GraphAnswered (readingResponse call list) h es vs bs out s out'
-      → Responds (readingResponse call list bs (length out)) out s out'
+  pub record-answered : {h : Held} → x ≡ read.Graph h → {s : Answer} {out' : List ℕ} → GraphAnswered (reading_response call list) h es vs bs out s out'
+      → Responds (reading_response call list bs (length out)) out s out'
   record-answered {h} ok G = G.is bs refl (read_none A ok) (A.loaded h ok).is
 
 -- ---- a caller
 
-reference-within : (bs : List ℕ) (room caller : ℕ) → caller ≤ 15 → referencePathBytesResponse bs room caller ≡ referenceResponse bs room
-unfolding referencePathBytesResponse referencePathBytesCauses referenceResponse recordCauses layoutCauses
+reference-within : (bs : List ℕ) (room caller : ℕ) → caller ≤ 15 → reference_path_bytes_response bs room caller ≡ reference_response bs room
+unfolding reference_path_bytes_response reference_path_bytes_causes reference_response record_causes layout_causes
 reference-within bs room caller l = respond-within caller _ _ l
 
 path-within : (bs : List ℕ) (start : ℕ) (list : List ℕ) (room caller : ℕ) → caller ≤ 15
-    → pathBasesBytesResponse bs start list room caller ≡ pathResponse start list bs room
-unfolding pathBasesBytesResponse pathBasesBytesCauses pathResponse recordCauses layoutCauses
+    → path_bases_bytes_response bs start list room caller ≡ path_response start list bs room
+unfolding path_bases_bytes_response path_bases_bytes_causes path_response record_causes layout_causes
 path-within bs start list room caller l = respond-within caller _ _ l
 
-pub response-above : (call : ReadingCall) (list bs : List ℕ) (room caller : ℕ) → 15 < caller → readingResponseTo call list bs room caller ≡ refused 18
-unfolding readingResponseTo cleanNonRefPathsResponse cleanNonRefPathsCauses referencePathBytesResponse referencePathBytesCauses pathBasesBytesResponse pathBasesBytesCauses
+pub response-above : (call : ReadingCall) (list bs : List ℕ) (room caller : ℕ) → 15 < caller → reading_response_to call list bs room caller ≡ refused 18
+unfolding reading_response_to clean_non_ref_paths_response clean_non_ref_paths_causes reference_path_bytes_response reference_path_bytes_causes path_bases_bytes_response path_bases_bytes_causes
 response-above CleanNonRefPaths list bs room caller l = respond-above caller _ _ l
 response-above ReferencePathBytes list bs room caller l = respond-above caller _ _ l
 response-above (PathBasesBytes start) list bs room caller l = respond-above caller _ _ l
 
 pub response-within : (call : ReadingCall) (list bs : List ℕ) (room caller : ℕ) → caller ≤ 15
-    → readingResponseTo call list bs room caller ≡ readingResponse call list bs room
-unfolding readingResponseTo readingResponse cleanNonRefPathsResponse cleanNonRefPathsCauses cleaningResponse
+    → reading_response_to call list bs room caller ≡ reading_response call list bs room
+unfolding reading_response_to reading_response clean_non_ref_paths_response clean_non_ref_paths_causes cleaning_response
 response-within CleanNonRefPaths list bs room caller l = respond-within caller _ _ l
 response-within ReferencePathBytes list bs room caller l = reference-within bs room caller l
 response-within (PathBasesBytes start) list bs room caller l = path-within bs start list room caller l
 
 module _ (call : ReadingCall) (list bs : List ℕ) {out : List ℕ} {caller : ℕ} where
-  pub caller-refused : 15 < caller → Responds (readingResponseTo call list bs (length out) caller) out record { number = 18; length = 0 } out
+  pub caller-refused : 15 < caller → Responds (reading_response_to call list bs (length out) caller) out record { number = 18; length = 0 } out
   caller-refused l = responds-refused (response-above call list bs (length out) caller l) refl refl
 
-  pub caller-answered : {s : Answer} {out' : List ℕ} → caller ≤ 15 → Responds (readingResponse call list bs (length out)) out s out'
-      → Responds (readingResponseTo call list bs (length out) caller) out s out'
+  pub caller-answered : {s : Answer} {out' : List ℕ} → caller ≤ 15 → Responds (reading_response call list bs (length out)) out s out'
+      → Responds (reading_response_to call list bs (length out) caller) out s out'
   caller-answered l R = responds-as (response-within call list bs (length out) caller l) R

@@ -1,11 +1,11 @@
 -- The calls that read a graph: their responses, and what is sent for a graph that is held. Assumes nothing.
 use Rattle.std.specs.Prelude.{◌≡◌, List, [], ◌∷◌, ◌++◌, ℕ, ◌≤◌, ◌<◌, length}
-use Rattle.defs.specs.Simplify.{sequenceBytes}
-use Rattle.defs.specs.Forms.{formOf, limits}
+use Rattle.defs.specs.Simplify.{sequence_bytes}
+use Rattle.defs.specs.Forms.{form_of, limits}
 use Rattle.defs.specs.Record.{decode}
-use Rattle.defs.specs.Refusals.{sequenceOnly, recordCauses, recordRefusal}
-use Rattle.defs.specs.Calls.{Response, respond, reducedRecord, referenceCause, referenceBytes, pathCause, pathBytes}
-use Rattle.defs.specs.Calls.{cleanNonRefPathsResponse, referencePathBytesResponse, pathBasesBytesResponse}
+use Rattle.defs.specs.Refusals.{sequence_only, record_causes, record_refusal}
+use Rattle.defs.specs.Calls.{Response, respond, reduced_record, reference_cause, reference_bytes, path_cause, path_bytes}
+use Rattle.defs.specs.Calls.{clean_non_ref_paths_response, reference_path_bytes_response, path_bases_bytes_response}
 use Rattle.compact.specs.Compact.{Compactable}
 use Rattle.index.specs.Index.{Indexable}
 use Rattle.memory.specs.Memory.{graph_of}
@@ -14,32 +14,32 @@ use Rattle.spell.specs.declared.OptionBytes.{OptionBytes}
 use Rattle.spell.specs.declared.OptionBytes.TheVariants.{Some, None}
 use Rattle.paths.specs.Paths.{Spellable}
 use Rattle.reach.specs.Reach.{Walkable}
-use Rattle.calls.specs.Sending.{withOutput, Responds}
+use Rattle.calls.specs.Sending.{with_output, Responds}
 use Rattle.calls.specs.declared.Answer.{Answer}
 use Rattle.reading_calls.specs.declared.ReadingCall.{ReadingCall}
 use Rattle.reading_calls.specs.declared.ReadingCall.TheVariants.{CleanNonRefPaths, ReferencePathBytes, PathBasesBytes}
 
 -- the response of a call by its causes but for 18, from its record and the room
-unfoldable pub cleaningResponse : List ℕ → ℕ → Response
-cleaningResponse bs room = respond (withOutput (recordCauses sequenceOnly bs) room (reducedRecord bs)) (reducedRecord bs)
+unfoldable pub cleaning_response : List ℕ → ℕ → Response
+cleaning_response bs room = respond (with_output (record_causes sequence_only bs) room (reduced_record bs)) (reduced_record bs)
 
-unfoldable pub referenceResponse : List ℕ → ℕ → Response
-referenceResponse bs room = respond (withOutput (recordCauses sequenceOnly bs ++ (referenceCause bs ∷ [])) room (referenceBytes bs)) (referenceBytes bs)
+unfoldable pub reference_response : List ℕ → ℕ → Response
+reference_response bs room = respond (with_output (record_causes sequence_only bs ++ (reference_cause bs ∷ [])) room (reference_bytes bs)) (reference_bytes bs)
 
-unfoldable pub pathResponse : ℕ → List ℕ → List ℕ → ℕ → Response
-pathResponse start list bs room =
-    respond (withOutput (recordCauses sequenceOnly bs ++ (pathCause bs start list ∷ [])) room (pathBytes bs start list)) (pathBytes bs start list)
+unfoldable pub path_response : ℕ → List ℕ → List ℕ → ℕ → Response
+path_response start list bs room =
+    respond (with_output (record_causes sequence_only bs ++ (path_cause bs start list ∷ [])) room (path_bytes bs start list)) (path_bytes bs start list)
 
-unfoldable pub readingResponse : ReadingCall → List ℕ → List ℕ → ℕ → Response
-readingResponse CleanNonRefPaths list = cleaningResponse
-readingResponse ReferencePathBytes list = referenceResponse
-readingResponse (PathBasesBytes start) list = pathResponse start list
+unfoldable pub reading_response : ReadingCall → List ℕ → List ℕ → ℕ → Response
+reading_response CleanNonRefPaths list = cleaning_response
+reading_response ReferencePathBytes list = reference_response
+reading_response (PathBasesBytes start) list = path_response start list
 
 -- and to a caller
-unfoldable pub readingResponseTo : ReadingCall → List ℕ → List ℕ → ℕ → ℕ → Response
-readingResponseTo CleanNonRefPaths list bs room caller = cleanNonRefPathsResponse bs room caller
-readingResponseTo ReferencePathBytes list bs room caller = referencePathBytesResponse bs room caller
-readingResponseTo (PathBasesBytes start) list bs room caller = pathBasesBytesResponse bs start list room caller
+unfoldable pub reading_response_to : ReadingCall → List ℕ → List ℕ → ℕ → ℕ → Response
+reading_response_to CleanNonRefPaths list bs room caller = clean_non_ref_paths_response bs room caller
+reading_response_to ReferencePathBytes list bs room caller = reference_path_bytes_response bs room caller
+reading_response_to (PathBasesBytes start) list bs room caller = path_bases_bytes_response bs start list room caller
 
 -- the number for none; 11 for bytes that the room is too short for; else their length
 pub record Tells (told : OptionBytes) (room missing : ℕ) (s : Answer) : Type 0 where
@@ -51,18 +51,18 @@ pub record Tells (told : OptionBytes) (room missing : ℕ) (s : Answer) : Type 0
 pub record Tellable (h : Held) (es vs p heads nexts nodes : List ℕ) : Type 0 where
   pub indexable : Indexable h.m h.n es heads nexts
   pub spellable : Spellable h es vs p nodes
-  pub few : sequenceBytes (graph_of h es vs p).verts < 4294967296
+  pub few : sequence_bytes (graph_of h es vs p).verts < 4294967296
 
 -- and that can be cleaned and its record written: the graph of the record p
 pub record Answerable (h : Held) (es vs p heads nexts nodes mp tried : List ℕ) : Type 0 where
   pub tellable : Tellable h es vs p heads nexts nodes
   pub compactable : Compactable h.n h.m es vs mp
   pub walkable : Walkable h.n tried nodes
-  pub vertices : h.n ≤ (limits (formOf p)).vertices
-  pub edges : h.m ≤ (limits (formOf p)).edges
-  pub bytes : sequenceBytes (graph_of h es vs p).verts ≤ (limits (formOf p)).bytes
+  pub vertices : h.n ≤ (limits (form_of p)).vertices
+  pub edges : h.m ≤ (limits (form_of p)).edges
+  pub bytes : sequence_bytes (graph_of h es vs p).verts ≤ (limits (form_of p)).bytes
 
 -- what is sent responds, for every accepted record of the held graph that has the form of p
 pub record GraphAnswered (f : List ℕ → ℕ → Response) (h : Held) (es vs p out : List ℕ) (s : Answer) (out' : List ℕ) : Type 0 where
-  pub is : (bs : List ℕ) → formOf p ≡ formOf bs → recordRefusal sequenceOnly bs ≡ 0 → graph_of h es vs p ≡ decode bs
+  pub is : (bs : List ℕ) → form_of p ≡ form_of bs → record_refusal sequence_only bs ≡ 0 → graph_of h es vs p ≡ decode bs
       → Responds (f bs (length out)) out s out'

@@ -1,12 +1,12 @@
 // The calls that read a graph and do not rewrite it, from record to record or to bytes: what they have in common is said once, over which of
 // them it is. First in slices, then in arrays of three classes, which a call has on its stack. The sequences are read in the record itself.
 ghost use Rattle.std.specs.Prelude.{◌≡◌, ℕ, ◌<◌, length};
-ghost use Rattle.defs.specs.Forms.{formOf};
-ghost use Rattle.defs.specs.Record.{verticesOf, edgesOf};
-ghost use Rattle.form.specs.Coded.{formIs};
+ghost use Rattle.defs.specs.Forms.{form_of};
+ghost use Rattle.defs.specs.Record.{vertices_of, edges_of};
+ghost use Rattle.form.specs.Coded.{form_is};
 ghost use Rattle.arrays.specs.Sized.{FewToRead};
 ghost use Rattle.calls.specs.Sending.{Responds};
-ghost use Rattle.reading_calls.specs.Reading.{cleaningResponse, referenceResponse, pathResponse, readingResponse, readingResponseTo};
+ghost use Rattle.reading_calls.specs.Reading.{cleaning_response, reference_response, path_response, reading_response, reading_response_to};
 ghost use Rattle.reading_calls.specs.Reading.{Answerable, Tellable, Tells, GraphAnswered};
 
 use accept::Read;
@@ -63,7 +63,7 @@ fn clean_in(
     tried: &mut [u8],
 ) -> Answer
     requires { Answerable held es.old vs.old p.now heads.old nexts.old nodes.old map.old tried.old }
-    ensures { GraphAnswered cleaningResponse held es.old vs.old p.now out.old result
+    ensures { GraphAnswered cleaning_response held es.old vs.old p.now out.old result
         out.new }
 {
     let cleaned = non_ref_paths::clean_non_ref_paths(held, es, vs, heads, nexts, nodes, map, tried);
@@ -82,7 +82,7 @@ fn reference_in(
     nodes: &mut [u32],
 ) -> Answer
     requires { Tellable held es.now vs.now p.now heads.old nexts.old nodes.old }
-    ensures { GraphAnswered referenceResponse held es.now vs.now p.now out.old result
+    ensures { GraphAnswered reference_response held es.now vs.now p.now out.old result
         out.new }
 {
     index::build_index(es, held.m, held.n, heads, nexts);
@@ -104,7 +104,7 @@ fn path_in(
     nodes: &mut [u32],
 ) -> Answer
     requires { Tellable held es.now vs.now p.now heads.old nexts.old nodes.old }
-    ensures { GraphAnswered (pathResponse start list.now) held es.now vs.now p.now
+    ensures { GraphAnswered (path_response start list.now) held es.now vs.now p.now
         out.old result out.new }
 {
     index::build_index(es, held.m, held.n, heads, nexts);
@@ -127,7 +127,7 @@ fn answer_graph(
     tried: &mut [u8],
 ) -> Answer
     requires { Answerable held es.old vs.old rec.now heads.old nexts.old nodes.old map.old tried.old }
-    ensures { GraphAnswered (readingResponse call list.now) held es.old vs.old rec.now
+    ensures { GraphAnswered (reading_response call list.now) held es.old vs.old rec.now
         out.old result out.new }
 {
     match call {
@@ -158,7 +158,7 @@ fn vast_with(
     map: &mut [u32; MOST_VERTICES],
     tried: &mut [u8; MOST_VERTICES],
 ) -> Answer
-    ensures { Responds (readingResponse call list.now rec.now (length out.old)) out.old result
+    ensures { Responds (reading_response call list.now rec.now (length out.old)) out.old result
         out.new }
 {
     let held = match accept::read_sequence_graph(rec, es, vs, heads, nexts, nodes, map) {
@@ -174,7 +174,7 @@ fn vast_with(
 }
 
 fn vast(call: ReadingCall, list: &[u32], rec: &[u8], out: &mut [u8]) -> Answer
-    ensures { Responds (readingResponse call list.now rec.now (length out.old)) out.old result
+    ensures { Responds (reading_response call list.now rec.now (length out.old)) out.old result
         out.new }
 {
     let mut es = [0u32; 4 * MOST_EDGES];
@@ -204,7 +204,7 @@ fn large_with(
     tried: &mut [u8; MANY_VERTICES],
 ) -> Answer
     requires { FewToRead 2048 4096 rec.now }
-    ensures { Responds (readingResponse call list.now rec.now (length out.old)) out.old result
+    ensures { Responds (reading_response call list.now rec.now (length out.old)) out.old result
         out.new }
 {
     let held = match accept::read_sequence_graph(rec, es, vs, heads, nexts, nodes, map) {
@@ -221,7 +221,7 @@ fn large_with(
 
 fn large(call: ReadingCall, list: &[u32], rec: &[u8], out: &mut [u8]) -> Answer
     requires { FewToRead 2048 4096 rec.now }
-    ensures { Responds (readingResponse call list.now rec.now (length out.old)) out.old result
+    ensures { Responds (reading_response call list.now rec.now (length out.old)) out.old result
         out.new }
 {
     let mut es = [0u32; 4 * MANY_EDGES];
@@ -251,7 +251,7 @@ fn small_with(
     tried: &mut [u8; FEW_VERTICES],
 ) -> Answer
     requires { FewToRead 512 512 rec.now }
-    ensures { Responds (readingResponse call list.now rec.now (length out.old)) out.old result
+    ensures { Responds (reading_response call list.now rec.now (length out.old)) out.old result
         out.new }
 {
     let held = match accept::read_sequence_graph(rec, es, vs, heads, nexts, nodes, map) {
@@ -268,7 +268,7 @@ fn small_with(
 
 fn small(call: ReadingCall, list: &[u32], rec: &[u8], out: &mut [u8]) -> Answer
     requires { FewToRead 512 512 rec.now }
-    ensures { Responds (readingResponse call list.now rec.now (length out.old)) out.old result
+    ensures { Responds (reading_response call list.now rec.now (length out.old)) out.old result
         out.new }
 {
     let mut es = [0u32; 4 * FEW_EDGES];
@@ -295,8 +295,8 @@ fn past_small(
     v: usize,
     e: usize,
 ) -> Answer
-    requires { (formIs form ≡ formOf rec.now) × ((v ≡ verticesOf rec.now) × (e ≡ edgesOf rec.now)) }
-    ensures { Responds (readingResponse call list.now rec.now (length out.old)) out.old result
+    requires { (form_is form ≡ form_of rec.now) × ((v ≡ vertices_of rec.now) × (e ≡ edges_of rec.now)) }
+    ensures { Responds (reading_response call list.now rec.now (length out.old)) out.old result
         out.new }
 {
     match form {
@@ -315,7 +315,7 @@ fn past_small(
 // In the arrays of the record's class. Those of each but the small one stand behind two tests: with one call of a function that has arrays the compiler
 // would lay its frame into this one, and every record would take it.
 fn by_class(call: ReadingCall, list: &[u32], rec: &[u8], out: &mut [u8]) -> Answer
-    ensures { Responds (readingResponse call list.now rec.now (length out.old)) out.old result
+    ensures { Responds (reading_response call list.now rec.now (length out.old)) out.old result
         out.new }
 {
     if rec.len() <= SMALL_RECORD {
@@ -335,7 +335,7 @@ fn by_class(call: ReadingCall, list: &[u32], rec: &[u8], out: &mut [u8]) -> Answ
 
 // A caller above 15 is refused before the record is looked at. Of a call without a list of edges the list is not read.
 pub fn answer(call: ReadingCall, list: &[u32], rec: &[u8], out: &mut [u8], caller: u32) -> Answer
-    ensures { Responds (readingResponseTo call list.now rec.now (length out.old) caller) out.old result
+    ensures { Responds (reading_response_to call list.now rec.now (length out.old) caller) out.old result
         out.new }
 {
     if LAST_CALLER < caller {

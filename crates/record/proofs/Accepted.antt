@@ -9,82 +9,82 @@ use lib.Dec.{eqb, ltb, leb}
 use lib.ListN.{length, take}
 use borrow.Author.Tests.{ltb-false, leb-true, leb-false, eqb-true, eq-eqb, not-false}
 use Rattle.defs.specs.Lists.{same_list}
-use Rattle.defs.specs.Forms.{mark, formOf, lengthsAt, limits}
-use Rattle.defs.specs.Record.{kind_of, statusOf, k_of, verticesOf, edgesOf, bytes_of, whole_of, edge_at, flagAt}
-use Rattle.defs.specs.Refusals.{Takes, kmerOnly, sequenceOnly, bothKinds, refusalOf, layoutCauses, takesKind, otherLength, wrongMark, pastLimit, badEdge}
-use Rattle.laws.proofs.ListLaws.{or-false, sameList-eq}
+use Rattle.defs.specs.Forms.{mark, form_of, lengths_at, limits}
+use Rattle.defs.specs.Record.{kind_of, status_of, k_of, vertices_of, edges_of, bytes_of, whole_of, edge_at, flag_at}
+use Rattle.defs.specs.Refusals.{Takes, kmer_only, sequence_only, both_kinds, refusal_of, layout_causes, takes_kind, other_length, wrong_mark, past_limit, bad_edge}
+use Rattle.laws.proofs.ListLaws.{or-false, same_list-eq}
 use Rattle.kmer.specs.declared.KmerSize.{KmerSize}
-use Rattle.record.specs.Layout.{otherKmerLength, GoodEdge, WellFormed, layout_of}
+use Rattle.record.specs.Layout.{other_kmer_length, GoodEdge, WellFormed, layout_of}
 use Rattle.record.specs.declared.Layout.{Layout}
 use Rattle.record.specs.declared.Layout.TheVariants.{Formed, Refused}
 use Rattle.record.proofs.TurnLaws.{any_false}
 use Rattle.record.proofs.Tests.{no-cause, any-bad-is, offsets-agree, lengths-offset, edges_offset, bytes-offset}
 use Rattle.record.proofs.Tests.{whole_is, sum_is, kmers-are}
 
-kind-most : (t : Takes) (n : ℕ) → takesKind t n ≡ true → n ≤ 1
-unfolding takesKind
-kind-most kmerOnly n h = omega (arith, eqb-true n 0 h)
-kind-most sequenceOnly n h = omega (arith, eqb-true n 1 h)
-kind-most bothKinds n h = leb-true n 1 h
+kind-most : (t : Takes) (n : ℕ) → takes_kind t n ≡ true → n ≤ 1
+unfolding takes_kind
+kind-most kmer_only n h = omega (arith, eqb-true n 0 h)
+kind-most sequence_only n h = omega (arith, eqb-true n 1 h)
+kind-most both_kinds n h = leb-true n 1 h
 
-module _ (t : Takes) (bs : List ℕ) (h : wrongMark t bs ≡ false) where
-  mark-parts : (not (same_list (take 4 bs) (mark (formOf bs))) ≡ false) × (not (takesKind t (kind_of bs)) ≡ false) × (ltb 2 (statusOf bs) ≡ false)
-      × ((eqb (kind_of bs) 0 && not (eqb (statusOf bs) 0)) ≡ false)
-  unfolding wrongMark
+module _ (t : Takes) (bs : List ℕ) (h : wrong_mark t bs ≡ false) where
+  mark-parts : (not (same_list (take 4 bs) (mark (form_of bs))) ≡ false) × (not (takes_kind t (kind_of bs)) ≡ false) × (ltb 2 (status_of bs) ≡ false)
+      × ((eqb (kind_of bs) 0 && not (eqb (status_of bs) 0)) ≡ false)
+  unfolding wrong_mark
   mark-parts =
-      let a = or-false (not (same_list (take 4 bs) (mark (formOf bs)))) _ h in
-      let b = or-false (not (takesKind t (kind_of bs))) _ a.1 in
-      let c = or-false (ltb 2 (statusOf bs)) _ b.1 in
+      let a = or-false (not (same_list (take 4 bs) (mark (form_of bs)))) _ h in
+      let b = or-false (not (takes_kind t (kind_of bs))) _ a.1 in
+      let c = or-false (ltb 2 (status_of bs)) _ b.1 in
       (a.0, b.0, c.0, c.1)
 
-  is-marked : take 4 bs ≡ mark (formOf bs)
-  is-marked = sameList-eq (take 4 bs) (mark (formOf bs)) (not-false _ mark-parts.0)
+  is-marked : take 4 bs ≡ mark (form_of bs)
+  is-marked = same_list-eq (take 4 bs) (mark (form_of bs)) (not-false _ mark-parts.0)
 
   kind-low : kind_of bs ≤ 1
   kind-low = kind-most t (kind_of bs) (not-false _ mark-parts.1)
 
-  status-low : statusOf bs ≤ 2
-  status-low = ltb-false 2 (statusOf bs) mark-parts.2
+  status-low : status_of bs ≤ 2
+  status-low = ltb-false 2 (status_of bs) mark-parts.2
 
-  status-none : kind_of bs ≡ 0 → statusOf bs ≡ 0
+  status-none : kind_of bs ≡ 0 → status_of bs ≡ 0
   status-none z = eqb-true _ _ (not-false _ (rw (eq-eqb (kind_of bs) 0 z) at mark-parts.3))
 
-module _ (bs : List ℕ) (h : pastLimit bs ≡ false) where
-  limit-parts : (ltb (k_of bs) 2 ≡ false) × (ltb 128 (k_of bs) ≡ false) × (ltb (limits (formOf bs)).vertices (verticesOf bs) ≡ false) × (ltb (limits (formOf bs)).edges (edgesOf bs) ≡ false)
-      × ((eqb (kind_of bs) 1 && ltb (limits (formOf bs)).bytes (bytes_of bs)) ≡ false)
-  unfolding pastLimit
+module _ (bs : List ℕ) (h : past_limit bs ≡ false) where
+  limit-parts : (ltb (k_of bs) 2 ≡ false) × (ltb 128 (k_of bs) ≡ false) × (ltb (limits (form_of bs)).vertices (vertices_of bs) ≡ false) × (ltb (limits (form_of bs)).edges (edges_of bs) ≡ false)
+      × ((eqb (kind_of bs) 1 && ltb (limits (form_of bs)).bytes (bytes_of bs)) ≡ false)
+  unfolding past_limit
   limit-parts =
       let a = or-false (ltb (k_of bs) 2) _ h in
       let b = or-false (ltb 128 (k_of bs)) _ a.1 in
-      let c = or-false (ltb (limits (formOf bs)).vertices (verticesOf bs)) _ b.1 in
-      let d = or-false (ltb (limits (formOf bs)).edges (edgesOf bs)) _ c.1 in
+      let c = or-false (ltb (limits (form_of bs)).vertices (vertices_of bs)) _ b.1 in
+      let d = or-false (ltb (limits (form_of bs)).edges (edges_of bs)) _ c.1 in
       (a.0, b.0, c.0, d.0, d.1)
 
-  bytes_most : kind_of bs ≡ 1 → bytes_of bs ≤ (limits (formOf bs)).bytes
-  bytes_most o = ltb-false (limits (formOf bs)).bytes (bytes_of bs) (rw (eq-eqb (kind_of bs) 1 o) at limit-parts.4)
+  bytes_most : kind_of bs ≡ 1 → bytes_of bs ≤ (limits (form_of bs)).bytes
+  bytes_most o = ltb-false (limits (form_of bs)).bytes (bytes_of bs) (rw (eq-eqb (kind_of bs) 1 o) at limit-parts.4)
 
-good-edge : (bs : List ℕ) (i : ℕ) → badEdge bs i ≡ false → GoodEdge bs i
-unfolding badEdge
+good-edge : (bs : List ℕ) (i : ℕ) → bad_edge bs i ≡ false → GoodEdge bs i
+unfolding bad_edge
 good-edge bs i h =
-    let a = or-false (leb (verticesOf bs) (edge_at bs i).from) _ h in
-    let b = or-false (leb (verticesOf bs) (edge_at bs i).to) _ a.1 in
-    record { from = leb-false _ _ a.0; to = leb-false _ _ b.0; flag = ltb-false 3 (flagAt bs i) b.1 }
+    let a = or-false (leb (vertices_of bs) (edge_at bs i).from) _ h in
+    let b = or-false (leb (vertices_of bs) (edge_at bs i).to) _ a.1 in
+    record { from = leb-false _ _ a.0; to = leb-false _ _ b.0; flag = ltb-false 3 (flag_at bs i) b.1 }
 
-stated-whole : (bs : List ℕ) → otherLength bs ≡ false → whole_of bs ≡ length bs
-unfolding otherLength
-stated-whole bs h = eqb-true _ _ (not-false _ (or-false (ltb (length bs) (lengthsAt (formOf bs))) _ h).1)
+stated-whole : (bs : List ℕ) → other_length bs ≡ false → whole_of bs ≡ length bs
+unfolding other_length
+stated-whole bs h = eqb-true _ _ (not-false _ (or-false (ltb (length bs) (lengths_at (form_of bs))) _ h).1)
 
 -- the kind is one that the call takes
-kind-taken : (t : Takes) (bs : List ℕ) → refusalOf (layoutCauses t bs) ≡ 0 → takesKind t (kind_of bs) ≡ true
+kind-taken : (t : Takes) (bs : List ℕ) → refusal_of (layout_causes t bs) ≡ 0 → takes_kind t (kind_of bs) ≡ true
 kind-taken t bs h = not-false _ (mark-parts t bs (no-cause t bs h).1).1
 
-pub kmer-kind : (bs : List ℕ) → refusalOf (layoutCauses kmerOnly bs) ≡ 0 → kind_of bs ≡ 0
-kmer-kind bs h = eqb-true (kind_of bs) 0 (unfold takesKind in (kind-taken kmerOnly bs h))
+pub kmer-kind : (bs : List ℕ) → refusal_of (layout_causes kmer_only bs) ≡ 0 → kind_of bs ≡ 0
+kmer-kind bs h = eqb-true (kind_of bs) 0 (unfold takes_kind in (kind-taken kmer_only bs h))
 
-pub sequence-kind : (bs : List ℕ) → refusalOf (layoutCauses sequenceOnly bs) ≡ 0 → kind_of bs ≡ 1
-sequence-kind bs h = eqb-true (kind_of bs) 1 (unfold takesKind in (kind-taken sequenceOnly bs h))
+pub sequence-kind : (bs : List ℕ) → refusal_of (layout_causes sequence_only bs) ≡ 0 → kind_of bs ≡ 1
+sequence-kind bs h = eqb-true (kind_of bs) 1 (unfold takes_kind in (kind-taken sequence_only bs h))
 
-pub well-formed : (t : Takes) (bs : List ℕ) → refusalOf (layoutCauses t bs) ≡ 0 → WellFormed bs
+pub well-formed : (t : Takes) (bs : List ℕ) → refusal_of (layout_causes t bs) ≡ 0 → WellFormed bs
 well-formed t bs h =
     let n = no-cause t bs h in
     record {
@@ -94,8 +94,8 @@ well-formed t bs h =
       kmer-status = status-none t bs n.1;
       k-least = ltb-false (k_of bs) 2 (limit-parts bs n.2).0;
       k-most = ltb-false 128 (k_of bs) (limit-parts bs n.2).1;
-      vertices = ltb-false (limits (formOf bs)).vertices (verticesOf bs) (limit-parts bs n.2).2;
-      edges = ltb-false (limits (formOf bs)).edges (edgesOf bs) (limit-parts bs n.2).3;
+      vertices = ltb-false (limits (form_of bs)).vertices (vertices_of bs) (limit-parts bs n.2).2;
+      edges = ltb-false (limits (form_of bs)).edges (edges_of bs) (limit-parts bs n.2).3;
       bytes = bytes_most bs n.2;
       lengths-at = lengths-offset bs (offsets-agree bs n.3);
       edges-at = edges_offset bs (offsets-agree bs n.3);
@@ -103,8 +103,8 @@ well-formed t bs h =
       stated = stated-whole bs n.0;
       whole = whole_is bs (offsets-agree bs n.3);
       lengths = sum_is bs n.3;
-      kmers = λ z i below. eqb-true _ _ (not-false _ (any_false (otherKmerLength bs) (verticesOf bs) (kmers-are bs n.3 z) i below));
-      good = λ i below. good-edge bs i (any_false (badEdge bs) (edgesOf bs) (sym (any-bad-is bs) ∙ n.4) i below);
+      kmers = λ z i below. eqb-true _ _ (not-false _ (any_false (other_kmer_length bs) (vertices_of bs) (kmers-are bs n.3 z) i below));
+      good = λ i below. good-edge bs i (any_false (bad_edge bs) (edges_of bs) (sym (any-bad-is bs) ∙ n.4) i below);
     }
 
 -- what each answer of the check says
@@ -131,16 +131,16 @@ unfolding layout_of number_in
 refused-n zero k e = let z : ◌≡◌ {A = ℕ} 0 1 = cc in absurd (omega arith)
 refused-n (suc n) k {m} e = let q : m ≡ suc n = sym (ap number_in e) in (q, λ z. omega arith)
 
-module _ (t : Takes) (bs : List ℕ) {r : Layout} (e : r ≡ layout_of (refusalOf (layoutCauses t bs)) (k_of bs)) where
+module _ (t : Takes) (bs : List ℕ) {r : Layout} (e : r ≡ layout_of (refusal_of (layout_causes t bs)) (k_of bs)) where
   -- a well formed record has none of the causes, and its k is the size that was made
-  pub formed-none : {k : KmerSize} → r ≡ Formed k → refusalOf (layoutCauses t bs) ≡ 0
+  pub formed-none : {k : KmerSize} → r ≡ Formed k → refusal_of (layout_causes t bs) ≡ 0
   formed-none f = formed-zero _ (k_of bs) (sym e ∙ f)
 
   pub formed-size : {k : KmerSize} → r ≡ Formed k → k.0 ≡ k_of bs
-  formed-size f = formed-k (refusalOf (layoutCauses t bs)) _ (sym e ∙ f)
+  formed-size f = formed-k (refusal_of (layout_causes t bs)) _ (sym e ∙ f)
 
-  pub refused-number : {n : ℕ} → r ≡ Refused n → n ≡ refusalOf (layoutCauses t bs)
+  pub refused-number : {n : ℕ} → r ≡ Refused n → n ≡ refusal_of (layout_causes t bs)
   refused-number f = (refused-n _ (k_of bs) (sym e ∙ f)).0
 
   pub refused-some : {n : ℕ} → r ≡ Refused n → n ≡ 0 → ⊥
-  refused-some f = (refused-n (refusalOf (layoutCauses t bs)) (k_of bs) (sym e ∙ f)).1
+  refused-some f = (refused-n (refusal_of (layout_causes t bs)) (k_of bs) (sym e ∙ f)).1

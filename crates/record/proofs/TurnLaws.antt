@@ -6,8 +6,8 @@ use mathlib.Core.Bool.{Bool, true, false}
 use native.Mathlib.Nat.{le_of_suc-le-suc, not-suc-le-zero, suc-add, zero-add, add-suc, add-zero}
 use native.Mathlib.Numerals.{add-one}
 use native.Mathlib.Omega.{arith}
-use Rattle.defs.specs.Lists.{tabFrom, tab, sum, any_of, up_from}
-use Rattle.laws.proofs.Walks.{byTest}
+use Rattle.defs.specs.Lists.{tab_from, tab, sum, any_of, up_from}
+use Rattle.laws.proofs.Walks.{by_test}
 use Rattle.laws.proofs.ListLaws.{clash}
 use Rattle.tabs.proofs.Tabs.{one_less}
 
@@ -18,19 +18,19 @@ spent i n h = omega arith
 start : (n : ℕ) → n - 0 ≡ n
 start n = omega arith
 
-pub sum-start : (f : ℕ → ℕ) (n : ℕ) → 0 + sum (tabFrom 0 (n - 0) f) ≡ sum (tab n f)
+pub sum-start : (f : ℕ → ℕ) (n : ℕ) → 0 + sum (tab_from 0 (n - 0) f) ≡ sum (tab n f)
 sum-start f n = zero-add _ ∙ ap (λ (k : ℕ). sum (tab k f)) (start n)
 
 -- what turn i adds to a sum
-pub sum-turn : (f : ℕ → ℕ) (i n : ℕ) → i < n → sum (tabFrom i (n - i) f) ≡ f i + sum (tabFrom (i + 1) (n - (i + 1)) f)
-unfolding tabFrom sum
+pub sum-turn : (f : ℕ → ℕ) (i n : ℕ) → i < n → sum (tab_from i (n - i) f) ≡ f i + sum (tab_from (i + 1) (n - (i + 1)) f)
+unfolding tab_from sum
 sum-turn f i n h =
-    ap (λ (k : ℕ). sum (tabFrom i k f)) (one_less n i h)
-    ∙ ap (λ (k : ℕ). f i + sum (tabFrom k (n - (i + 1)) f)) (sym (add-one i))
+    ap (λ (k : ℕ). sum (tab_from i k f)) (one_less n i h)
+    ∙ ap (λ (k : ℕ). f i + sum (tab_from k (n - (i + 1)) f)) (sym (add-one i))
 
-pub sum-spent : (f : ℕ → ℕ) (i n : ℕ) → n ≤ i → sum (tabFrom i (n - i) f) ≡ 0
-unfolding tabFrom sum
-sum-spent f i n h = ap (λ (k : ℕ). sum (tabFrom i k f)) (spent i n h)
+pub sum-spent : (f : ℕ → ℕ) (i n : ℕ) → n ≤ i → sum (tab_from i (n - i) f) ≡ 0
+unfolding tab_from sum
+sum-spent f i n h = ap (λ (k : ℕ). sum (tab_from i k f)) (spent i n h)
 
 module _ (p : ℕ → Bool) where
   pub any-start : (n : ℕ) → any_of p (up_from 0 (n - 0)) ≡ any_of p (up_from 0 n)
@@ -59,7 +59,7 @@ module _ (p : ℕ → Bool) where
   any_none i n h = ap (λ (k : ℕ). any_of p (up_from i k)) (spent i n h)
 
   any_step : (s n : ℕ) → any_of p (up_from s (suc n)) ≡ false → (p s ≡ false) × (any_of p (up_from (suc s) n) ≡ false)
-  any_step s n h = byTest (p s) (λ t. clash (any-cons-yes s n t) h) (λ t. (t, sym (any-cons-no s n t) ∙ h))
+  any_step s n h = by_test (p s) (λ t. clash (any-cons-yes s n t) h) (λ t. (t, sym (any-cons-no s n t) ∙ h))
 
   -- what no number below n passes, i does not pass
   any-false-from : (s n : ℕ) → any_of p (up_from s n) ≡ false → (i : ℕ) → i < n → p (s + i) ≡ false

@@ -4,7 +4,7 @@ use Rattle.defs.specs.Refusals as refusals
 use Rattle.record.specs.declared.Takes.{Takes}
 use Rattle.record.specs.declared.Takes.TheVariants.{KmerOnly, SequenceOnly, BothKinds}
 
-unfoldable pub takesOf : Takes → refusals.Takes
-takesOf KmerOnly = refusals.kmerOnly
-takesOf SequenceOnly = refusals.sequenceOnly
-takesOf BothKinds = refusals.bothKinds
+unfoldable pub takes_of : Takes → refusals.Takes
+takes_of KmerOnly = refusals.kmer_only
+takes_of SequenceOnly = refusals.sequence_only
+takes_of BothKinds = refusals.both_kinds

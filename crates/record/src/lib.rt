@@ -1,14 +1,14 @@
 // The graph record: its fields, and the refusals 1 to 5, which lie in its layout. Each function goes by the record's form.
 ghost use Rattle.std.specs.Prelude.{◌≡◌, ◌<◌, ◌≤◌, length, take};
 ghost use Rattle.defs.specs.Lists.{any_of, up_from, tab, sum, same_list};
-ghost use Rattle.defs.specs.Forms.{mark, formOf};
-ghost use Rattle.defs.specs.Record.{k_of, verticesOf, edgesOf, bytes_of, length_at, edgeStart, edge_at, flagAt};
-ghost use Rattle.defs.specs.Refusals.{refusalOf, layoutCauses, takesKind, otherLength, wrongMark, layoutDisagrees, badEdge, anyBadEdge};
-ghost use Rattle.form.specs.Coded.{formIs};
+ghost use Rattle.defs.specs.Forms.{mark, form_of};
+ghost use Rattle.defs.specs.Record.{k_of, vertices_of, edges_of, bytes_of, length_at, edge_start, edge_at, flag_at};
+ghost use Rattle.defs.specs.Refusals.{refusal_of, layout_causes, takes_kind, other_length, wrong_mark, layout_disagrees, bad_edge, any_bad_edge};
+ghost use Rattle.form.specs.Coded.{form_is};
 ghost use Rattle.kmer.specs.Size.{size_of};
 ghost use Rattle.record.specs.Headed.{Headed, LengthInside, LengthsInside, EdgeInside, EdgesInside};
-ghost use Rattle.record.specs.Kinds.{takesOf};
-ghost use Rattle.record.specs.Layout.{countPastLimit, otherKmerLength, offsetsDisagree, layout_of};
+ghost use Rattle.record.specs.Kinds.{takes_of};
+ghost use Rattle.record.specs.Layout.{count_past_limit, other_kmer_length, offsets_disagree, layout_of};
 
 use form::Form;
 use kmer::{KmerSize, MadeSize};
@@ -38,14 +38,14 @@ pub fn kmer_size_of(rec: &[u8]) -> MadeSize
 
 pub fn vertex_count(rec: &[u8], form: Form) -> usize
     requires { Headed form rec.now }
-    ensures { (result ≡ verticesOf rec.now) × (result < 4294967296) }
+    ensures { (result ≡ vertices_of rec.now) × (result < 4294967296) }
 {
     form::word_at(rec, 8, form) as usize
 }
 
 pub fn edge_count(rec: &[u8], form: Form) -> usize
     requires { Headed form rec.now }
-    ensures { (result ≡ edgesOf rec.now) × (result < 4294967296) }
+    ensures { (result ≡ edges_of rec.now) × (result < 4294967296) }
 {
     form::word_at(rec, 8 + form::word_size(form), form) as usize
 }
@@ -66,7 +66,7 @@ pub fn length_at(rec: &[u8], form: Form, i: usize) -> usize
 
 fn edge_start(rec: &[u8], form: Form, i: usize) -> usize
     requires { Headed form rec.now × (i < 4294967296) }
-    ensures { result ≡ edgeStart rec.now i }
+    ensures { result ≡ edge_start rec.now i }
 {
     form::bytes_at(form, vertex_count(rec, form), i)
 }
@@ -95,7 +95,7 @@ pub fn edge_support_at(rec: &[u8], form: Form, i: usize) -> u32
 // The flag as it stands in the record.
 pub fn edge_flag_at(rec: &[u8], form: Form, i: usize) -> u32
     requires { EdgeInside form rec.now i }
-    ensures { result ≡ flagAt rec.now i }
+    ensures { result ≡ flag_at rec.now i }
 {
     wide(rec[edge_start(rec, form, i) + 2 * form::word_size(form) + 4])
 }
@@ -108,8 +108,8 @@ fn wide(x: u8) -> u32
 
 // 1: shorter than its header, or not the length it states.
 fn other_length(rec: &[u8], form: Form) -> bool
-    requires { formIs form ≡ formOf rec.now }
-    ensures { result ≡ otherLength rec.now }
+    requires { form_is form ≡ form_of rec.now }
+    ensures { result ≡ other_length rec.now }
 {
     let header = form::lengths_at(form);
     if rec.len() < header {
@@ -121,7 +121,7 @@ fn other_length(rec: &[u8], form: Form) -> bool
 // The four letters that a record begins with. One that begins SGR2 is of that form.
 fn has_mark(rec: &[u8], form: Form) -> bool
     requires { Headed form rec.now }
-    ensures { result ≡ same_list (take 4 rec.now) (mark (formOf rec.now)) }
+    ensures { result ≡ same_list (take 4 rec.now) (mark (form_of rec.now)) }
 {
     match form {
         Form::Sgr1 => form::begins_with(rec, b"SGR1"),
@@ -130,7 +130,7 @@ fn has_mark(rec: &[u8], form: Form) -> bool
 }
 
 fn takes_kind(takes: Takes, kind: u8) -> bool
-    ensures { result ≡ takesKind (takesOf takes) kind }
+    ensures { result ≡ takes_kind (takes_of takes) kind }
 {
     match takes {
         Takes::KmerOnly => kind == 0,
@@ -142,7 +142,7 @@ fn takes_kind(takes: Takes, kind: u8) -> bool
 // 2: mark, kind for this call, or status.
 fn wrong_mark(rec: &[u8], form: Form, takes: Takes) -> bool
     requires { Headed form rec.now }
-    ensures { result ≡ wrongMark (takesOf takes) rec.now }
+    ensures { result ≡ wrong_mark (takes_of takes) rec.now }
 {
     if !has_mark(rec, form) {
         return true;
@@ -162,7 +162,7 @@ fn wrong_mark(rec: &[u8], form: Form, takes: Takes) -> bool
 // 3: a count past a limit. That of k is `kmer_size_of`.
 fn count_past_limit(rec: &[u8], form: Form) -> bool
     requires { Headed form rec.now }
-    ensures { result ≡ countPastLimit rec.now }
+    ensures { result ≡ count_past_limit rec.now }
 {
     if form::most_vertices(form) < vertex_count(rec, form) {
         return true;
@@ -193,7 +193,7 @@ fn total_length(rec: &[u8], form: Form, v: usize) -> usize
 // Whether one of the first v lengths is not k.
 fn other_kmer_length(rec: &[u8], form: Form, k: KmerSize, v: usize) -> bool
     requires { (k.0 ≡ k_of rec.now) × LengthsInside form rec.now v }
-    ensures { result ≡ any_of (otherKmerLength rec.now) (up_from 0 v) }
+    ensures { result ≡ any_of (other_kmer_length rec.now) (up_from 0 v) }
 {
     let size = kmer::value(k) as usize;
     let mut i = 0;
@@ -210,7 +210,7 @@ fn other_kmer_length(rec: &[u8], form: Form, k: KmerSize, v: usize) -> bool
 // Whether an offset or the whole length is not what the counts say. The counts may be as large as a word.
 fn offsets_disagree(rec: &[u8], form: Form) -> bool
     requires { Headed form rec.now }
-    ensures { result ≡ offsetsDisagree rec.now }
+    ensures { result ≡ offsets_disagree rec.now }
 {
     let header = form::lengths_at(form);
     let vertices = vertex_count(rec, form);
@@ -230,7 +230,7 @@ fn offsets_disagree(rec: &[u8], form: Form) -> bool
 // 4: offsets, whole length, lengths or byte count disagree. The lengths are read once they are known to lie in the record.
 fn layout_disagrees(rec: &[u8], form: Form, k: KmerSize) -> bool
     requires { (k.0 ≡ k_of rec.now) × Headed form rec.now }
-    ensures { result ≡ layoutDisagrees rec.now }
+    ensures { result ≡ layout_disagrees rec.now }
 {
     if offsets_disagree(rec, form) {
         return true;
@@ -247,7 +247,7 @@ fn layout_disagrees(rec: &[u8], form: Form, k: KmerSize) -> bool
 
 fn bad_edge(rec: &[u8], form: Form, i: usize) -> bool
     requires { EdgeInside form rec.now i }
-    ensures { result ≡ badEdge rec.now i }
+    ensures { result ≡ bad_edge rec.now i }
 {
     let v = vertex_count(rec, form) as u32;
     if v <= edge_from_at(rec, form, i) {
@@ -262,7 +262,7 @@ fn bad_edge(rec: &[u8], form: Form, i: usize) -> bool
 // 5: an edge end not below V, or a flag above 3.
 fn any_bad_edge(rec: &[u8], form: Form) -> bool
     requires { EdgesInside form rec.now }
-    ensures { result ≡ anyBadEdge rec.now }
+    ensures { result ≡ any_bad_edge rec.now }
 {
     let e = edge_count(rec, form);
     let mut i = 0;
@@ -278,7 +278,7 @@ fn any_bad_edge(rec: &[u8], form: Form) -> bool
 
 // The first of the refusals 1 to 5 whose cause the record has; where there is none, its k-mer size.
 pub fn check_layout(rec: &[u8], takes: Takes) -> Layout
-    ensures { result ≡ layout_of (refusalOf (layoutCauses (takesOf takes) rec.now)) (k_of rec.now) }
+    ensures { result ≡ layout_of (refusal_of (layout_causes (takes_of takes) rec.now)) (k_of rec.now) }
 {
     let form = form::form_of(rec);
     if other_length(rec, form) {

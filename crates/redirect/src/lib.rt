@@ -1,15 +1,15 @@
 // A new vertex takes over the edges of an old one, joined where one is there already. A mark for each vertex says where its edge stands.
 ghost use Rattle.std.specs.Prelude.{◌≡◌, ◌+◌, ◌*◌, ◌-◌, ◌<◌};
-ghost use Rattle.redirect.specs.Redirect.{newFrom, newTo, place, OneReady, OneDone, Redirectable, Redirected};
+ghost use Rattle.redirect.specs.Redirect.{new_from, new_to, place, OneReady, OneDone, Redirectable, Redirected};
 
 fn new_from(off: usize, y: u32, x: u32) -> u32
-    ensures { result ≡ newFrom off y x }
+    ensures { result ≡ new_from off y x }
 {
     if off == 0 { y } else { x }
 }
 
 fn new_to(off: usize, y: u32, x: u32) -> u32
-    ensures { result ≡ newTo off y x }
+    ensures { result ≡ new_to off y x }
 {
     if off == 0 { x } else { y }
 }

@@ -1,7 +1,7 @@
 // The reference path: from the reference source along the first reference edge, or the first edge where none is one, to the reference
 // sink; and the bytes that it spells (`reference_path_bytes`).
 ghost use Rattle.std.specs.Prelude.{◌≡◌, ℕ, ◌+◌, ◌*◌, ◌<◌, ◌≤◌, length, get_or};
-ghost use Rattle.defs.specs.Paths.{referencePathBytes};
+ghost use Rattle.defs.specs.Paths.{reference_path_bytes};
 ghost use Rattle.index.specs.Index.{Indexed};
 ghost use Rattle.memory.specs.Memory.{graph_of};
 ghost use Rattle.spell.specs.Spell.{Told};
@@ -87,7 +87,7 @@ pub fn reference_path_bytes(
     out: &mut [u8],
 ) -> OptionBytes
     requires { Spellable held es.now vs.now p.now nodes.old × Indexed held.m held.n es.now heads.now nexts.now }
-    ensures { Told (referencePathBytes (graph_of held es.now vs.now p.now)) out.old result out.new }
+    ensures { Told (reference_path_bytes (graph_of held es.now vs.now p.now)) out.old result out.new }
 {
     let n = held.n;
     let m = held.m;

@@ -1,34 +1,34 @@
 -- The answers of the reference tests, whatever k, the vertices and the pool. Assumes nothing.
 use Rattle.std.specs.Prelude.{◌≡◌, Bool, List, ℕ, ◌+◌, ◌*◌, get_or}
 use Rattle.std.proofs.Math.Option.{Option, none, some}
-use Rattle.defs.specs.SeqGraph.{isReferenceNode, isRefSource, isRefSink}
-use Rattle.defs.specs.Cleanup.{referenceSourceVertex, referenceSinkVertex}
-use Rattle.defs.specs.Record.{flagIsRef}
-use Rattle.store.specs.Store.{graphIn}
+use Rattle.defs.specs.SeqGraph.{is_reference_node, is_ref_source, is_ref_sink}
+use Rattle.defs.specs.Cleanup.{reference_source_vertex, reference_sink_vertex}
+use Rattle.defs.specs.Record.{flag_is_ref}
+use Rattle.store.specs.Store.{graph_in}
 use Rattle.refs.specs.declared.OptionVertex.{OptionVertex}
 use Rattle.refs.specs.declared.OptionVertex.TheVariants.{Some, None}
 
 -- whether edge e is a reference edge
 abbrev pub ref_at : List ℕ → ℕ → Bool
-ref_at es e = flagIsRef (get_or es (4 * e + 3) 0)
+ref_at es e = flag_is_ref (get_or es (4 * e + 3) 0)
 
 pub record RefNode (m n : ℕ) (es : List ℕ) (v : ℕ) (r : Bool) : Type 0 where
-  pub is : (k : ℕ) (vs p : List ℕ) → r ≡ isReferenceNode (graphIn k n m es vs p) v
+  pub is : (k : ℕ) (vs p : List ℕ) → r ≡ is_reference_node (graph_in k n m es vs p) v
 
 pub record RefSource (m n : ℕ) (es : List ℕ) (v : ℕ) (r : Bool) : Type 0 where
-  pub is : (k : ℕ) (vs p : List ℕ) → r ≡ isRefSource (graphIn k n m es vs p) v
+  pub is : (k : ℕ) (vs p : List ℕ) → r ≡ is_ref_source (graph_in k n m es vs p) v
 
 pub record RefSink (m n : ℕ) (es : List ℕ) (v : ℕ) (r : Bool) : Type 0 where
-  pub is : (k : ℕ) (vs p : List ℕ) → r ≡ isRefSink (graphIn k n m es vs p) v
+  pub is : (k : ℕ) (vs p : List ℕ) → r ≡ is_ref_sink (graph_in k n m es vs p) v
 
 -- a vertex, or none
-abbrev pub vertexOf : OptionVertex → Option ℕ
-vertexOf (Some v) = some v
-vertexOf None = none
+abbrev pub vertex_of : OptionVertex → Option ℕ
+vertex_of (Some v) = some v
+vertex_of None = none
 
 -- the first reference source, and the first reference sink
 pub record FirstSource (m n : ℕ) (es : List ℕ) (r : OptionVertex) : Type 0 where
-  pub is : (k : ℕ) (vs p : List ℕ) → vertexOf r ≡ referenceSourceVertex (graphIn k n m es vs p)
+  pub is : (k : ℕ) (vs p : List ℕ) → vertex_of r ≡ reference_source_vertex (graph_in k n m es vs p)
 
 pub record FirstSink (m n : ℕ) (es : List ℕ) (r : OptionVertex) : Type 0 where
-  pub is : (k : ℕ) (vs p : List ℕ) → vertexOf r ≡ referenceSinkVertex (graphIn k n m es vs p)
+  pub is : (k : ℕ) (vs p : List ℕ) → vertex_of r ≡ reference_sink_vertex (graph_in k n m es vs p)

@@ -1,7 +1,7 @@
 // Reference edges, nodes, sources and sinks.
 ghost use Rattle.std.specs.Prelude.{◌≡◌, ℕ, ◌+◌, ◌*◌, ◌<◌, ◌≤◌, length};
 ghost use Rattle.defs.specs.Lists.{any_of};
-ghost use Rattle.index.specs.Index.{Indexed, edgeEnd, incidentEdges};
+ghost use Rattle.index.specs.Index.{Indexed, edge_end, incident_edges};
 ghost use Rattle.refs.specs.Refs.{ref_at, RefNode, RefSource, RefSink, FirstSource, FirstSink};
 
 // A vertex, or none: the Rust's `Option<usize>`.
@@ -22,7 +22,7 @@ pub fn any_ref(
     v: usize,
 ) -> bool
     requires { (v < n) × ((off ≤ 1) × Indexed m n es.now heads.now nexts.now) }
-    ensures { result ≡ any_of (ref_at es.now) (incidentEdges (edgeEnd off es.now) m v) }
+    ensures { result ≡ any_of (ref_at es.now) (incident_edges (edge_end off es.now) m v) }
 {
     let mut e = heads[2 * v + off] as usize;
     while e < m {

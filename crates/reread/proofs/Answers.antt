@@ -3,12 +3,12 @@ use Prim.Native.Nat.{ℕ, ◌+◌, ◌/◌, ◌≤◌}
 use native.Mathlib.Omega.{arith}
 use mathlib.Core.Path.{◌≡◌, refl}
 use mathlib.Core.List.{List}
-use Rattle.defs.specs.Forms.{Form, formOf, limits}
+use Rattle.defs.specs.Forms.{Form, form_of, limits}
 use Rattle.defs.specs.SeqGraph.{Graph}
-use Rattle.defs.specs.Simplify.{sequenceBytes, simplifyGraphFull, minTailSuffixLen}
-use Rattle.defs.specs.Cleanup.{Status, justReference, someVariation, statusNumber, cleanupSeqGraph}
-use Rattle.defs.specs.Record.{sequenceGraph, encode, decode}
-use Rattle.defs.specs.Refusals.{sequenceOnly, recordRefusal}
+use Rattle.defs.specs.Simplify.{sequence_bytes, simplify_graph_full, min_tail_suffix_len}
+use Rattle.defs.specs.Cleanup.{Status, just_reference, some_variation, status_number, cleanup_seq_graph}
+use Rattle.defs.specs.Record.{sequence_graph, encode, decode}
+use Rattle.defs.specs.Refusals.{sequence_only, record_refusal}
 use Rattle.form.proofs.FormLaws.{limits-small, limits-fit}
 use Rattle.laws.proofs.Bound.{Fits}
 use Rattle.laws.proofs.Room.{Narrow, limits-narrow, simplify-narrow, narrow-fits, cleanup-fits}
@@ -29,7 +29,7 @@ module _ (f : Form) (g : Graph) (I : SequenceInput f g) where
 
   answer-of : (h : Graph)
       → Fits ((limits f).vertices + (limits f).bytes) ((limits f).vertices + (limits f).bytes + ((limits f).edges + (limits f).bytes / 4)) h
-      → sequenceBytes h.verts ≤ (limits f).bytes → Fields g.k h → SequenceAnswer f h
+      → sequence_bytes h.verts ≤ (limits f).bytes → Fields g.k h → SequenceAnswer f h
   answer-of h L b F =
       let most = limits-small f in
       record {
@@ -42,36 +42,36 @@ module _ (f : Form) (g : Graph) (I : SequenceInput f g) where
         supports = F.supports;
       }
 
-  pub simplified-answer : SequenceAnswer f (simplifyGraphFull minTailSuffixLen g).graph
+  pub simplified-answer : SequenceAnswer f (simplify_graph_full min_tail_suffix_len g).graph
   simplified-answer =
       let N = simplify-narrow g narrow in
-      answer-of (simplifyGraphFull minTailSuffixLen g).graph (narrow-fits _ N) N.few (simplify-fields g fields)
+      answer-of (simplify_graph_full min_tail_suffix_len g).graph (narrow-fits _ N) N.few (simplify-fields g fields)
 
-  pub cleaned-answer : SequenceAnswer f (cleanupSeqGraph g).graph
+  pub cleaned-answer : SequenceAnswer f (cleanup_seq_graph g).graph
   cleaned-answer =
-      answer-of (cleanupSeqGraph g).graph (cleanup-fits (omega (arith, (limits-fit f).kmer)) g narrow) (cleanup-bytes g narrow) (cleanup-fields g fields)
+      answer-of (cleanup_seq_graph g).graph (cleanup-fits (omega (arith, (limits-fit f).kmer)) g narrow) (cleanup-bytes g narrow) (cleanup-fields g fields)
 
-status-most : (s : Status) → statusNumber s ≤ 2
-unfolding statusNumber
-status-most justReference = omega arith
-status-most someVariation = omega arith
+status-most : (s : Status) → status_number s ≤ 2
+unfolding status_number
+status-most just_reference = omega arith
+status-most some_variation = omega arith
 
-module _ (bs : List ℕ) (small : Bytes bs) (ok : recordRefusal sequenceOnly bs ≡ 0) where
-  abbrev simplifiedGraph : Graph
-  simplifiedGraph = (simplifyGraphFull minTailSuffixLen (decode bs)).graph
+module _ (bs : List ℕ) (small : Bytes bs) (ok : record_refusal sequence_only bs ≡ 0) where
+  abbrev simplified_graph : Graph
+  simplified_graph = (simplify_graph_full min_tail_suffix_len (decode bs)).graph
 
-  pub simplify-within : SequenceAnswer (formOf bs) simplifiedGraph
-  simplify-within = simplified-answer (formOf bs) (decode bs) (sequence-input bs small ok)
+  pub simplify-within : SequenceAnswer (form_of bs) simplified_graph
+  simplify-within = simplified-answer (form_of bs) (decode bs) (sequence-input bs small ok)
 
-  pub simplify-reread : RereadAs (formOf bs) simplifiedGraph (encode (formOf bs) sequenceGraph 0 simplifiedGraph)
-  simplify-reread = answer-reread (formOf bs) simplifiedGraph simplify-within 0 (omega arith)
+  pub simplify-reread : RereadAs (form_of bs) simplified_graph (encode (form_of bs) sequence_graph 0 simplified_graph)
+  simplify-reread = answer-reread (form_of bs) simplified_graph simplify-within 0 (omega arith)
 
   abbrev cleaned : Graph
-  cleaned = (cleanupSeqGraph (decode bs)).graph
+  cleaned = (cleanup_seq_graph (decode bs)).graph
 
   abbrev status : ℕ
-  status = statusNumber (cleanupSeqGraph (decode bs)).status
+  status = status_number (cleanup_seq_graph (decode bs)).status
 
-  pub cleanup-reread : RereadAs (formOf bs) cleaned (encode (formOf bs) sequenceGraph status cleaned)
-  cleanup-reread = answer-reread (formOf bs) cleaned (cleaned-answer (formOf bs) (decode bs) (sequence-input bs small ok)) status
-      (status-most (cleanupSeqGraph (decode bs)).status)
+  pub cleanup-reread : RereadAs (form_of bs) cleaned (encode (form_of bs) sequence_graph status cleaned)
+  cleanup-reread = answer-reread (form_of bs) cleaned (cleaned-answer (form_of bs) (decode bs) (sequence-input bs small ok)) status
+      (status-most (cleanup_seq_graph (decode bs)).status)

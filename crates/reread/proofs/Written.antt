@@ -7,14 +7,14 @@ use mathlib.Core.List.{List}
 use lib.ListN.{length, get_or}
 use Rattle.defs.specs.Forms.{Form}
 use Rattle.defs.specs.SeqGraph.{Edge, Graph}
-use Rattle.defs.specs.Record.{RecordKind, recordKindNumber, verticesOf, edgesOf, edge_at, encode}
-use Rattle.defs.specs.Refusals.{Takes, takesKind, refusalOf, recordRefusal}
+use Rattle.defs.specs.Record.{RecordKind, record_kind_number, vertices_of, edges_of, edge_at, encode}
+use Rattle.defs.specs.Refusals.{Takes, takes_kind, refusal_of, record_refusal}
 use Rattle.laws.proofs.ListLaws.{at_mem}
 use Rattle.cycle.proofs.CycleLaws.{ranked-no-cycle}
 use Rattle.codec.proofs.Encoded.{length-written, vertices-read, edges-read, edge-read}
 use Rattle.load.specs.Loaded.{Laid}
 use Rattle.sound.specs.Alike.{no_edge}
-use Rattle.reread.specs.GraphCauses.{graphPastLimit}
+use Rattle.reread.specs.GraphCauses.{graph_past_limit}
 use Rattle.reread.specs.Recordable.{Recordable}
 use Rattle.reread.proofs.Fields.{bytes-written, sum-written}
 use Rattle.reread.proofs.Told.{whole-written, causes-told}
@@ -22,11 +22,11 @@ use Rattle.reread.proofs.Checks.{kind-right, kmers-right, ends-right, doubled-ri
 
 module _ (f : Form) (kind : RecordKind) (status : ℕ) (g : Graph) (ok : Recordable f kind status g) where
   -- a call that takes the record's kind refuses it with 3 where k or a count is past a limit of input, and else accepts it
-  pub written-refusal : (t : Takes) → takesKind t (recordKindNumber kind) ≡ true
-      → recordRefusal t (encode f kind status g) ≡ cond (graphPastLimit f kind g) 3 0
-  unfolding recordRefusal
+  pub written-refusal : (t : Takes) → takes_kind t (record_kind_number kind) ≡ true
+      → record_refusal t (encode f kind status g) ≡ cond (graph_past_limit f kind g) 3 0
+  unfolding record_refusal
   written-refusal t k =
-      ap refusalOf (causes-told f kind status g ok.encodable ok.whole t)
+      ap refusal_of (causes-told f kind status g ok.encodable ok.whole t)
       ∙ three-decides f t kind status g
       (kind-right t status ok.status-most kind k (λ z. (ok.kmers z).status-none))
       (kmers-right g kind (λ z. (ok.kmers z).sizes))
@@ -37,7 +37,7 @@ module _ (f : Form) (kind : RecordKind) (status : ℕ) (g : Graph) (ok : Recorda
   abbrev bs : List ℕ
   bs = encode f kind status g
 
-  ends-are : (i : ℕ) → i < edgesOf bs → ((edge_at bs i).from < verticesOf bs) × ((edge_at bs i).to < verticesOf bs)
+  ends-are : (i : ℕ) → i < edges_of bs → ((edge_at bs i).from < vertices_of bs) × ((edge_at bs i).to < vertices_of bs)
   ends-are i h =
       let v = vertices-read f kind status g ok.encodable in
       let below : i < length g.edges = omega (arith, edges-read f kind status g ok.encodable) in

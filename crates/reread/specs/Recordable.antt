@@ -2,9 +2,9 @@
 use Rattle.std.specs.Prelude.{◌≡◌, ℕ, ◌<◌, ◌≤◌, length}
 use mathlib.Core.List.{List, Memᴰ}
 use Rattle.defs.specs.Forms.{Form, limits}
-use Rattle.defs.specs.SeqGraph.{Edge, Graph, nodeCount}
-use Rattle.defs.specs.Simplify.{sequenceBytes}
-use Rattle.defs.specs.Record.{RecordKind, recordKindNumber, wholeLength}
+use Rattle.defs.specs.SeqGraph.{Edge, Graph, node_count}
+use Rattle.defs.specs.Simplify.{sequence_bytes}
+use Rattle.defs.specs.Record.{RecordKind, record_kind_number, whole_length}
 use Rattle.laws.proofs.Fuel.{Good}
 use Rattle.sound.specs.Alike.{SameKmers}
 use Rattle.codec.specs.Encodable.{Encodable}
@@ -18,19 +18,19 @@ pub record KmerVertices (status : ℕ) (g : Graph) : Type 0 where
 -- a graph and a status that a record of this form and kind can hold, and that no cause but 3 refuses
 pub record Recordable (f : Form) (kind : RecordKind) (status : ℕ) (g : Graph) : Type 0 where
   pub encodable : Encodable f g
-  pub whole : wholeLength f (nodeCount g) (length g.edges) (sequenceBytes g.verts) < 4294967296
+  pub whole : whole_length f (node_count g) (length g.edges) (sequence_bytes g.verts) < 4294967296
   pub good : Good g
   pub status-most : status ≤ 2
-  pub kmers : recordKindNumber kind ≡ 0 → KmerVertices status g
+  pub kmers : record_kind_number kind ≡ 0 → KmerVertices status g
 
 -- a sound sequence graph within the limits of answers
 pub record SequenceAnswer (f : Form) (g : Graph) : Type 0 where
   pub good : Good g
   pub k-least : 2 ≤ g.k
   pub k-most : g.k ≤ 128
-  pub vertices : nodeCount g ≤ (limits f).answerVertices
-  pub edges : length g.edges ≤ (limits f).answerEdges
-  pub bytes : sequenceBytes g.verts ≤ (limits f).bytes
+  pub vertices : node_count g ≤ (limits f).answer_vertices
+  pub edges : length g.edges ≤ (limits f).answer_edges
+  pub bytes : sequence_bytes g.verts ≤ (limits f).bytes
   pub supports : (e : Edge) → Memᴰ e g.edges → e.support < 4294967296
 
 -- a sound sequence graph within the limits of input
@@ -38,9 +38,9 @@ pub record SequenceInput (f : Form) (g : Graph) : Type 0 where
   pub good : Good g
   pub k-least : 2 ≤ g.k
   pub k-most : g.k ≤ 128
-  pub vertices : nodeCount g ≤ (limits f).vertices
+  pub vertices : node_count g ≤ (limits f).vertices
   pub edges : length g.edges ≤ (limits f).edges
-  pub bytes : sequenceBytes g.verts ≤ (limits f).bytes
+  pub bytes : sequence_bytes g.verts ≤ (limits f).bytes
   pub supports : (e : Edge) → Memᴰ e g.edges → e.support < 4294967296
 
 -- a sound k-mer graph within the limits of input
@@ -48,7 +48,7 @@ pub record KmerInput (f : Form) (g : Graph) : Type 0 where
   pub good : Good g
   pub k-least : 2 ≤ g.k
   pub k-most : g.k ≤ 128
-  pub vertices : nodeCount g ≤ (limits f).vertices
+  pub vertices : node_count g ≤ (limits f).vertices
   pub edges : length g.edges ≤ (limits f).edges
   pub kmers : KmerVertices 0 g
   pub supports : (e : Edge) → Memᴰ e g.edges → e.support < 4294967296

@@ -4,10 +4,10 @@ use mathlib.Core.List.{List}
 use Prim.Native.Nat.{ℕ}
 use native.Mathlib.Omega.{arith}
 use lib.ListN.{length}
-use Rattle.defs.specs.Simplify.{minTailSuffixLen}
-use Rattle.defs.specs.Cleanup.{statusNumber}
+use Rattle.defs.specs.Simplify.{min_tail_suffix_len}
+use Rattle.defs.specs.Cleanup.{status_number}
 use Rattle.defs.specs.Record.{kind_of, decode}
-use Rattle.defs.specs.Refusals.{sequenceOnly}
+use Rattle.defs.specs.Refusals.{sequence_only}
 use Rattle.record.specs.Layout.{WellFormed}
 use Rattle.record.proofs.Accepted.{sequence-kind}
 use Rattle.memory.specs.Memory.{graph_of}
@@ -25,7 +25,7 @@ use Rattle.choice.proofs.ChoiceLaws.{holds-lean-kept}
 use Rattle.cleanup_room.proofs.ReadLean.{read-lean}
 use Rattle.rounds.specs.Rounds.{Full}
 use Rattle.rounds.specs.declared.Simplified.{Simplified}
-use Rattle.cleanup_steps.specs.CleanUp.{cleanupStatusOf, CleanUp}
+use Rattle.cleanup_steps.specs.CleanUp.{cleanup_status_of, CleanUp}
 use Rattle.cleanup_steps.specs.declared.CleanedUp.{CleanedUp}
 use Rattle.arrays.specs.Sized.{LentGraph, Lent}
 use Rattle.rewriting.specs.Rewriting.{HeldAs, result_of, GraphRewritten}
@@ -35,7 +35,7 @@ use Rattle.rewriting.specs.declared.RewritingCall.TheVariants.{SimplifyGraph, Cl
 
 -- the two rewritings
 module _ {h : Held} {es vs p heads nexts es' vs' p' : List ℕ} where
-  pub simplified-as : {s : Simplified} → Full minTailSuffixLen h es vs p heads nexts s es' vs' p'
+  pub simplified-as : {s : Simplified} → Full min_tail_suffix_len h es vs p heads nexts s es' vs' p'
       → GraphRewritten SimplifyGraph h es vs p heads nexts record {
         held = s.held;
         status = 0;
@@ -49,7 +49,7 @@ module _ {h : Held} {es vs p heads nexts es' vs' p' : List ℕ} where
     holds = F.holds;
   }
 
-  pub cleaned-as : {c : CleanedUp} {n : ℕ} → n ≡ statusNumber (cleanupStatusOf c.status) → CleanUp h es vs p heads nexts c es' vs' p'
+  pub cleaned-as : {c : CleanedUp} {n : ℕ} → n ≡ status_number (cleanup_status_of c.status) → CleanUp h es vs p heads nexts c es' vs' p'
       → GraphRewritten CleanupSeqGraph h es vs p heads nexts record {
         held = c.held;
         status = n;
@@ -59,7 +59,7 @@ module _ {h : Held} {es vs p heads nexts es' vs' p' : List ℕ} where
       } es' vs' p'
   unfolding result_of
   cleaned-as {c} q F = let A = F.answers in record {
-    is = λ i. record { graph = A.graph i; status = (q ∙ ap statusNumber A.status) i; rewrites = A.rewrites i; rounds = 0; end = 0 };
+    is = λ i. record { graph = A.graph i; status = (q ∙ ap status_number A.status) i; rewrites = A.rewrites i; rounds = 0; end = 0 };
     holds = F.holds;
   }
 
@@ -81,10 +81,10 @@ module _ {bs : List ℕ} {x : Read} {es vs : List ℕ} (A : ReadAs bs x es vs) {
 
   module _ {h : Held} (ok : x ≡ read.Graph h) {es₀ vs₀ p nodes mp : List ℕ} (Z : LentGraph bs es₀ vs₀ p heads nexts nodes mp) where
     formed : WellFormed bs
-    formed = accepted-layout sequenceOnly bs (read_none A ok)
+    formed = accepted-layout sequence_only bs (read_none A ok)
 
     kind : kind_of bs ≡ 1
-    kind = sequence-kind bs (accepted-early sequenceOnly bs (read_none A ok))
+    kind = sequence-kind bs (accepted-early sequence_only bs (read_none A ok))
 
     pub lent-poolable : length vs ≡ length vs₀ → Poolable bs h vs p
     lent-poolable l = record {

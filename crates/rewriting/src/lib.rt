@@ -1,10 +1,10 @@
 // The calls that rewrite a graph: a record is read and held, and its graph simplified or cleaned, in slices. What the two calls have in common
 // is said once, over which of them it is.
 ghost use Rattle.std.specs.Prelude.{◌≡◌};
-ghost use Rattle.defs.specs.Cleanup.{statusNumber};
+ghost use Rattle.defs.specs.Cleanup.{status_number};
 ghost use Rattle.arrays.specs.Sized.{LentGraph};
 ghost use Rattle.choice.specs.Choice.{Cleanable};
-ghost use Rattle.cleanup_steps.specs.CleanUp.{cleanupStatusOf};
+ghost use Rattle.cleanup_steps.specs.CleanUp.{cleanup_status_of};
 ghost use Rattle.rewriting.specs.Rewriting.{HeldAs, GraphRewritten};
 ghost use Rattle.rewriting.specs.declared.RewritingCall.TheVariants as call;
 
@@ -30,7 +30,7 @@ pub struct Rewritten {
 
 // The number of a status, as a record has it.
 fn status_number(status: SeqGraphCleanupStatus) -> u32
-    ensures { result ≡ statusNumber (cleanupStatusOf status) }
+    ensures { result ≡ status_number (cleanup_status_of status) }
 {
     match status {
         SeqGraphCleanupStatus::JustAssembledReference => 1,

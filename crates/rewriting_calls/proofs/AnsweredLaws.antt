@@ -5,10 +5,10 @@ use Prim.Native.Nat.{ℕ, ◌≤◌, ◌<◌}
 use native.Mathlib.Omega.{arith}
 use lib.ListN.{length}
 use Rattle.defs.specs.SeqGraph.{Graph}
-use Rattle.defs.specs.Cleanup.{Status, justReference, someVariation, statusNumber, cleanupSeqGraph}
-use Rattle.defs.specs.Forms.{Form, formOf}
-use Rattle.defs.specs.Record.{sequenceGraph, encode, decode}
-use Rattle.defs.specs.Refusals.{sequenceOnly, recordCauses, recordRefusal}
+use Rattle.defs.specs.Cleanup.{Status, just_reference, some_variation, status_number, cleanup_seq_graph}
+use Rattle.defs.specs.Forms.{Form, form_of}
+use Rattle.defs.specs.Record.{sequence_graph, encode, decode}
+use Rattle.defs.specs.Refusals.{sequence_only, record_causes, record_refusal}
 use Rattle.memory.specs.Memory.{graph_of}
 use Rattle.memory.specs.declared.Held.{Held}
 use Rattle.memory.proofs.RoomLaws.{room-kept}
@@ -28,23 +28,23 @@ use Rattle.calls.proofs.ResponseLaws.{respond-refused, respond-fits}
 use Rattle.calls.proofs.CauseLaws.{record-numbered}
 use Rattle.calls.proofs.CallerLaws.{respond-above, sends-within}
 use Rattle.rewriting_calls.specs.declared.RewritingAnswer.{RewritingAnswer}
-use Rattle.rewriting_calls.specs.Answered.{recordOf, HeldAnswerable, HeldAnswered, RewritingAnswered, RewritingAnsweredTo}
+use Rattle.rewriting_calls.specs.Answered.{record_of, HeldAnswerable, HeldAnswered, RewritingAnswered, RewritingAnsweredTo}
 
-status-small : (s : Status) → statusNumber s < 256
-unfolding statusNumber
-status-small justReference = omega arith
-status-small someVariation = omega arith
+status-small : (s : Status) → status_number s < 256
+unfolding status_number
+status-small just_reference = omega arith
+status-small some_variation = omega arith
 
 result-small : (call : RewritingCall) (g : Graph) → (result_of call g).status < 256
 unfolding result_of
 result-small SimplifyGraph g = omega arith
-result-small CleanupSeqGraph g = status-small (cleanupSeqGraph g).status
+result-small CleanupSeqGraph g = status-small (cleanup_seq_graph g).status
 
 -- ---- a graph
 
 -- what is lent is room enough to answer what is held
 pub lent-answerable : {bs es vs p heads nexts nodes mp starts tried sig : List ℕ} → Lent bs es vs p heads nexts nodes mp starts tried sig
-    → {x : Read} → HeldAs bs heads nexts x es vs p → {h : Held} → x ≡ read.Graph h → {f : Form} → f ≡ formOf bs
+    → {x : Read} → HeldAs bs heads nexts x es vs p → {h : Held} → x ≡ read.Graph h → {f : Form} → f ≡ form_of bs
     → HeldAnswerable f h es vs p heads nexts nodes mp starts tried sig
 lent-answerable {heads = heads} {nexts} Z A {h} ok e = record {
   cleanable = lent-cleanable Z (A.holds h ok);
@@ -62,12 +62,12 @@ module _ {call : RewritingCall} {h : Held} {es vs p heads nexts : List ℕ} {r :
       (room-kept {heads' = heads} {nexts' = nexts} {nodes' = nodes} {mp' = mp} Q.cleanable.room a b c refl refl refl refl) G.holds
 
   pub held-answered : {f : Form} {out out' : List ℕ} {s : Answer}
-      → Responds (fits (length out) (encode f sequenceGraph r.status (graph_of r.held es' vs' p'))) out s out'
+      → Responds (fits (length out) (encode f sequence_graph r.status (graph_of r.held es' vs' p'))) out s out'
       → HeldAnswered call f h es vs p out record { sent = s; status = r.status; rewrites = r.rewrites; rounds = r.rounds; end = r.end } out'
-  unfolding recordRefusal
+  unfolding record_refusal
   held-answered {f} {out} {out'} {s} S = record {
     is = λ bs form z e. let q = G.is ∙ ap (result_of call) e in record {
-      sent = responds-as (respond-fits (recordCauses sequenceOnly bs) (length out) (recordOf (formOf bs) (result_of call (decode bs))) (record-numbered sequenceOnly bs) z)
+      sent = responds-as (respond-fits (record_causes sequence_only bs) (length out) (record_of (form_of bs) (result_of call (decode bs))) (record-numbered sequence_only bs) z)
           (sent-as bs form q S);
       counted = λ _. record {
         status = ap (λ (x : Result). x.status) q;
@@ -78,24 +78,24 @@ module _ {call : RewritingCall} {h : Held} {es vs p heads nexts : List ℕ} {r :
     };
   }
     where
-      sent-as : (bs : List ℕ) → f ≡ formOf bs → {y z : Result} → y ≡ z → Responds (fits (length out) (recordOf f y)) out s out'
-          → Responds (fits (length out) (recordOf (formOf bs) z)) out s out'
-      sent-as bs e q R = subst (λ (l : List ℕ). Responds (fits (length out) l) out s out') (λ i. recordOf (e i) (q i)) R
+      sent-as : (bs : List ℕ) → f ≡ form_of bs → {y z : Result} → y ≡ z → Responds (fits (length out) (record_of f y)) out s out'
+          → Responds (fits (length out) (record_of (form_of bs) z)) out s out'
+      sent-as bs e q R = subst (λ (l : List ℕ). Responds (fits (length out) l) out s out') (λ i. record_of (e i) (q i)) R
 
 -- ---- a record
 
 module _ {call : RewritingCall} {bs heads nexts : List ℕ} {x : Read} {es vs p : List ℕ} (A : HeldAs bs heads nexts x es vs p) {out : List ℕ} where
   pub record-refused : {n : ℕ} → x ≡ read.Refused n → {r : RewritingAnswer} → r.sent ≡ record { number = n; length = 0 } → RewritingAnswered call bs out r out
-  unfolding recordRefusal
+  unfolding record_refusal
   record-refused {n} f {r} q =
       let o = A.refused n f in
       let e = sym A.number ∙ number-refused f in
       record {
-        sent = responds-refused (respond-refused (recordCauses sequenceOnly bs) (length out) _ n e o) q refl;
+        sent = responds-refused (respond-refused (record_causes sequence_only bs) (length out) _ n e o) q refl;
         counted = λ z. absurd (o (sym (ap (λ (y : Answer). y.number) q) ∙ z));
       }
 
-  pub record-answered : {h : Held} → x ≡ read.Graph h → {f : Form} → f ≡ formOf bs → {r : RewritingAnswer} {out' : List ℕ}
+  pub record-answered : {h : Held} → x ≡ read.Graph h → {f : Form} → f ≡ form_of bs → {r : RewritingAnswer} {out' : List ℕ}
       → HeldAnswered call f h es vs p out r out' → RewritingAnswered call bs out r out'
   record-answered {h} ok e H = H.is bs e (sym A.number ∙ number-graph ok) (A.is h ok)
 

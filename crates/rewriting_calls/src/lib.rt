@@ -1,8 +1,8 @@
 // The calls that rewrite a graph, from record to record: what both do is said once, over which of them it is. First in slices, then in arrays
 // of five classes, which a call has on its stack.
 ghost use Rattle.std.specs.Prelude.{◌≡◌};
-ghost use Rattle.defs.specs.Forms.{sgr2, formOf};
-ghost use Rattle.form.specs.Coded.{formIs};
+ghost use Rattle.defs.specs.Forms.{sgr2, form_of};
+ghost use Rattle.form.specs.Coded.{form_is};
 ghost use Rattle.arrays.specs.Sized.{FewToRewrite, CountedAt};
 ghost use Rattle.rewriting_calls.specs.Answered.{HeldAnswerable, HeldAnswered, RewritingAnswered, RewritingAnsweredTo};
 
@@ -44,8 +44,8 @@ fn answer_held(
     tried: &mut [u8],
     sig: &mut [u32],
 ) -> RewritingAnswer
-    requires { HeldAnswerable (formIs form) held es.old vs.old p.old heads.old nexts.old nodes.old map.old starts.old tried.old sig.old }
-    ensures { HeldAnswered call (formIs form) held es.old vs.old p.old out.old result out.new }
+    requires { HeldAnswerable (form_is form) held es.old vs.old p.old heads.old nexts.old nodes.old map.old starts.old tried.old sig.old }
+    ensures { HeldAnswered call (form_is form) held es.old vs.old p.old out.old result out.new }
 {
     let made = rewriting::rewrite(
         call, held, es, vs, p, heads, nexts, nodes, map, starts, tried, sig,
@@ -94,7 +94,7 @@ fn vast_with(
     tried: &mut [u8; VAST_VERTICES],
     sig: &mut [u32; 2 + 2 * VAST_VERTICES + 3 * VAST_EDGES],
 ) -> RewritingAnswer
-    requires { formOf rec.now ≡ sgr2 }
+    requires { form_of rec.now ≡ sgr2 }
     ensures { RewritingAnswered call rec.now out.old result out.new }
 {
     let form = form::form_of(rec);
@@ -108,7 +108,7 @@ fn vast_with(
 }
 
 fn vast(call: RewritingCall, rec: &[u8], out: &mut [u8]) -> RewritingAnswer
-    requires { formOf rec.now ≡ sgr2 }
+    requires { form_of rec.now ≡ sgr2 }
     ensures { RewritingAnswered call rec.now out.old result out.new }
 {
     let mut es = [0u32; 8 * VAST_EDGES];
@@ -153,7 +153,7 @@ fn huge_with(
     tried: &mut [u8; HUGE_VERTICES],
     sig: &mut [u32; 2 + 2 * HUGE_VERTICES + 3 * HUGE_EDGES],
 ) -> RewritingAnswer
-    requires { FewToRewrite 65536 81920 rec.now × (formOf rec.now ≡ sgr2) }
+    requires { FewToRewrite 65536 81920 rec.now × (form_of rec.now ≡ sgr2) }
     ensures { RewritingAnswered call rec.now out.old result out.new }
 {
     let form = form::form_of(rec);
@@ -167,7 +167,7 @@ fn huge_with(
 }
 
 fn huge(call: RewritingCall, rec: &[u8], out: &mut [u8]) -> RewritingAnswer
-    requires { FewToRewrite 65536 81920 rec.now × (formOf rec.now ≡ sgr2) }
+    requires { FewToRewrite 65536 81920 rec.now × (form_of rec.now ≡ sgr2) }
     ensures { RewritingAnswered call rec.now out.old result out.new }
 {
     let mut es = [0u32; 8 * HUGE_EDGES];
@@ -384,7 +384,7 @@ fn past_large(
     weight: usize,
     surplus: usize,
 ) -> RewritingAnswer
-    requires { (formIs form ≡ formOf rec.now) × CountedAt weight surplus rec.now }
+    requires { (form_is form ≡ form_of rec.now) × CountedAt weight surplus rec.now }
     ensures { RewritingAnswered call rec.now out.old result out.new }
 {
     match form {

@@ -5,11 +5,11 @@ use Prim.Native.Nat.{ℕ, ◌+◌, ◌*◌, ◌≤◌, ◌<◌}
 use native.Mathlib.Omega.{arith}
 use lib.ListN.{length}
 use Rattle.defs.specs.Zip as Z
-use Rattle.defs.specs.Zip.{zipLinearChains}
+use Rattle.defs.specs.Zip.{zip_linear_chains}
 use Rattle.defs.specs.Simplify as S
-use Rattle.defs.specs.Simplify.{roundsFrom, simplifyGraphFull}
+use Rattle.defs.specs.Simplify.{rounds_from, simplify_graph_full}
 use Rattle.index.specs.Index.{Indexed, Indexable}
-use Rattle.memory.specs.Memory.{graph_of, workOf, signatureRoom, Room, Holds, Ready, Scratch, Countable, Simplifiable}
+use Rattle.memory.specs.Memory.{graph_of, work_of, signature_room, Room, Holds, Ready, Scratch, Countable, Simplifiable}
 use Rattle.memory.specs.declared.Held.{Held}
 use Rattle.memory.specs.declared.Work.{Work}
 use Rattle.memory.proofs.RoomLaws.{held-vertices, held-edges, held-ends, room-kept, holds_kept}
@@ -50,13 +50,13 @@ module _ {least : ℕ} {h : Held} {es vs p heads nexts nodes mp starts tried sig
         pub full-scratch : {starts₂ : List ℕ} → length starts₂ ≡ length starts → Scratch heads₂ starts₂ tried
         full-scratch l = record { starts-room = omega (arith, F.scratch.starts-room, l₂, lh, l); tried-room = rw (l₂ ∙ lh) F.scratch.tried-room }
 
-        pub full-sig : length nexts₂ ≡ length nexts₁ → signatureRoom heads₂ nexts₂ ≤ length sig
+        pub full-sig : length nexts₂ ≡ length nexts₁ → signature_room heads₂ nexts₂ ≤ length sig
         full-sig m₂ = rw (l₂ ∙ lh, m₂ ∙ ln) F.sig-room
 
         pub full-all : {r : Simplified} {es' vs' p' : List ℕ} → Whole least w es₂ vs₂ p₂ heads₂ nexts₂ r es' vs' p' → length nexts₂
             ≡ length nexts₁ → Full least h es vs p heads nexts r es' vs' p'
-        unfolding simplifyGraphFull
+        unfolding simplify_graph_full
         full-all {r} {es'} {vs'} {p'} W m₂ = record {
-          answers = subst (λ (x : Z.Work). SimplifiedTo (roundsFrom least 100 0 [] x) r es' vs' p') Q.is W.answers;
+          answers = subst (λ (x : Z.Work). SimplifiedTo (rounds_from least 100 0 [] x) r es' vs' p') Q.is W.answers;
           holds = holds_kept W.holds (sym (l₂ ∙ lh)) (sym (m₂ ∙ ln));
         }

@@ -13,13 +13,13 @@ use Rattle.defs.specs.Lists.{same_list}
 use Rattle.defs.specs.SeqGraph.{Graph}
 use Rattle.defs.specs.Zip as Z
 use Rattle.defs.specs.Simplify as S
-use Rattle.defs.specs.Simplify.{simplifyGraphOnce, graphTopologySignature, roundsFrom, simplified, endNumber, quiet, repeated, full}
+use Rattle.defs.specs.Simplify.{simplify_graph_once, graph_topology_signature, rounds_from, simplified, end_number, quiet, repeated, full}
 use Rattle.tabs.proofs.Tabs.{tab-zero}
-use Rattle.store.specs.Store.{numsIn}
-use Rattle.memory.specs.Memory.{graph_of, workOf, vertexRoom, signatureRoom, Ready, Countable}
+use Rattle.store.specs.Store.{nums_in}
+use Rattle.memory.specs.Memory.{graph_of, work_of, vertex_room, signature_room, Ready, Countable}
 use Rattle.memory.specs.declared.Work.{Work}
 use Rattle.memory.proofs.RoomLaws.{fit-vertices, fit_edges, fit-bytes, held-vertices, held-edges, held-ends, held-pool, holds_kept}
-use Rattle.signature.specs.Signature.{storedSignature, SignatureWritable, Signature}
+use Rattle.signature.specs.Signature.{stored_signature, SignatureWritable, Signature}
 use Rattle.signature.proofs.StoredLaws.{stored_same, none-stored, stored-long}
 use Rattle.signature.specs.declared.Signed.{Signed}
 use Rattle.rounds.specs.Rounds.{Once, Whole}
@@ -28,36 +28,36 @@ use Rattle.rounds.specs.declared.Simplified.{Simplified}
 -- ---- the definition, case by case
 module _ (least k n : ℕ) (sig : List ℕ) (w : Z.Work) where
   next : Z.Work
-  next = simplifyGraphOnce least w
+  next = simplify_graph_once least w
 
-  rounds-quiet : eqb (simplifyGraphOnce least w).rewrites w.rewrites ≡ true → roundsFrom least (suc k) n sig w
-      ≡ simplified (simplifyGraphOnce least w) (suc n) quiet
-  unfolding roundsFrom
-  rounds-quiet t = rw (t, roundsFrom)
+  rounds-quiet : eqb (simplify_graph_once least w).rewrites w.rewrites ≡ true → rounds_from least (suc k) n sig w
+      ≡ simplified (simplify_graph_once least w) (suc n) quiet
+  unfolding rounds_from
+  rounds-quiet t = rw (t, rounds_from)
 
-  rounds-early : eqb (simplifyGraphOnce least w).rewrites w.rewrites ≡ false → ltb n 6 ≡ true → roundsFrom least (suc k) n sig w
-      ≡ roundsFrom least k (suc n) sig (simplifyGraphOnce least w)
-  unfolding roundsFrom
-  rounds-early t s = rw (t, roundsFrom) (rw s)
+  rounds-early : eqb (simplify_graph_once least w).rewrites w.rewrites ≡ false → ltb n 6 ≡ true → rounds_from least (suc k) n sig w
+      ≡ rounds_from least k (suc n) sig (simplify_graph_once least w)
+  unfolding rounds_from
+  rounds-early t s = rw (t, rounds_from) (rw s)
 
-  rounds-repeated : eqb (simplifyGraphOnce least w).rewrites w.rewrites ≡ false → ltb n 6 ≡ false
-      → same_list sig (graphTopologySignature (simplifyGraphOnce least w).graph) ≡ true
-      → roundsFrom least (suc k) n sig w ≡ simplified (simplifyGraphOnce least w) (suc n) repeated
-  unfolding roundsFrom
-  rounds-repeated t s e = rw (t, roundsFrom) (rw s (rw e))
+  rounds-repeated : eqb (simplify_graph_once least w).rewrites w.rewrites ≡ false → ltb n 6 ≡ false
+      → same_list sig (graph_topology_signature (simplify_graph_once least w).graph) ≡ true
+      → rounds_from least (suc k) n sig w ≡ simplified (simplify_graph_once least w) (suc n) repeated
+  unfolding rounds_from
+  rounds-repeated t s e = rw (t, rounds_from) (rw s (rw e))
 
-  rounds-on : eqb (simplifyGraphOnce least w).rewrites w.rewrites ≡ false → ltb n 6 ≡ false
-      → same_list sig (graphTopologySignature (simplifyGraphOnce least w).graph) ≡ false
-      → roundsFrom least (suc k) n sig w ≡ roundsFrom least k (suc n) (graphTopologySignature (simplifyGraphOnce least w).graph) (simplifyGraphOnce least w)
-  unfolding roundsFrom
-  rounds-on t s e = rw (t, roundsFrom) (rw s (rw e))
+  rounds-on : eqb (simplify_graph_once least w).rewrites w.rewrites ≡ false → ltb n 6 ≡ false
+      → same_list sig (graph_topology_signature (simplify_graph_once least w).graph) ≡ false
+      → rounds_from least (suc k) n sig w ≡ rounds_from least k (suc n) (graph_topology_signature (simplify_graph_once least w).graph) (simplify_graph_once least w)
+  unfolding rounds_from
+  rounds-on t s e = rw (t, rounds_from) (rw s (rw e))
 
-rounds-full : (least n : ℕ) (sig : List ℕ) (w : Z.Work) → roundsFrom least 0 n sig w ≡ simplified w n full
-unfolding roundsFrom
+rounds-full : (least n : ℕ) (sig : List ℕ) (w : Z.Work) → rounds_from least 0 n sig w ≡ simplified w n full
+unfolding rounds_from
 rounds-full least n sig w = refl
 
-three : 3 ≡ endNumber full
-unfolding endNumber
+three : 3 ≡ end_number full
+unfolding end_number
 three = refl
 
 -- ---- the loop
@@ -69,10 +69,10 @@ pub record Rounding (least : ℕ) (w₀ : Work) (es₀ vs₀ p₀ heads₀ sig�
   pub heads-len : length heads ≡ length heads₀
   pub sig-len : length sig ≡ length sig₀
   pub old-room : old ≤ length sig
-  pub count : w.rewrites ≤ w₀.rewrites + n * (5 * vertexRoom heads₀)
+  pub count : w.rewrites ≤ w₀.rewrites + n * (5 * vertex_room heads₀)
   pub last : List ℕ
-  pub stored : (g : Graph) → same_list (numsIn old sig) (storedSignature g) ≡ same_list last (graphTopologySignature g)
-  pub is : roundsFrom least (100 - n) n last (workOf w es vs p) ≡ roundsFrom least 100 0 [] (workOf w₀ es₀ vs₀ p₀)
+  pub stored : (g : Graph) → same_list (nums_in old sig) (stored_signature g) ≡ same_list last (graph_topology_signature g)
+  pub is : rounds_from least (100 - n) n last (work_of w es vs p) ≡ rounds_from least 100 0 [] (work_of w₀ es₀ vs₀ p₀)
 
 module _ {least : ℕ} {w₀ : Work} {es₀ vs₀ p₀ heads₀ sig₀ : List ℕ} where
   pub rounding-start : {nexts nodes mp : List ℕ} → Ready least w₀.held es₀ vs₀ p₀ heads₀ nexts nodes mp
@@ -85,7 +85,7 @@ module _ {least : ℕ} {w₀ : Work} {es₀ vs₀ p₀ heads₀ sig₀ : List �
     old-room = omega arith;
     count = omega arith;
     last = [];
-    stored = λ g. ap (λ (l : List ℕ). same_list l (storedSignature g)) (tab-zero (λ (i : ℕ). get_or sig₀ i 0)) ∙ none-stored g;
+    stored = λ g. ap (λ (l : List ℕ). same_list l (stored_signature g)) (tab-zero (λ (i : ℕ). get_or sig₀ i 0)) ∙ none-stored g;
     is = refl;
   }
 
@@ -94,29 +94,29 @@ module _ {least : ℕ} {w₀ : Work} {es₀ vs₀ p₀ heads₀ sig₀ : List �
     pub round-countable : n < 100 → Countable 500 w₀.rewrites heads₀ → Countable 5 w.rewrites heads
     round-countable h C = record { small = rw Q.heads-len (omega (arith, Q.count, C.small, most)) }
       where
-        most : (n + 1) * (5 * vertexRoom heads₀) ≤ 500 * vertexRoom heads₀
+        most : (n + 1) * (5 * vertex_room heads₀) ≤ 500 * vertex_room heads₀
         most = bound (n + 1) (omega arith)
           where
-            bound : (x : ℕ) → x ≤ 100 → x * (5 * vertexRoom heads₀) ≤ 500 * vertexRoom heads₀
-            bound x b = omega (arith, mul-le-mul_right (5 * vertexRoom heads₀) b)
+            bound : (x : ℕ) → x ≤ 100 → x * (5 * vertex_room heads₀) ≤ 500 * vertex_room heads₀
+            bound x b = omega (arith, mul-le-mul_right (5 * vertex_room heads₀) b)
 
     module _ (h : n < 100) {r : Work} {es' vs' p' heads' nexts' nodes' mp' : List ℕ} (O :
         Once least w es vs p r es' vs' p' heads' nexts' nodes' mp') (lh : length heads' ≡ length heads) where
       fuel-is : 100 - n ≡ suc (100 - (n + 1))
       fuel-is = omega arith
 
-      turn : roundsFrom least (suc (100 - (n + 1))) n Q.last (workOf w es vs p) ≡ roundsFrom least 100 0 [] (workOf w₀ es₀ vs₀ p₀)
-      turn = ap (λ (x : ℕ). roundsFrom least x n Q.last (workOf w es vs p)) (sym fuel-is) ∙ Q.is
+      turn : rounds_from least (suc (100 - (n + 1))) n Q.last (work_of w es vs p) ≡ rounds_from least 100 0 [] (work_of w₀ es₀ vs₀ p₀)
+      turn = ap (λ (x : ℕ). rounds_from least x n Q.last (work_of w es vs p)) (sym fuel-is) ∙ Q.is
 
-      rewrites-is : r.rewrites ≡ (simplifyGraphOnce least (workOf w es vs p)).rewrites
+      rewrites-is : r.rewrites ≡ (simplify_graph_once least (work_of w es vs p)).rewrites
       rewrites-is = ap (λ (x : Z.Work). x.rewrites) O.is
 
-      graph_is : graph_of r.held es' vs' p' ≡ (simplifyGraphOnce least (workOf w es vs p)).graph
+      graph_is : graph_of r.held es' vs' p' ≡ (simplify_graph_once least (work_of w es vs p)).graph
       graph_is = ap (λ (x : Z.Work). x.graph) O.is
 
-      ended : (e : S.End) (k : ℕ) → k ≡ endNumber e → {heads'' nexts'' : List ℕ} → length heads'' ≡ length heads' → length nexts''
-          ≡ length nexts' → roundsFrom least 100 0 [] (workOf w₀ es₀ vs₀ p₀)
-          ≡ simplified (simplifyGraphOnce least (workOf w es vs p)) (suc n) e
+      ended : (e : S.End) (k : ℕ) → k ≡ end_number e → {heads'' nexts'' : List ℕ} → length heads'' ≡ length heads' → length nexts''
+          ≡ length nexts' → rounds_from least 100 0 [] (work_of w₀ es₀ vs₀ p₀)
+          ≡ simplified (simplify_graph_once least (work_of w es vs p)) (suc n) e
           → Whole least w₀ es₀ vs₀ p₀ heads'' nexts'' record { held = r.held; rewrites = r.rewrites; rounds = n + 1; end = k } es' vs' p'
       unfolding simplified
       ended e k q a b i = record {
@@ -124,22 +124,22 @@ module _ {least : ℕ} {w₀ : Work} {es₀ vs₀ p₀ heads₀ sig₀ : List �
           graph = graph_is ∙ sym (ap (λ (x : S.Simplified). x.graph) i);
           rewrites = rewrites-is ∙ sym (ap (λ (x : S.Simplified). x.rewrites) i);
           rounds = add-one n ∙ sym (ap (λ (x : S.Simplified). x.rounds) i);
-          end = q ∙ ap endNumber (sym (ap (λ (x : S.Simplified). x.end) i));
+          end = q ∙ ap end_number (sym (ap (λ (x : S.Simplified). x.end) i));
         };
         holds = holds_kept O.ready.holds a b;
       }
 
       pub round-quiet : {heads'' nexts'' : List ℕ} → length heads'' ≡ length heads' → length nexts'' ≡ length nexts' → r.rewrites ≡ w.rewrites
           → Whole least w₀ es₀ vs₀ p₀ heads'' nexts'' record { held = r.held; rewrites = r.rewrites; rounds = n + 1; end = 1 } es' vs' p'
-      round-quiet a b e = ended quiet 1 (unfold endNumber in refl) a b (sym turn
-          ∙ rounds-quiet least (100 - (n + 1)) n Q.last (workOf w es vs p) (eq-eqb _ _ (sym rewrites-is ∙ e)))
+      round-quiet a b e = ended quiet 1 (unfold end_number in refl) a b (sym turn
+          ∙ rounds-quiet least (100 - (n + 1)) n Q.last (work_of w es vs p) (eq-eqb _ _ (sym rewrites-is ∙ e)))
 
       module _ (o : r.rewrites ≡ w.rewrites → ⊥) where
-        worked : eqb (simplifyGraphOnce least (workOf w es vs p)).rewrites w.rewrites ≡ false
+        worked : eqb (simplify_graph_once least (work_of w es vs p)).rewrites w.rewrites ≡ false
         worked = ne_eqb _ _ (λ z. o (rewrites-is ∙ z))
 
-        more : (n + 1) * (5 * vertexRoom heads₀) ≡ n * (5 * vertexRoom heads₀) + 5 * vertexRoom heads₀
-        more = ap (λ (x : ℕ). x * (5 * vertexRoom heads₀)) (add-one n) ∙ suc-mul n (5 * vertexRoom heads₀)
+        more : (n + 1) * (5 * vertex_room heads₀) ≡ n * (5 * vertex_room heads₀) + 5 * vertex_room heads₀
+        more = ap (λ (x : ℕ). x * (5 * vertex_room heads₀)) (add-one n) ∙ suc-mul n (5 * vertex_room heads₀)
 
         pub round-early : n + 1 < 7 → Rounding least w₀ es₀ vs₀ p₀ heads₀ sig₀ r es' vs' p' heads' nexts' nodes' mp' sig (n + 1) old
         round-early e = record {
@@ -151,11 +151,11 @@ module _ {least : ℕ} {w₀ : Work} {es₀ vs₀ p₀ heads₀ sig₀ : List �
           count = omega (arith, Q.count, O.most, more, lh, Q.heads-len);
           last = Q.last;
           stored = Q.stored;
-          is = (λ j. roundsFrom least (100 - (n + 1)) (add-one n j) Q.last (O.is j))
-              ∙ sym (rounds-early least (100 - (n + 1)) n Q.last (workOf w es vs p) worked (lt-ltb n 6 (omega arith))) ∙ turn;
+          is = (λ j. rounds_from least (100 - (n + 1)) (add-one n j) Q.last (O.is j))
+              ∙ sym (rounds-early least (100 - (n + 1)) n Q.last (work_of w es vs p) worked (lt-ltb n 6 (omega arith))) ∙ turn;
         }
 
-        pub round-writable : signatureRoom heads' nexts' ≤ length sig₀ → SignatureWritable sig old r.held es' vs' p'
+        pub round-writable : signature_room heads' nexts' ≤ length sig₀ → SignatureWritable sig old r.held es' vs' p'
         round-writable b =
             let R = O.ready.room in
             let H = O.ready.holds in
@@ -188,13 +188,13 @@ module _ {least : ℕ} {w₀ : Work} {es₀ vs₀ p₀ heads₀ sig₀ : List �
           late : ltb n 6 ≡ false
           late = le-ltb n 6 (omega arith)
 
-          same-is : s.same ≡ same_list Q.last (graphTopologySignature (simplifyGraphOnce least (workOf w es vs p)).graph)
-          same-is = G.same ∙ Q.stored (graph_of r.held es' vs' p') ∙ ap (λ (x : Graph). same_list Q.last (graphTopologySignature x)) graph_is
+          same-is : s.same ≡ same_list Q.last (graph_topology_signature (simplify_graph_once least (work_of w es vs p)).graph)
+          same-is = G.same ∙ Q.stored (graph_of r.held es' vs' p') ∙ ap (λ (x : Graph). same_list Q.last (graph_topology_signature x)) graph_is
 
           pub round-repeated : {heads'' nexts'' : List ℕ} → length heads'' ≡ length heads' → length nexts'' ≡ length nexts' → s.same ≡ true
               → Whole least w₀ es₀ vs₀ p₀ heads'' nexts'' record { held = r.held; rewrites = r.rewrites; rounds = n + 1; end = 2 } es' vs' p'
-          round-repeated a b t = ended repeated 2 (unfold endNumber in refl) a b (sym turn
-              ∙ rounds-repeated least (100 - (n + 1)) n Q.last (workOf w es vs p) worked late (sym same-is ∙ t))
+          round-repeated a b t = ended repeated 2 (unfold end_number in refl) a b (sym turn
+              ∙ rounds-repeated least (100 - (n + 1)) n Q.last (work_of w es vs p) worked late (sym same-is ∙ t))
 
           pub round-on : s.same ≡ false → length sig' ≡ length sig
               → Rounding least w₀ es₀ vs₀ p₀ heads₀ sig₀ r es' vs' p' heads' nexts' nodes' mp' sig' (n + 1) s.at
@@ -205,11 +205,11 @@ module _ {least : ℕ} {w₀ : Work} {es₀ vs₀ p₀ heads₀ sig₀ : List �
             sig-len = l ∙ Q.sig-len;
             old-room = omega (arith, G.room, l);
             count = omega (arith, Q.count, O.most, more, lh, Q.heads-len);
-            last = graphTopologySignature (simplifyGraphOnce least (workOf w es vs p)).graph;
-            stored = λ g. ap (λ (l : List ℕ). same_list l (storedSignature g)) G.is ∙ stored_same (graph_of r.held es' vs' p') g
-                ∙ ap (λ (x : Graph). same_list (graphTopologySignature x) (graphTopologySignature g)) graph_is;
-            is = (λ j. roundsFrom least (100 - (n + 1)) (add-one n j) (graphTopologySignature (simplifyGraphOnce least (workOf w es vs p)).graph) (O.is j))
-                ∙ sym (rounds-on least (100 - (n + 1)) n Q.last (workOf w es vs p) worked late (sym same-is ∙ t)) ∙ turn;
+            last = graph_topology_signature (simplify_graph_once least (work_of w es vs p)).graph;
+            stored = λ g. ap (λ (l : List ℕ). same_list l (stored_signature g)) G.is ∙ stored_same (graph_of r.held es' vs' p') g
+                ∙ ap (λ (x : Graph). same_list (graph_topology_signature x) (graph_topology_signature g)) graph_is;
+            is = (λ j. rounds_from least (100 - (n + 1)) (add-one n j) (graph_topology_signature (simplify_graph_once least (work_of w es vs p)).graph) (O.is j))
+                ∙ sym (rounds-on least (100 - (n + 1)) n Q.last (work_of w es vs p) worked late (sym same-is ∙ t)) ∙ turn;
           }
 
     pub round-full : 100 ≤ n → {heads'' nexts'' : List ℕ} → length heads'' ≡ length heads → length nexts'' ≡ length nexts
@@ -217,15 +217,15 @@ module _ {least : ℕ} {w₀ : Work} {es₀ vs₀ p₀ heads₀ sig₀ : List �
     unfolding simplified
     round-full b a c =
         let z : 100 - n ≡ 0 = omega (arith, Q.high) in
-        let i : roundsFrom least 100 0 [] (workOf w₀ es₀ vs₀ p₀) ≡ simplified (workOf w es vs p) n full = sym Q.is
-        ∙ ap (λ (x : ℕ). roundsFrom least x n Q.last (workOf w es vs p)) z
-        ∙ rounds-full least n Q.last (workOf w es vs p) in
+        let i : rounds_from least 100 0 [] (work_of w₀ es₀ vs₀ p₀) ≡ simplified (work_of w es vs p) n full = sym Q.is
+        ∙ ap (λ (x : ℕ). rounds_from least x n Q.last (work_of w es vs p)) z
+        ∙ rounds-full least n Q.last (work_of w es vs p) in
         record {
           answers = record {
             graph = sym (ap (λ (x : S.Simplified). x.graph) i);
             rewrites = sym (ap (λ (x : S.Simplified). x.rewrites) i);
             rounds = sym (ap (λ (x : S.Simplified). x.rounds) i);
-            end = three ∙ ap endNumber (sym (ap (λ (x : S.Simplified). x.end) i));
+            end = three ∙ ap end_number (sym (ap (λ (x : S.Simplified). x.end) i));
           };
           holds = holds_kept Q.ready.holds a c;
         }

@@ -1,11 +1,11 @@
 // Rounds of simplification (`simplify_graph_full`).
 ghost use Rattle.std.specs.Prelude.{◌≡◌, ℕ, ◌+◌, ◌*◌, ◌<◌, ◌≤◌, length};
-ghost use Rattle.memory.specs.Memory.{graph_of, signatureRoom, Room, Holds, Ready, Scratch, Countable, Simplifiable};
+ghost use Rattle.memory.specs.Memory.{graph_of, signature_room, Room, Holds, Ready, Scratch, Countable, Simplifiable};
 ghost use Rattle.rounds.specs.Rounds.{ended, Once, Whole, Full};
 
 use memory::{Held, Work};
 
-// The least common suffix of tails that is split off (`Simplify.minTailSuffixLen`).
+// The least common suffix of tails that is split off (`Simplify.min_tail_suffix_len`).
 pub const MIN_TAIL_SUFFIX_LEN: usize = 10;
 
 // The simplified graph, the rewrites made, the rounds begun, and the end: 1 quiet, 2 repeated, 3 full.
@@ -72,7 +72,7 @@ pub fn simplify_rounds(
 ) -> Simplified
     requires { Ready least work.held es.old vs.old p.old heads.old nexts.old nodes.old map.old
         × (Countable 500 work.rewrites heads.old × (Scratch heads.old starts.old tried.old
-        × (signatureRoom heads.old nexts.old ≤ length sig.old))) }
+        × (signature_room heads.old nexts.old ≤ length sig.old))) }
     ensures { Whole least work es.old vs.old p.old heads.old nexts.old result
         es.new vs.new p.new }
 {

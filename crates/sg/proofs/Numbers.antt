@@ -4,14 +4,14 @@ use mathlib.Core.List.{List}
 use Prim.Native.Nat.{ℕ}
 use lib.ListN.{length}
 use Rattle.defs.specs.Lists.{all_of}
-use Rattle.defs.specs.Refusals.{Cause, IsNumberOf, layoutCauses, recordCauses}
+use Rattle.defs.specs.Refusals.{Cause, IsNumberOf, layout_causes, record_causes}
 use Rattle.defs.specs.Calls as D
-use Rattle.defs.specs.Calls.{Response, number_of, respond, callerCause, outputCause, conversionCauses}
-use Rattle.defs.specs.Calls.{vertexSequenceCauses, vertexSequenceNumber, fromAssemblyGraphCauses, fromAssemblyGraphResponse, fromAssemblyGraphAnswer}
-use Rattle.defs.specs.Calls.{simplifyGraphCauses, simplifyGraphResponse, simplifyGraphAnswer}
-use Rattle.defs.specs.Calls.{cleanupSeqGraphCauses, cleanupSeqGraphResponse, cleanupSeqGraphAnswer}
-use Rattle.defs.specs.Calls.{cleanNonRefPathsCauses, cleanNonRefPathsResponse, cleanNonRefPathsAnswer}
-use Rattle.defs.specs.Calls.{referencePathBytesCauses, referencePathBytesResponse, pathBasesBytesCauses, pathBasesBytesResponse}
+use Rattle.defs.specs.Calls.{Response, number_of, respond, caller_cause, output_cause, conversion_causes}
+use Rattle.defs.specs.Calls.{vertex_sequence_causes, vertex_sequence_number, from_assembly_graph_causes, from_assembly_graph_response, from_assembly_graph_answer}
+use Rattle.defs.specs.Calls.{simplify_graph_causes, simplify_graph_response, simplify_graph_answer}
+use Rattle.defs.specs.Calls.{cleanup_seq_graph_causes, cleanup_seq_graph_response, cleanup_seq_graph_answer}
+use Rattle.defs.specs.Calls.{clean_non_ref_paths_causes, clean_non_ref_paths_response, clean_non_ref_paths_answer}
+use Rattle.defs.specs.Calls.{reference_path_bytes_causes, reference_path_bytes_response, path_bases_bytes_causes, path_bases_bytes_response}
 use Rattle.laws.proofs.Causes.{CausesNumbered, numbers-above, refusal-number, respond-number}
 use Rattle.calls.specs.declared.Answer.{Answer}
 use Rattle.calls.specs.declared.SimplifyAnswer.{SimplifyAnswer}
@@ -29,42 +29,42 @@ responds-first : {causes : List Cause} → CausesNumbered causes → {x : Respon
     → IsNumberOf causes n
 responds-first {causes} N result e q = subst (IsNumberOf causes) (sym (q ∙ ap number_of e ∙ respond-number causes result)) (refusal-number causes N)
 
-pub vertex-sequence-number : {bs : List ℕ} {v told : ℕ} {r : SequencePlace} → Placed bs v told r → IsNumberOf (vertexSequenceCauses bs v) told
-unfolding vertexSequenceNumber vertexSequenceCauses recordCauses layoutCauses all_of
+pub vertex-sequence-number : {bs : List ℕ} {v told : ℕ} {r : SequencePlace} → Placed bs v told r → IsNumberOf (vertex_sequence_causes bs v) told
+unfolding vertex_sequence_number vertex_sequence_causes record_causes layout_causes all_of
 vertex-sequence-number {bs} {v} P =
-    let causes = vertexSequenceCauses bs v in
+    let causes = vertex_sequence_causes bs v in
     subst (IsNumberOf causes) (sym P.number) (refusal-number causes (numbers-above causes refl))
 
 module _ {bs out : List ℕ} {caller : ℕ} {out' : List ℕ} where
-  pub from-assembly-graph-number : {r : Answer} → Converts bs out caller r out' → IsNumberOf (fromAssemblyGraphCauses bs (length out) caller) r.number
-  unfolding callerCause fromAssemblyGraphAnswer fromAssemblyGraphResponse fromAssemblyGraphCauses conversionCauses outputCause layoutCauses D.answer all_of
+  pub from-assembly-graph-number : {r : Answer} → Converts bs out caller r out' → IsNumberOf (from_assembly_graph_causes bs (length out) caller) r.number
+  unfolding caller_cause from_assembly_graph_answer from_assembly_graph_response from_assembly_graph_causes conversion_causes output_cause layout_causes D.answer all_of
   from-assembly-graph-number C =
-      responds-first (numbers-above (fromAssemblyGraphCauses bs (length out) caller) refl) _ refl (ap (λ (a : D.Answer). a.number) C.answer)
+      responds-first (numbers-above (from_assembly_graph_causes bs (length out) caller) refl) _ refl (ap (λ (a : D.Answer). a.number) C.answer)
 
-  pub simplify-graph-number : {r : SimplifyAnswer} → Simplifies bs out caller r out' → IsNumberOf (simplifyGraphCauses bs (length out) caller) r.number
-  unfolding callerCause simplifyGraphAnswer simplifyGraphResponse simplifyGraphCauses outputCause recordCauses layoutCauses all_of
+  pub simplify-graph-number : {r : SimplifyAnswer} → Simplifies bs out caller r out' → IsNumberOf (simplify_graph_causes bs (length out) caller) r.number
+  unfolding caller_cause simplify_graph_answer simplify_graph_response simplify_graph_causes output_cause record_causes layout_causes all_of
   simplify-graph-number C =
-      responds-first (numbers-above (simplifyGraphCauses bs (length out) caller) refl) _ refl (ap (λ (a : D.SimplifyAnswer). a.number) C.answer)
+      responds-first (numbers-above (simplify_graph_causes bs (length out) caller) refl) _ refl (ap (λ (a : D.SimplifyAnswer). a.number) C.answer)
 
-  pub cleanup-seq-graph-number : {r : CleanupAnswer} → Cleans bs out caller r out' → IsNumberOf (cleanupSeqGraphCauses bs (length out) caller) r.number
-  unfolding callerCause cleanupSeqGraphAnswer cleanupSeqGraphResponse cleanupSeqGraphCauses outputCause recordCauses layoutCauses all_of
+  pub cleanup-seq-graph-number : {r : CleanupAnswer} → Cleans bs out caller r out' → IsNumberOf (cleanup_seq_graph_causes bs (length out) caller) r.number
+  unfolding caller_cause cleanup_seq_graph_answer cleanup_seq_graph_response cleanup_seq_graph_causes output_cause record_causes layout_causes all_of
   cleanup-seq-graph-number C =
-      responds-first (numbers-above (cleanupSeqGraphCauses bs (length out) caller) refl) _ refl (ap (λ (a : D.CleanupAnswer). a.number) C.answer)
+      responds-first (numbers-above (cleanup_seq_graph_causes bs (length out) caller) refl) _ refl (ap (λ (a : D.CleanupAnswer). a.number) C.answer)
 
-  pub clean-non-ref-paths-number : {r : Answer} → CleansPaths bs out caller r out' → IsNumberOf (cleanNonRefPathsCauses bs (length out) caller) r.number
-  unfolding callerCause cleanNonRefPathsAnswer cleanNonRefPathsResponse cleanNonRefPathsCauses outputCause recordCauses layoutCauses D.answer all_of
+  pub clean-non-ref-paths-number : {r : Answer} → CleansPaths bs out caller r out' → IsNumberOf (clean_non_ref_paths_causes bs (length out) caller) r.number
+  unfolding caller_cause clean_non_ref_paths_answer clean_non_ref_paths_response clean_non_ref_paths_causes output_cause record_causes layout_causes D.answer all_of
   clean-non-ref-paths-number C =
-      responds-first (numbers-above (cleanNonRefPathsCauses bs (length out) caller) refl) _ refl (ap (λ (a : D.Answer). a.number) C.answer)
+      responds-first (numbers-above (clean_non_ref_paths_causes bs (length out) caller) refl) _ refl (ap (λ (a : D.Answer). a.number) C.answer)
 
 module _ (bs : List ℕ) (caller : ℕ) {out out' : List ℕ} {r : Answer} where
-  pub reference-path-bytes-number : TellsBytes bs (referencePathBytesResponse bs (length out) caller) out r out'
-      → IsNumberOf (referencePathBytesCauses bs (length out) caller) r.number
-  unfolding callerCause referencePathBytesResponse referencePathBytesCauses outputCause recordCauses layoutCauses D.answer all_of
+  pub reference-path-bytes-number : TellsBytes bs (reference_path_bytes_response bs (length out) caller) out r out'
+      → IsNumberOf (reference_path_bytes_causes bs (length out) caller) r.number
+  unfolding caller_cause reference_path_bytes_response reference_path_bytes_causes output_cause record_causes layout_causes D.answer all_of
   reference-path-bytes-number C =
-      responds-first (numbers-above (referencePathBytesCauses bs (length out) caller) refl) _ refl (ap (λ (a : D.Answer). a.number) C.answer)
+      responds-first (numbers-above (reference_path_bytes_causes bs (length out) caller) refl) _ refl (ap (λ (a : D.Answer). a.number) C.answer)
 
-  pub path-bases-bytes-number : (start : ℕ) (edges : List ℕ) → TellsBytes bs (pathBasesBytesResponse bs start edges (length out) caller) out r out'
-      → IsNumberOf (pathBasesBytesCauses bs start edges (length out) caller) r.number
-  unfolding callerCause pathBasesBytesResponse pathBasesBytesCauses outputCause recordCauses layoutCauses D.answer all_of
+  pub path-bases-bytes-number : (start : ℕ) (edges : List ℕ) → TellsBytes bs (path_bases_bytes_response bs start edges (length out) caller) out r out'
+      → IsNumberOf (path_bases_bytes_causes bs start edges (length out) caller) r.number
+  unfolding caller_cause path_bases_bytes_response path_bases_bytes_causes output_cause record_causes layout_causes D.answer all_of
   path-bases-bytes-number start edges C =
-      responds-first (numbers-above (pathBasesBytesCauses bs start edges (length out) caller) refl) _ refl (ap (λ (a : D.Answer). a.number) C.answer)
+      responds-first (numbers-above (path_bases_bytes_causes bs start edges (length out) caller) refl) _ refl (ap (λ (a : D.Answer). a.number) C.answer)

@@ -7,39 +7,39 @@ use lib.ListN.{length, get_or, length-append}
 use lib.Seq.{get_or-append-add}
 use borrow.Author.Count.{below_more}
 use borrow.Author.Tests.{eq-eqb}
-use Rattle.defs.specs.Lists.{tab, commonPrefix₂, commonPrefixBy, commonPrefix}
-use Rattle.laws.proofs.SharedLaws.{Begins, sharedPrefix-each}
-use Rattle.tabs.proofs.Tabs.{length-tab, getD-tab, tab-ext}
+use Rattle.defs.specs.Lists.{tab, common_prefix₂, common_prefix_by, common_prefix}
+use Rattle.laws.proofs.SharedLaws.{Begins, shared_prefix-each}
+use Rattle.tabs.proofs.Tabs.{length-tab, get_or-tab, tab-ext}
 use Rattle.tabs.proofs.ListTabs.{tab-append, mem-tab, of-mem-tab}
 
-first-same : (a : ℕ) (x y : List ℕ) → commonPrefix₂ (a ∷ x) (a ∷ y) ≡ a ∷ commonPrefix₂ x y
-unfolding commonPrefix₂
-first-same a x y = rw (eq-eqb a a refl, commonPrefix₂)
+first-same : (a : ℕ) (x y : List ℕ) → common_prefix₂ (a ∷ x) (a ∷ y) ≡ a ∷ common_prefix₂ x y
+unfolding common_prefix₂
+first-same a x y = rw (eq-eqb a a refl, common_prefix₂)
 
-greatest₂ : (z x y : List ℕ) → Begins z x → Begins z y → Begins z (commonPrefix₂ x y)
-greatest₂ [] x y b d = (commonPrefix₂ x y, refl)
+greatest₂ : (z x y : List ℕ) → Begins z x → Begins z y → Begins z (common_prefix₂ x y)
+greatest₂ [] x y b d = (common_prefix₂ x y, refl)
 greatest₂ (a ∷ z) x y (t, e) (u, f) =
     let g = greatest₂ z (z ++ t) (z ++ u) (t, refl) (u, refl) in
     rw (e, f) (g.0, first-same a (z ++ t) (z ++ u) ∙ ap (λ (l : List ℕ). a ∷ l) g.1)
 
-greatest-by : (z x : List ℕ) (l : List (List ℕ)) → Begins z x → ((s : List ℕ) → Memᴰ s l → Begins z s) → Begins z (commonPrefixBy x l)
-unfolding commonPrefixBy
+greatest-by : (z x : List ℕ) (l : List (List ℕ)) → Begins z x → ((s : List ℕ) → Memᴰ s l → Begins z s) → Begins z (common_prefix_by x l)
+unfolding common_prefix_by
 greatest-by z x [] b h = b
-greatest-by z x (y ∷ l) b h = greatest-by z (commonPrefix₂ x y) l (greatest₂ z x y b (h y (Memᴰ.head refl))) (λ s m. h s (Memᴰ.tail m))
+greatest-by z x (y ∷ l) b h = greatest-by z (common_prefix₂ x y) l (greatest₂ z x y b (h y (Memᴰ.head refl))) (λ s m. h s (Memᴰ.tail m))
 
-greatest : (z : List ℕ) (l : List (List ℕ)) → 0 < length l → ((s : List ℕ) → Memᴰ s l → Begins z s) → Begins z (commonPrefix l)
-unfolding commonPrefix
+greatest : (z : List ℕ) (l : List (List ℕ)) → 0 < length l → ((s : List ℕ) → Memᴰ s l → Begins z s) → Begins z (common_prefix l)
+unfolding common_prefix
 greatest z [] b h = absurd (omega arith)
 greatest z (x ∷ l) b h = greatest-by z x l (h x (Memᴰ.head refl)) (λ s m. h s (Memᴰ.tail m))
 
 -- what all begin with, and nothing longer
 common-is : (l : List (List ℕ)) (q : List ℕ) → 0 < length l → ((s : List ℕ) → Memᴰ s l → Begins q s)
-    → ((b : ℕ) → ((s : List ℕ) → Memᴰ s l → Begins (q ++ (b ∷ [])) s) → ⊥) → commonPrefix l ≡ q
+    → ((b : ℕ) → ((s : List ℕ) → Memᴰ s l → Begins (q ++ (b ∷ [])) s) → ⊥) → common_prefix l ≡ q
 common-is l q h each stop = go (greatest q l h each)
   where
-    go : Begins q (commonPrefix l) → commonPrefix l ≡ q
+    go : Begins q (common_prefix l) → common_prefix l ≡ q
     go ([], e) = e ∙ append-nil q
-    go (b ∷ t, e) = absurd (stop b (λ s m. let k = sharedPrefix-each l m in
+    go (b ∷ t, e) = absurd (stop b (λ s m. let k = shared_prefix-each l m in
         (t ++ k.0, k.1 ∙ ap (λ (x : List ℕ). x ++ k.0) e ∙ rw (append_assoc q (b ∷ t) k.0, append_assoc q (b ∷ []) (t ++ k.0)))))
 
 begins-tab : (r n : ℕ) (f g : ℕ → ℕ) → r ≤ n → ((i : ℕ) → i < r → g i ≡ f i) → Begins (tab r f) (tab n g)
@@ -57,7 +57,7 @@ of-begins r n f g b (t, e) =
     let h : r < n = omega (arith, ap length e, l, k, length-tab r f, length-tab n g) in
     let z : length (tab r f) + 0 ≡ r = omega (arith, length-tab r f) in (
       h,
-      sym (getD-tab n g r 0 h) ∙ ap (λ (x : List ℕ). get_or x r 0) (e ∙ append_assoc (tab r f) (b ∷ []) t)
+      sym (get_or-tab n g r 0 h) ∙ ap (λ (x : List ℕ). get_or x r 0) (e ∙ append_assoc (tab r f) (b ∷ []) t)
           ∙ ap (λ (i : ℕ). get_or (tab r f ++ (b ∷ t)) i 0) (sym z) ∙ get_or-append-add (tab r f) (b ∷ t) 0 0,
     )
 
@@ -91,7 +91,7 @@ module _ {L : ℕ → ℕ} {f : ℕ → ℕ → ℕ} {c : ℕ} where
   }
 
   -- sequence k has no such byte at r
-  pub agreed : (r k : ℕ) → Agreeing L f c r → k < c → (r < L k → f k r ≡ f 0 r → ⊥) → commonPrefix (tab c (λ (j : ℕ). tab (L j) (f j))) ≡ tab r (f 0)
+  pub agreed : (r k : ℕ) → Agreeing L f c r → k < c → (r < L k → f k r ≡ f 0 r → ⊥) → common_prefix (tab c (λ (j : ℕ). tab (L j) (f j))) ≡ tab r (f 0)
   agreed r k A h stop = common-is (tab c seqs) (tab r (f 0)) (omega (arith, length-tab c seqs)) each last
     where
       seqs : ℕ → List ℕ

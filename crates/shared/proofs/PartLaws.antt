@@ -6,8 +6,8 @@ use native.Mathlib.Numerals.{add-one}
 use native.Mathlib.Omega.{arith}
 use lib.ListN.{length, get_or, take, drop, length-drop}
 use lib.Seq.{ext_get_or, get_or-take, get_or-drop, length-take-le}
-use Rattle.defs.specs.Lists.{tab, tabFrom}
-use Rattle.tabs.proofs.Tabs.{tab-snoc, tab-ext, length-tab, getD-tab}
+use Rattle.defs.specs.Lists.{tab, tab_from}
+use Rattle.tabs.proofs.Tabs.{tab-snoc, tab-ext, length-tab, get_or-tab}
 use Rattle.store.specs.Store.{part}
 use Rattle.store.proofs.VertexLaws.{part-long}
 
@@ -15,21 +15,21 @@ pub part-tab : (p : List ℕ) (a n : ℕ) → a + n ≤ length p → part p a n 
 part-tab p a n h = ext_get_or 0 _ _ (part-long p a n h ∙ sym (length-tab n _)) (λ i b. byte i (omega (arith, part-long p a n h)))
   where
     byte : (i : ℕ) → i < n → get_or (part p a n) i 0 ≡ get_or (tab n (λ (j : ℕ). get_or p (a + j) 0)) i 0
-    byte i b = get_or-take n (drop a p) i 0 b ∙ get_or-drop a p i 0 ∙ sym (getD-tab n _ i 0 b)
+    byte i b = get_or-take n (drop a p) i 0 b ∙ get_or-drop a p i 0 ∙ sym (get_or-tab n _ i 0 b)
 
-tab-shift : {A : Type 0} (s n : ℕ) (h : ℕ → A) → tabFrom (suc s) n h ≡ tabFrom s n (λ (j : ℕ). h (suc j))
-unfolding tabFrom
+tab-shift : {A : Type 0} (s n : ℕ) (h : ℕ → A) → tab_from (suc s) n h ≡ tab_from s n (λ (j : ℕ). h (suc j))
+unfolding tab_from
 tab-shift s zero h = refl
 tab-shift {A} s (suc n) h = ap (λ (l : List A). h (suc s) ∷ l) (tab-shift (suc s) n h)
 
 reverse-tab : (n : ℕ) (f : ℕ → ℕ) → reverse (tab n f) ≡ tab n (λ (j : ℕ). f (n - 1 - j))
-unfolding tabFrom
+unfolding tab_from
 reverse-tab zero f = refl
 reverse-tab (suc n) f =
     ap reverse (ap (λ (k : ℕ). tab k f) (sym (add-one n)) ∙ tab-snoc n f) ∙ reverse-append (tab n f) (f n ∷ [])
     ∙ ap (λ (l : List ℕ). f n ∷ l) (reverse-tab n f ∙ tab-ext n (λ (j : ℕ). f (n - 1 - j)) (λ (j : ℕ). f (suc n - 1 - suc j)) (λ j h.
     ap f (omega arith)) ∙ sym (tab-shift 0 n (λ (j : ℕ). f (suc n - 1 - j))))
-    ∙ ap (λ (x : ℕ). f x ∷ tabFrom 1 n (λ (j : ℕ). f (suc n - 1 - j))) (omega arith)
+    ∙ ap (λ (x : ℕ). f x ∷ tab_from 1 n (λ (j : ℕ). f (suc n - 1 - j))) (omega arith)
 
 reverse-part : (p : List ℕ) (a n e : ℕ) → a + n ≡ e → e ≤ length p → reverse (part p a n) ≡ tab n (λ (j : ℕ). get_or p (e - 1 - j) 0)
 reverse-part p a n e q h =

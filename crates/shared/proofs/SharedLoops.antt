@@ -7,11 +7,11 @@ use native.Mathlib.Omega.{arith}
 use lib.ListN.{length, get_or, drop}
 use lib.Dec.{eqb, ltb}
 use borrow.Author.Tests.{ltb-true, lt-ltb, eqb-true, eq-eqb}
-use Rattle.defs.specs.Lists.{tab, commonPrefix, commonSuffix}
+use Rattle.defs.specs.Lists.{tab, common_prefix, common_suffix}
 use Rattle.laws.proofs.ListLaws.{and_split, and-true, clash}
 use Rattle.tabs.proofs.Tabs.{tab-ext}
 use Rattle.tabs.proofs.SumTabs.{map-tab}
-use Rattle.store.specs.Store.{seqIn}
+use Rattle.store.specs.Store.{seq_in}
 use Rattle.shared.specs.Shared.{Parts, start_at, len_at, byte_at, last_at, Prefix, Suffix}
 use Rattle.shared.proofs.CommonLaws.{Agreeing, agreed}
 use Rattle.shared.proofs.PartLaws.{part-tab, back, forth}
@@ -64,7 +64,7 @@ module _ {n : ℕ} {vs p nodes : List ℕ} {c : ℕ} (P : Parts n vs p nodes c) 
       → (r < len_at vs nodes k → byte_at vs p nodes k r ≡ byte_at vs p nodes 0 r → ⊥) → Prefix vs p nodes c r
   prefix-end {r} k A h stop = record {
     all = A.le;
-    is = ap commonPrefix (tab-ext c (λ (j : ℕ). seqIn vs p (get_or nodes j 0)) (λ (j : ℕ). tab (len_at vs nodes j) (byte_at vs p nodes j))
+    is = ap common_prefix (tab-ext c (λ (j : ℕ). seq_in vs p (get_or nodes j 0)) (λ (j : ℕ). tab (len_at vs nodes j) (byte_at vs p nodes j))
         (λ j b. part-tab p (start_at vs nodes j) (len_at vs nodes j) (in-pool j b)))
         ∙ agreed r k A h stop
         ∙ sym (part-tab p (start_at vs nodes 0) r (omega (arith, in-pool 0 (omega arith), A.le 0 (omega arith))));
@@ -73,11 +73,11 @@ module _ {n : ℕ} {vs p nodes : List ℕ} {c : ℕ} (P : Parts n vs p nodes c) 
   module _ (skip : ℕ) (H : (k : ℕ) → k < c → skip ≤ len_at vs nodes k) where
     pub suffix-end : {r : ℕ} (k : ℕ) → Agreeing (λ (j : ℕ). len_at vs nodes j - skip) (last_at vs p nodes) c r → k < c
         → (r < len_at vs nodes k - skip → last_at vs p nodes k r ≡ last_at vs p nodes 0 r → ⊥) → Suffix vs p nodes skip c r
-    unfolding commonSuffix
+    unfolding common_suffix
     suffix-end {r} k A h stop = record {
       all = λ j b. omega (arith, A.le j b, H j b);
-      is = ap (λ (l : List (List ℕ)). reverse (commonPrefix l)) (ap (map reverse) (map-tab (drop skip) c _) ∙ map-tab reverse c _
-          ∙ tab-ext c (λ (j : ℕ). reverse (drop skip (seqIn vs p (get_or nodes j 0)))) (λ (j : ℕ).
+      is = ap (λ (l : List (List ℕ)). reverse (common_prefix l)) (ap (map reverse) (map-tab (drop skip) c _) ∙ map-tab reverse c _
+          ∙ tab-ext c (λ (j : ℕ). reverse (drop skip (seq_in vs p (get_or nodes j 0)))) (λ (j : ℕ).
           tab (len_at vs nodes j - skip) (last_at vs p nodes j)) (λ j b.
           back p (start_at vs nodes j) (len_at vs nodes j) skip (H j b) (in-pool j b)))
           ∙ ap reverse (agreed r k A h stop)

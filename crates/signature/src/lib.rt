@@ -1,9 +1,9 @@
 // The signature of a graph (`graph_topology_signature`): written over the previous one, with which it is compared on the way.
 ghost use Rattle.std.specs.Prelude.{◌≡◌, [], ◌∷◌, ℕ, ◌+◌, ◌*◌, ◌<◌, ◌≤◌, length, get_or};
 ghost use Rattle.defs.specs.Lists.{bit};
-ghost use Rattle.defs.specs.Record.{flagIsRef};
-ghost use Rattle.store.specs.Store.{edgeIn, seqIn};
-ghost use Rattle.signature.specs.Signature.{sameAt, storedVertex, storedEdge, storedVertices, storedEdges, WrittenOver, Writable, Pooled, EndsFit};
+ghost use Rattle.defs.specs.Record.{flag_is_ref};
+ghost use Rattle.store.specs.Store.{edge_in, seq_in};
+ghost use Rattle.signature.specs.Signature.{same_at, stored_vertex, stored_edge, stored_vertices, stored_edges, WrittenOver, Writable, Pooled, EndsFit};
 ghost use Rattle.signature.specs.Signature.{SignatureWritable, Signature};
 
 use memory::Held;
@@ -18,7 +18,7 @@ pub struct Signed {
 // Whether x stands at `at` of the previous signature, which has `old` numbers.
 fn same_at(sig: &[u32], at: usize, x: u32, old: usize) -> bool
     requires { old ≤ length sig.now }
-    ensures { result ≡ sameAt sig.now old at x }
+    ensures { result ≡ same_at sig.now old at x }
 {
     if old <= at {
         return false;
@@ -64,8 +64,8 @@ fn put_bytes(sig: &mut [u32], old: usize, s: Signed, seq: &[u8]) -> Signed
 // Writes the length and the bytes of v's sequence.
 fn put_vertex(sig: &mut [u32], old: usize, s: Signed, vs: &[u32], p: &[u8], v: u32) -> Signed
     requires { (2 * v + 2 ≤ length vs.now) × ((get_or vs.now (2 * v) 0 + get_or vs.now (2 * v + 1) 0 ≤ length p.now)
-        × Writable sig.old old s (length (storedVertex (seqIn vs.now p.now v)))) }
-    ensures { WrittenOver sig.old old s (storedVertex (seqIn vs.now p.now v)) result sig.new }
+        × Writable sig.old old s (length (stored_vertex (seq_in vs.now p.now v)))) }
+    ensures { WrittenOver sig.old old s (stored_vertex (seq_in vs.now p.now v)) result sig.new }
 {
     let start = store::vertex_start(vs, v);
     let len = store::vertex_len(vs, v);
@@ -75,8 +75,8 @@ fn put_vertex(sig: &mut [u32], old: usize, s: Signed, vs: &[u32], p: &[u8], v: u
 
 // Writes the first n vertices.
 fn put_vertices(sig: &mut [u32], old: usize, s: Signed, n: usize, vs: &[u32], p: &[u8]) -> Signed
-    requires { Pooled n vs.now p.now × Writable sig.old old s (length (storedVertices n vs.now p.now)) }
-    ensures { WrittenOver sig.old old s (storedVertices n vs.now p.now) result sig.new }
+    requires { Pooled n vs.now p.now × Writable sig.old old s (length (stored_vertices n vs.now p.now)) }
+    ensures { WrittenOver sig.old old s (stored_vertices n vs.now p.now) result sig.new }
 {
     let mut t = s;
     let mut v = 0;
@@ -90,7 +90,7 @@ fn put_vertices(sig: &mut [u32], old: usize, s: Signed, n: usize, vs: &[u32], p:
 // The end that edge i enters, and whether it is a reference edge, as one number. Whether its support was capped is not compared.
 fn end_and_flag(es: &[u32], i: usize) -> u32
     requires { (4 * i + 4 ≤ length es.now) × (2 * get_or es.now (4 * i + 1) 0 + 1 < 4294967296) }
-    ensures { result ≡ 2 * get_or es.now (4 * i + 1) 0 + bit (flagIsRef (get_or es.now (4 * i + 3) 0)) }
+    ensures { result ≡ 2 * get_or es.now (4 * i + 1) 0 + bit (flag_is_ref (get_or es.now (4 * i + 3) 0)) }
 {
     let to = store::edge_to(es, i);
     if store::edge_is_ref(es, i) {
@@ -102,7 +102,7 @@ fn end_and_flag(es: &[u32], i: usize) -> u32
 // Writes the three numbers of edge i.
 fn put_edge(sig: &mut [u32], old: usize, s: Signed, es: &[u32], i: usize) -> Signed
     requires { (4 * i + 4 ≤ length es.now) × ((2 * get_or es.now (4 * i + 1) 0 + 1 < 4294967296) × Writable sig.old old s 3) }
-    ensures { WrittenOver sig.old old s (storedEdge (edgeIn es.now i)) result sig.new }
+    ensures { WrittenOver sig.old old s (stored_edge (edge_in es.now i)) result sig.new }
 {
     let from = store::edge_from(es, i);
     let end = end_and_flag(es, i);
@@ -114,8 +114,8 @@ fn put_edge(sig: &mut [u32], old: usize, s: Signed, es: &[u32], i: usize) -> Sig
 
 // Writes the first m edges.
 fn put_edges(sig: &mut [u32], old: usize, s: Signed, m: usize, es: &[u32]) -> Signed
-    requires { EndsFit m es.now × Writable sig.old old s (length (storedEdges m es.now)) }
-    ensures { WrittenOver sig.old old s (storedEdges m es.now) result sig.new }
+    requires { EndsFit m es.now × Writable sig.old old s (length (stored_edges m es.now)) }
+    ensures { WrittenOver sig.old old s (stored_edges m es.now) result sig.new }
 {
     let mut t = s;
     let mut i = 0;

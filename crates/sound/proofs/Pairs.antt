@@ -7,7 +7,7 @@ use Prim.Native.Nat.{ℕ, zero, suc, ◌<◌}
 use native.Mathlib.Omega.{arith}
 use lib.ListN.{length, get_or}
 use Rattle.defs.specs.Lists.{any_of}
-use Rattle.laws.proofs.Walks.{byTest}
+use Rattle.laws.proofs.Walks.{by_test}
 use Rattle.laws.proofs.ListLaws.{clash, or_cases, any-yes, any-no, or_left, or_right}
 
 module _ {A : Type 0} (p : A → Bool) (d : A) where
@@ -15,14 +15,14 @@ module _ {A : Type 0} (p : A → Bool) (d : A) where
   any_at : {X : Type 0} (l : List A) → any_of p l ≡ true → ((i : ℕ) → i < length l → p (get_or l i d) ≡ true → X) → X
   unfolding any_of
   any_at [] t k = clash t refl
-  any_at (x ∷ xs) t k = byTest (p x)
+  any_at (x ∷ xs) t k = by_test (p x)
       (λ u. k 0 (omega arith) u)
       (λ u. any_at xs (sym (any-no p x xs u) ∙ t) (λ i b v. k (suc i) (omega arith) v))
 
   at-any : (l : List A) (i : ℕ) → i < length l → p (get_or l i d) ≡ true → any_of p l ≡ true
   at-any [] i b t = absurd (omega arith)
   at-any (x ∷ xs) zero b t = any-yes p x xs t
-  at-any (x ∷ xs) (suc i) b t = byTest (p x) (λ u. any-yes p x xs u) (λ u. any-no p x xs u ∙ at-any xs i (omega arith) t)
+  at-any (x ∷ xs) (suc i) b t = by_test (p x) (λ u. any-yes p x xs u) (λ u. any-no p x xs u ∙ at-any xs i (omega arith) t)
 
 -- F tests whether some member is alike to a later one
 module _ {A : Type 0} (R : A → A → Bool) (d : A) (F : List A → Bool) (none : F [] ≡ false) (some : (x : A) (xs : List A) → F (x ∷ xs)

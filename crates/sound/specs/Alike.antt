@@ -1,9 +1,9 @@
 -- What refusal 6 means: two members of a list that are alike. Assumes nothing.
 use Rattle.std.specs.Prelude.{◌≡◌, false, ℕ, ◌<◌, length, get_or}
-use Rattle.defs.specs.SeqGraph.{Edge, Graph, nodeCount, vertexSequence}
+use Rattle.defs.specs.SeqGraph.{Edge, Graph, node_count, vertex_sequence}
 
 abbrev pub no_edge : Edge
-no_edge = record { from = 0; to = 0; support = 0; isRef = false; capped = false }
+no_edge = record { from = 0; to = 0; support = 0; is_ref = false; capped = false }
 
 -- two edges with the same ends
 pub record SameEnds (g : Graph) : Type 0 where
@@ -19,5 +19,5 @@ pub record SameKmers (g : Graph) : Type 0 where
   pub first : ℕ
   pub second : ℕ
   pub order : first < second
-  pub below : second < nodeCount g
-  pub same : vertexSequence g first ≡ vertexSequence g second
+  pub below : second < node_count g
+  pub same : vertex_sequence g first ≡ vertex_sequence g second

@@ -3,8 +3,8 @@ use Rattle.std.specs.Prelude.{◌≡◌, cond, List, ◌++◌, map, ℕ, ◌+◌
 use Rattle.std.proofs.Math.Option.{Option, none, some}
 use Rattle.std.proofs.Math.Seq.{paste}
 use Rattle.defs.specs.Lists.{tab, concat, sum}
-use Rattle.store.specs.Store.{nodesLength}
-use Rattle.store.specs.Store.{seqIn, numsIn}
+use Rattle.store.specs.Store.{nodes_length}
+use Rattle.store.specs.Store.{seq_in, nums_in}
 use Rattle.spell.specs.declared.OptionBytes.{OptionBytes}
 use Rattle.spell.specs.declared.OptionBytes.TheVariants.{Some, None}
 
@@ -25,15 +25,15 @@ pub record SequencePut (vs p : List ℕ) (v : ℕ) (out : List ℕ) (at r : ℕ)
   pub is : out' ≡ paste out at (drop (get_or vs (2 * v) 0) p) (get_or vs (2 * v + 1) 0)
 
 -- the sequences of the first c of the nodes, joined
-abbrev pub spelledIn : List ℕ → List ℕ → List ℕ → ℕ → List ℕ
-spelledIn vs p nodes c = concat (map (seqIn vs p) (numsIn c nodes))
+abbrev pub spelled_in : List ℕ → List ℕ → List ℕ → ℕ → List ℕ
+spelled_in vs p nodes c = concat (map (seq_in vs p) (nums_in c nodes))
 
 -- the first c of the nodes are vertices whose sequences are within the pool, and together not longer than it
 pub record Listed (vs p nodes : List ℕ) (c : ℕ) : Type 0 where
   pub nodes-room : c ≤ length nodes
   pub vs-room : (i : ℕ) → i < c → 2 * get_or nodes i 0 + 2 ≤ length vs
   pub within : (i : ℕ) → i < c → get_or vs (2 * get_or nodes i 0) 0 + get_or vs (2 * get_or nodes i 0 + 1) 0 ≤ length p
-  pub total : nodesLength vs nodes c ≤ length p
+  pub total : nodes_length vs nodes c ≤ length p
 
 -- the r bytes s stand at the front, and the rest is as it was
 pub record BytesWritten (s out : List ℕ) (r : ℕ) (out' : List ℕ) : Type 0 where
@@ -52,16 +52,16 @@ count_of (Some n) = some n
 count_of None = none
 
 -- how many bytes there are
-unfoldable pub countIn : Option (List ℕ) → Option ℕ
-countIn none = none
-countIn (some s) = some (length s)
+unfoldable pub count_in : Option (List ℕ) → Option ℕ
+count_in none = none
+count_in (some s) = some (length s)
 
 -- the output with the bytes at its front, where there are any and they fit
-unfoldable pub withFront : Option (List ℕ) → List ℕ → List ℕ
-withFront none out = out
-withFront (some s) out = cond (leb (length s) (length out)) (s ++ drop (length s) out) out
+unfoldable pub with_front : Option (List ℕ) → List ℕ → List ℕ
+with_front none out = out
+with_front (some s) out = cond (leb (length s) (length out)) (s ++ drop (length s) out) out
 
 -- the bytes that the definition makes, if it makes any, are counted, and written where they fit
 pub record Told (o : Option (List ℕ)) (out : List ℕ) (r : OptionBytes) (out' : List ℕ) : Type 0 where
-  pub is : count_of r ≡ countIn o
-  pub written : out' ≡ withFront o out
+  pub is : count_of r ≡ count_in o
+  pub written : out' ≡ with_front o out

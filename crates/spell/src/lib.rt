@@ -1,8 +1,8 @@
 // The bytes that a list of vertices spells: their sequences, whole, joined in order.
 ghost use Rattle.std.specs.Prelude.{◌≡◌, ℕ, ◌+◌, ◌*◌, ◌<◌, ◌≤◌, length, get_or, drop};
 ghost use Rattle.std.proofs.Math.Seq.{paste};
-ghost use Rattle.spell.specs.Spell.{BytesFit, Puttable, SequencePut, spelledIn, Listed, BytesWritten, Answered};
-ghost use Rattle.store.specs.Store.{nodesLength};
+ghost use Rattle.spell.specs.Spell.{BytesFit, Puttable, SequencePut, spelled_in, Listed, BytesWritten, Answered};
+ghost use Rattle.store.specs.Store.{nodes_length};
 
 // The bytes that were asked for, by their number, or none: the Rust's `Option<Vec<u8>>`, whose bytes go to a lent slice.
 #[derive(Drop)]
@@ -37,7 +37,7 @@ fn put_sequence(vs: &[u32], p: &[u8], v: u32, out: &mut [u8], at: usize) -> usiz
 // How many bytes the first c of `nodes` spell.
 fn spelled_len(vs: &[u32], p: &[u8], nodes: &[u32], c: usize) -> usize
     requires { Listed vs.now p.now nodes.now c }
-    ensures { result ≡ nodesLength vs.now nodes.now c }
+    ensures { result ≡ nodes_length vs.now nodes.now c }
 {
     let mut len = 0;
     let mut i = 0;
@@ -50,8 +50,8 @@ fn spelled_len(vs: &[u32], p: &[u8], nodes: &[u32], c: usize) -> usize
 
 // Writes the bytes that the first c of `nodes` spell to the front of `out`; how many.
 fn write_spelled(vs: &[u32], p: &[u8], nodes: &[u32], c: usize, out: &mut [u8]) -> usize
-    requires { Listed vs.now p.now nodes.now c × (nodesLength vs.now nodes.now c ≤ length out.old) }
-    ensures { BytesWritten (spelledIn vs.now p.now nodes.now c) out.old result out.new }
+    requires { Listed vs.now p.now nodes.now c × (nodes_length vs.now nodes.now c ≤ length out.old) }
+    ensures { BytesWritten (spelled_in vs.now p.now nodes.now c) out.old result out.new }
 {
     let mut at = 0;
     let mut i = 0;
@@ -65,7 +65,7 @@ fn write_spelled(vs: &[u32], p: &[u8], nodes: &[u32], c: usize, out: &mut [u8]) 
 // How many bytes the first c of `nodes` spell; they are written to the front of `out` where they fit.
 pub fn spell(vs: &[u32], p: &[u8], nodes: &[u32], c: usize, out: &mut [u8]) -> usize
     requires { Listed vs.now p.now nodes.now c }
-    ensures { Answered (spelledIn vs.now p.now nodes.now c) out.old result out.new }
+    ensures { Answered (spelled_in vs.now p.now nodes.now c) out.old result out.new }
 {
     let len = spelled_len(vs, p, nodes, c);
     if out.len() < len {

@@ -10,26 +10,26 @@ use lib.Seq.{get_or-set_same, get_or-set_other}
 use borrow.Author.Tests.{not-true, not-false}
 use Rattle.defs.specs.Lists.{bit}
 use Rattle.defs.specs.SeqGraph.{Edge}
-use Rattle.defs.specs.Rewrites.{nonEmpty, only_if}
-use Rattle.laws.proofs.Diamonds.{nonEmpty-yes}
+use Rattle.defs.specs.Rewrites.{non_empty, only_if}
+use Rattle.laws.proofs.Diamonds.{non_empty-yes}
 use Rattle.tabs.proofs.Tabs.{tab-snoc, tab-ext}
-use Rattle.store.specs.Store.{edge, edgesIn, putEdge, putVertex, part, seqIn, seqsIn}
+use Rattle.store.specs.Store.{edge, edges_in, put_edge, put_vertex, part, seq_in, seqs_in}
 use Rattle.store.proofs.EdgeLaws.{length-put, put-at, put-push}
 use Rattle.store.proofs.VertexLaws.{part-long, length-put-vertex, put-before}
 use Rattle.shared.proofs.PartLaws.{drop-part, take_part}
-use Rattle.split_and_update.specs.Pushed.{EdgesPushed, edgeIf, VertsPushed, PartPushed}
+use Rattle.split_and_update.specs.Pushed.{EdgesPushed, edge_if, VertsPushed, PartPushed}
 
 -- ---- edges
 
 pub pushed_none : (k : ℕ) (es : List ℕ) → EdgesPushed k es [] k es
-pushed_none k es = record { count = omega arith; len = refl; same = λ i h. refl; is = sym (append-nil (edgesIn k es)) }
+pushed_none k es = record { count = omega arith; len = refl; same = λ i h. refl; is = sym (append-nil (edges_in k es)) }
 
-pub pushed-one : {k : ℕ} {es es' : List ℕ} (a b s f : ℕ) → 4 * k + 4 ≤ length es → es' ≡ putEdge es k a b s f → EdgesPushed k es (edge a b s f ∷ []) (k + 1) es'
+pub pushed-one : {k : ℕ} {es es' : List ℕ} (a b s f : ℕ) → 4 * k + 4 ≤ length es → es' ≡ put_edge es k a b s f → EdgesPushed k es (edge a b s f ∷ []) (k + 1) es'
 pushed-one {k} {es} {es'} a b s f h q = record {
   count = refl;
   len = ap length q ∙ length-put es k a b s f;
   same = λ i c. ap (λ (l : List ℕ). get_or l i 0) q ∙ put-at es k a b s f i (λ z. omega arith) (λ z. omega arith) (λ z. omega arith) (λ z. omega arith);
-  is = ap (edgesIn (k + 1)) q ∙ put-push k es a b s f h;
+  is = ap (edges_in (k + 1)) q ∙ put-push k es a b s f h;
 }
 
 pub pushed_then : {k k' k'' : ℕ} {es es' es'' : List ℕ} {x y : List Edge} → EdgesPushed k es x k' es' → EdgesPushed k' es' y k'' es''
@@ -38,15 +38,15 @@ pushed_then {k} {es = es} {x = x} {y = y} A B = record {
   count = omega (arith, A.count, B.count, length-append x y);
   len = B.len ∙ A.len;
   same = λ i h. B.same i (omega (arith, A.count)) ∙ A.same i h;
-  is = B.is ∙ ap (λ (l : List Edge). l ++ y) A.is ∙ append_assoc (edgesIn k es) x y;
+  is = B.is ∙ ap (λ (l : List Edge). l ++ y) A.is ∙ append_assoc (edges_in k es) x y;
 }
 
-pub pushed-not : {k : ℕ} {es : List ℕ} (t : Bool) (a b s f : ℕ) → not t ≡ true → EdgesPushed k es (edgeIf t a b s f) k es
+pub pushed-not : {k : ℕ} {es : List ℕ} (t : Bool) (a b s f : ℕ) → not t ≡ true → EdgesPushed k es (edge_if t a b s f) k es
 unfolding only_if
 pushed-not {k} {es} t a b s f h = rw (not-true t h) (pushed_none k es)
 
 pub pushed-yes : {k : ℕ} {es es' : List ℕ} (t : Bool) (a b s f : ℕ) → not t ≡ false → 4 * (k + bit t) ≤ length es → es'
-    ≡ putEdge es k a b s f → EdgesPushed k es (edgeIf t a b s f) (k + 1) es'
+    ≡ put_edge es k a b s f → EdgesPushed k es (edge_if t a b s f) (k + 1) es'
 unfolding only_if bit
 pushed-yes {k} {es} {es'} t a b s f h r q =
     let e = not-false t h in
@@ -59,25 +59,25 @@ room-yes k es t h r = let r' : 4 * (k + 1) ≤ length es = rw (not-false t h) at
 
 -- ---- vertices
 
-put-start : (vs : List ℕ) (k s n : ℕ) → 2 * k + 2 ≤ length vs → get_or (putVertex vs k s n) (2 * k) 0 ≡ s
-unfolding putVertex
+put-start : (vs : List ℕ) (k s n : ℕ) → 2 * k + 2 ≤ length vs → get_or (put_vertex vs k s n) (2 * k) 0 ≡ s
+unfolding put_vertex
 put-start vs k s n h = get_or-set_other (set vs (2 * k) s) (2 * k + 1) (2 * k) n 0 (λ z. omega arith) ∙ get_or-set_same vs (2 * k) s 0 (omega arith)
 
-put-len : (vs : List ℕ) (k s n : ℕ) → 2 * k + 2 ≤ length vs → get_or (putVertex vs k s n) (2 * k + 1) 0 ≡ n
-unfolding putVertex
+put-len : (vs : List ℕ) (k s n : ℕ) → 2 * k + 2 ≤ length vs → get_or (put_vertex vs k s n) (2 * k + 1) 0 ≡ n
+unfolding put_vertex
 put-len vs k s n h = get_or-set_same (set vs (2 * k) s) (2 * k + 1) n 0 (rw (length-set vs (2 * k) s) (omega arith))
 
 pub verts-none : (k : ℕ) (vs p : List ℕ) → VertsPushed k vs p [] k vs
-verts-none k vs p = record { count = omega arith; len = refl; same = λ i h. refl; is = sym (append-nil (seqsIn k vs p)) }
+verts-none k vs p = record { count = omega arith; len = refl; same = λ i h. refl; is = sym (append-nil (seqs_in k vs p)) }
 
-verts-one : {k : ℕ} {vs vs' : List ℕ} (s n : ℕ) (p : List ℕ) → 2 * k + 2 ≤ length vs → vs' ≡ putVertex vs k s n
+verts-one : {k : ℕ} {vs vs' : List ℕ} (s n : ℕ) (p : List ℕ) → 2 * k + 2 ≤ length vs → vs' ≡ put_vertex vs k s n
     → VertsPushed k vs p (part p s n ∷ []) (k + 1) vs'
 verts-one {k} {vs} {vs'} s n p h q = record {
   count = refl;
   len = ap length q ∙ length-put-vertex vs k s n;
   same = λ i b. ap (λ (l : List ℕ). get_or l i 0) q ∙ put-before vs k s n i b;
-  is = ap (λ (l : List ℕ). seqsIn (k + 1) l p) q ∙ tab-snoc k (seqIn (putVertex vs k s n) p)
-      ∙ (λ j. tab-ext k (seqIn (putVertex vs k s n) p) (seqIn vs p) (λ v b i.
+  is = ap (λ (l : List ℕ). seqs_in (k + 1) l p) q ∙ tab-snoc k (seq_in (put_vertex vs k s n) p)
+      ∙ (λ j. tab-ext k (seq_in (put_vertex vs k s n) p) (seq_in vs p) (λ v b i.
       part p (put-before vs k s n (2 * v) (omega arith) i) (put-before vs k s n (2 * v + 1) (omega arith) i)) j
       ++ (part p (put-start vs k s n h j) (put-len vs k s n h j) ∷ []));
 }
@@ -88,23 +88,23 @@ verts-then {k} {vs = vs} {p = p} {x = x} {y = y} A B = record {
   count = omega (arith, A.count, B.count, length-append x y);
   len = B.len ∙ A.len;
   same = λ i h. B.same i (omega (arith, A.count)) ∙ A.same i h;
-  is = B.is ∙ ap (λ (l : List (List ℕ)). l ++ y) A.is ∙ append_assoc (seqsIn k vs p) x y;
+  is = B.is ∙ ap (λ (l : List (List ℕ)). l ++ y) A.is ∙ append_assoc (seqs_in k vs p) x y;
 }
 
-pub nonEmpty-no : (l : List ℕ) → length l ≡ 0 → nonEmpty l ≡ false
-unfolding nonEmpty
-nonEmpty-no [] h = refl
-nonEmpty-no (x ∷ l) h = absurd (omega arith)
+pub non_empty-no : (l : List ℕ) → length l ≡ 0 → non_empty l ≡ false
+unfolding non_empty
+non_empty-no [] h = refl
+non_empty-no (x ∷ l) h = absurd (omega arith)
 
 pub part_none : {k : ℕ} {vs : List ℕ} {start : ℕ} {q : List ℕ} → length q ≡ 0 → PartPushed k vs start q k vs
 unfolding only_if
-part_none {k} {vs} {start} {q} z = record { is = λ p b. rw (nonEmpty-no q z) (verts-none k vs p); within = λ used b w. w }
+part_none {k} {vs} {start} {q} z = record { is = λ p b. rw (non_empty-no q z) (verts-none k vs p); within = λ used b w. w }
 
 pub part-put : {k : ℕ} {vs vs' : List ℕ} {start : ℕ} {q : List ℕ} → 0 < length q → 2 * k + 2 ≤ length vs
-    → vs' ≡ putVertex vs k start (length q) → PartPushed k vs start q (k + 1) vs'
+    → vs' ≡ put_vertex vs k start (length q) → PartPushed k vs start q (k + 1) vs'
 unfolding only_if
 part-put {k} {vs} {vs'} {start} {q} z h e = record {
-  is = λ p b. rw (nonEmpty-yes q z)
+  is = λ p b. rw (non_empty-yes q z)
       (subst (λ (l : List ℕ). VertsPushed k vs p (l ∷ []) (k + 1) vs') b (verts-one start (length q) p h e));
   within = λ used b w. record {
     at = λ v c. elim (ℕ_discrete v k) [

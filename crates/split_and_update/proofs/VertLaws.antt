@@ -8,26 +8,26 @@ use lib.Seq.{length-take-le}
 use lib.Dec.{ltb}
 use borrow.Author.Tests.{lt-ltb, le-ltb}
 use Rattle.defs.specs.Lists.{bit}
-use Rattle.defs.specs.Rewrites.{nonEmpty, only_if}
-use Rattle.laws.proofs.ListLaws.{by_order, of-keepIf}
-use Rattle.laws.proofs.Diamonds.{nonEmpty-yes}
+use Rattle.defs.specs.Rewrites.{non_empty, only_if}
+use Rattle.laws.proofs.ListLaws.{by_order, of-keep_if}
+use Rattle.laws.proofs.Diamonds.{non_empty-yes}
 use Rattle.tabs.proofs.ListTabs.{of-mem-tab}
-use Rattle.store.specs.Store.{part, numsIn}
+use Rattle.store.specs.Store.{part, nums_in}
 use Rattle.store.proofs.VertexLaws.{part-long}
 use Rattle.shared.specs.Shared.{start_at, len_at}
 use Rattle.shared.proofs.SharedLoops.{in-pool}
-use Rattle.split_and_update.specs.Pushed.{VertsPushed, filled, PartPushed, start_of, len_of, leaves, leftNodes, rest_of, Restables, RestsPushed}
-use Rattle.split_and_update.specs.Split.{prefixAt, suffixAt, updateVerts, Vertable, VertsAdded}
-use Rattle.split_and_update.proofs.PushLaws.{verts-then, nonEmpty-no, part-own}
+use Rattle.split_and_update.specs.Pushed.{VertsPushed, filled, PartPushed, start_of, len_of, leaves, left_nodes, rest_of, Restables, RestsPushed}
+use Rattle.split_and_update.specs.Split.{prefix_at, suffix_at, update_verts, Vertable, VertsAdded}
+use Rattle.split_and_update.proofs.PushLaws.{verts-then, non_empty-no, part-own}
 use Rattle.split_and_update.proofs.NodeLaws.{left-kept, map_same}
 
 cut-length : (p : List ℕ) (a b : ℕ) → a ≤ b → b ≤ length p → length (take (b - a) (drop a p)) ≡ b - a
 cut-length p a b h k = length-take-le (b - a) (drop a p) (omega (arith, length-drop a p))
 
-pub filled_is : (p : List ℕ) (a n : ℕ) → a + n ≤ length p → nonEmpty (part p a n) ≡ ltb 0 n
+pub filled_is : (p : List ℕ) (a n : ℕ) → a + n ≤ length p → non_empty (part p a n) ≡ ltb 0 n
 filled_is p a n h = by_order n 0
-    (λ (z : n ≤ 0). nonEmpty-no (part p a n) (part-long p a n h ∙ omega arith) ∙ sym (le-ltb 0 n z))
-    (λ (z : 0 < n). nonEmpty-yes (part p a n) (omega (arith, part-long p a n h)) ∙ sym (lt-ltb 0 n z))
+    (λ (z : n ≤ 0). non_empty-no (part p a n) (part-long p a n h ∙ omega arith) ∙ sym (le-ltb 0 n z))
+    (λ (z : 0 < n). non_empty-yes (part p a n) (omega (arith, part-long p a n h)) ∙ sym (lt-ltb 0 n z))
 
 length-filled : (p : List ℕ) (a n : ℕ) → a + n ≤ length p → length (filled (part p a n)) ≡ bit (ltb 0 n)
 unfolding only_if bit
@@ -47,7 +47,7 @@ module _ {n : ℕ} {vs p nodes : List ℕ} {c x y : ℕ} (F : Vertable n vs p no
   l₀ = len_at vs nodes 0
 
   abbrev left : List ℕ
-  left = leftNodes vs (x + y) nodes c
+  left = left_nodes vs (x + y) nodes c
 
   some : 0 < c
   some = omega (arith, F.parts.some)
@@ -67,11 +67,11 @@ module _ {n : ℕ} {vs p nodes : List ℕ} {c x y : ℕ} (F : Vertable n vs p no
   at₂ : s₀ + l₀ - y + y ≤ length p
   at₂ = omega (arith, inside, long₀)
 
-  count : length (updateVerts vs p nodes c x y) ≡ bit (ltb 0 x) + (bit (ltb 0 y) + length left)
+  count : length (update_verts vs p nodes c x y) ≡ bit (ltb 0 x) + (bit (ltb 0 y) + length left)
   count = omega (
     arith,
-    length-append (filled (prefixAt vs p nodes x)) (filled (suffixAt vs p nodes y) ++ map (rest_of vs p x y) left),
-    length-append (filled (suffixAt vs p nodes y)) (map (rest_of vs p x y) left),
+    length-append (filled (prefix_at vs p nodes x)) (filled (suffix_at vs p nodes y) ++ map (rest_of vs p x y) left),
+    length-append (filled (suffix_at vs p nodes y)) (map (rest_of vs p x y) left),
     length-filled p s₀ x at₁,
     length-filled p (s₀ + l₀ - y) y at₂,
     length-map left (rest_of vs p x y),
@@ -94,14 +94,14 @@ module _ {n : ℕ} {vs p nodes : List ℕ} {c x y : ℕ} (F : Vertable n vs p no
   ask₁ {s} {l} es el = (omega (arith, small₀, long₀), λ (h : 0 < l). omega (arith, room, bit-one x (omega arith)))
 
   pub part₁ : {s k₁ : ℕ} {vs₁ : List ℕ} → s ≡ s₀ → PartPushed n vs s (take (s + x - s) (drop s p)) k₁ vs₁
-      → PartPushed n vs s₀ (prefixAt vs p nodes x) k₁ vs₁
+      → PartPushed n vs s₀ (prefix_at vs p nodes x) k₁ vs₁
   part₁ {s} {k₁} {vs₁} es A =
       let z : s + x - s ≡ x = omega arith in
       subst (λ (q : List ℕ). PartPushed n vs s₀ q k₁ vs₁) (λ i. take (z i) (drop (es i) p))
       (subst (λ (t : ℕ). PartPushed n vs t (take (s + x - s) (drop s p)) k₁ vs₁) es A)
 
-  module _ {k₁ : ℕ} {vs₁ : List ℕ} (A₁ : PartPushed n vs s₀ (prefixAt vs p nodes x) k₁ vs₁) where
-    V₁ : VertsPushed n vs p (filled (prefixAt vs p nodes x)) k₁ vs₁
+  module _ {k₁ : ℕ} {vs₁ : List ℕ} (A₁ : PartPushed n vs s₀ (prefix_at vs p nodes x) k₁ vs₁) where
+    V₁ : VertsPushed n vs p (filled (prefix_at vs p nodes x)) k₁ vs₁
     V₁ = A₁.is p (part-own p s₀ x at₁)
 
     k₁-is : k₁ ≡ n + bit (ltb 0 x)
@@ -112,14 +112,14 @@ module _ {n : ℕ} {vs p nodes : List ℕ} {c x y : ℕ} (F : Vertable n vs p no
 
     pub part₂ : {s l k₂ : ℕ} {vs₂ : List ℕ} → s ≡ s₀ → l ≡ l₀
         → PartPushed k₁ vs₁ (s + l - y) (take (s + l - (s + l - y)) (drop (s + l - y) p)) k₂ vs₂
-        → PartPushed k₁ vs₁ (s₀ + l₀ - y) (suffixAt vs p nodes y) k₂ vs₂
+        → PartPushed k₁ vs₁ (s₀ + l₀ - y) (suffix_at vs p nodes y) k₂ vs₂
     part₂ {s} {l} {k₂} {vs₂} es el A =
         let z : s + l - (s + l - y) ≡ y = omega (arith, long₀) in
         subst (λ (q : List ℕ). PartPushed k₁ vs₁ (s₀ + l₀ - y) q k₂ vs₂) (λ i. take (z i) (drop (es i + el i - y) p))
         (subst (λ (t : ℕ). PartPushed k₁ vs₁ t (take (s + l - (s + l - y)) (drop (s + l - y) p)) k₂ vs₂) (from_is es el) A)
 
-    module _ {k₂ : ℕ} {vs₂ : List ℕ} (A₂ : PartPushed k₁ vs₁ (s₀ + l₀ - y) (suffixAt vs p nodes y) k₂ vs₂) where
-      V₂ : VertsPushed k₁ vs₁ p (filled (suffixAt vs p nodes y)) k₂ vs₂
+    module _ {k₂ : ℕ} {vs₂ : List ℕ} (A₂ : PartPushed k₁ vs₁ (s₀ + l₀ - y) (suffix_at vs p nodes y) k₂ vs₂) where
+      V₂ : VertsPushed k₁ vs₁ p (filled (suffix_at vs p nodes y)) k₂ vs₂
       V₂ = A₂.is p (part-own p (s₀ + l₀ - y) y at₂)
 
       k₂-is : k₂ ≡ k₁ + bit (ltb 0 y)
@@ -133,7 +133,7 @@ module _ {n : ℕ} {vs p nodes : List ℕ} {c x y : ℕ} (F : Vertable n vs p no
       len-same i h = V₂.same (2 * get_or nodes i 0 + 1) (omega (arith, F.parts.below i h, k₁-is))
           ∙ V₁.same (2 * get_or nodes i 0 + 1) (omega (arith, F.parts.below i h))
 
-      left_is : leftNodes vs₂ (x + y) nodes c ≡ left
+      left_is : left_nodes vs₂ (x + y) nodes c ≡ left
       left_is = left-kept vs vs₂ nodes (x + y) c len-same
 
       pub rests : Restables k₂ vs₂ p nodes c x y
@@ -146,9 +146,9 @@ module _ {n : ℕ} {vs p nodes : List ℕ} {c x y : ℕ} (F : Vertable n vs p no
         long = λ i h. omega (arith, F.long i h, len-same i h);
       }
 
-      rests-same : map (rest_of vs₂ p x y) (leftNodes vs₂ (x + y) nodes c) ≡ map (rest_of vs p x y) left
+      rests-same : map (rest_of vs₂ p x y) (left_nodes vs₂ (x + y) nodes c) ≡ map (rest_of vs p x y) left
       rests-same = ap (map (rest_of vs₂ p x y)) left_is ∙ map_same (rest_of vs₂ p x y) (rest_of vs p x y) left (λ v k.
-          let r = of-mem-tab c (λ (i : ℕ). get_or nodes i 0) (of-keepIf (leaves vs (x + y)) (numsIn c nodes) k).0 in
+          let r = of-mem-tab c (λ (i : ℕ). get_or nodes i 0) (of-keep_if (leaves vs (x + y)) (nums_in c nodes) k).0 in
           rw r.2 (λ i. part p (start-same r.0 r.1 i + x) (len-same r.0 r.1 i - y - x)))
 
       pub verts-added : {k₃ : ℕ} {vs₃ : List ℕ} → RestsPushed k₂ vs₂ p nodes c x y k₃ vs₃
@@ -156,7 +156,7 @@ module _ {n : ℕ} {vs p nodes : List ℕ} {c x y : ℕ} (F : Vertable n vs p no
       verts-added {k₃} {vs₃} A₃ = record {
         suffix = omega (arith, k₁-is);
         middles = omega (arith, k₂-is);
-        all = omega (arith, A₃.is.count, length-map (leftNodes vs₂ (x + y) nodes c) (rest_of vs₂ p x y), ap length left_is);
+        all = omega (arith, A₃.is.count, length-map (left_nodes vs₂ (x + y) nodes c) (rest_of vs₂ p x y), ap length left_is);
         is = verts-then V₁ (verts-then V₂ (subst (λ (z : List (List ℕ)). VertsPushed k₂ vs₂ p z k₃ vs₃) rests-same A₃.is));
         within = λ used w.
             let b = w.at (get_or nodes 0 0) (F.parts.below 0 some) in

@@ -2,11 +2,11 @@
 // (`split_and_update`). New vertices and edges stand behind the old ones; then the middles go.
 ghost use Rattle.std.specs.Prelude.{◌≡◌, cond, ◌&&◌, ◌+◌, ◌*◌, ◌-◌, ◌<◌, ◌≤◌, eqb, length};
 ghost use Rattle.defs.specs.Lists.{bit};
-ghost use Rattle.defs.specs.SeqGraph.{joinedData};
-ghost use Rattle.edge_data.specs.EdgeData.{carriedData};
-ghost use Rattle.store.specs.Store.{putEdge, part};
-ghost use Rattle.split_and_update.specs.Pushed.{PartPushed, Restables, RestsPushed, leftNodes};
-ghost use Rattle.split_and_update.specs.Ends.{Entered, endCarried, Mids, DirectIs, anyRef, plansOf, EdgeIfPushed, MidsPushed, Edgeable, EdgesAdded};
+ghost use Rattle.defs.specs.SeqGraph.{joined_data};
+ghost use Rattle.edge_data.specs.EdgeData.{carried_data};
+ghost use Rattle.store.specs.Store.{put_edge, part};
+ghost use Rattle.split_and_update.specs.Pushed.{PartPushed, Restables, RestsPushed, left_nodes};
+ghost use Rattle.split_and_update.specs.Ends.{Entered, end_carried, Mids, DirectIs, any_ref, plans_of, EdgeIfPushed, MidsPushed, Edgeable, EdgesAdded};
 ghost use Rattle.split_and_update.specs.Split.{Vertable, VertsAdded, places_of, Splittable, SplitDone};
 
 use edge_data::Carried;
@@ -49,7 +49,7 @@ pub fn pick(test: bool, a: u32, b: u32) -> u32
 // What v's first edge at the end `off` carries. Where there is none: support 0, a reference edge where the edge into v is one, not capped.
 pub fn end_data(es: &[u32], m: usize, heads: &[u32], off: usize, v: u32) -> Carried
     requires { Entered m es.now heads.now off v }
-    ensures { result ≡ endCarried m es.now heads.now off v }
+    ensures { result ≡ end_carried m es.now heads.now off v }
 {
     let e = heads[2 * (v as usize) + off] as usize;
     if e < m {
@@ -131,7 +131,7 @@ pub fn mids_ref(
     off: usize,
 ) -> bool
     requires { (off ≤ 1) × Mids m es.now vs.now heads.now nodes.now c }
-    ensures { result ≡ anyRef off (plansOf m es.now heads.now (leftNodes vs.now cut nodes.now c)) }
+    ensures { result ≡ any_ref off (plans_of m es.now heads.now (left_nodes vs.now cut nodes.now c)) }
 {
     let mut any = false;
     let mut i = 0;
@@ -178,7 +178,7 @@ pub fn prefix_to_suffix(
 
 // An edge that is added twice is joined with itself.
 pub fn twice_if(test: bool, d: Carried) -> Carried
-    ensures { carriedData result ≡ cond test (joinedData (carriedData d) (carriedData d)) (carriedData d) }
+    ensures { carried_data result ≡ cond test (joined_data (carried_data d) (carried_data d)) (carried_data d) }
 {
     if test { edge_data::joined(d, d) } else { d }
 }
@@ -186,7 +186,7 @@ pub fn twice_if(test: bool, d: Carried) -> Carried
 // Stores an edge between u and the middle j at k: from u to j at the end 1, from j to u at the end 0.
 pub fn put_mid_edge(es: &mut [u32], k: usize, off: usize, u: u32, j: u32, s: u32, f: u32)
     requires { 4 * k + 4 ≤ length es.old }
-    ensures { es.new ≡ cond (eqb off 1) (putEdge es.old k u j s f) (putEdge es.old k j u s f) }
+    ensures { es.new ≡ cond (eqb off 1) (put_edge es.old k u j s f) (put_edge es.old k j u s f) }
 {
     if off == 1 {
         store::put_edge(es, k, u, j, s, f);
@@ -210,7 +210,7 @@ pub fn push_mid_edges(
     first: u32,
 ) -> usize
     requires off_bound { (off ≤ 1) × ((m ≤ k) × ((first + c < 4294967296) × Mids m es.old vs.now heads.now nodes.now c)) }
-    requires c_in_bounds { 4 * (k + length (leftNodes vs.now cut nodes.now c)) ≤ length es.old }
+    requires c_in_bounds { 4 * (k + length (left_nodes vs.now cut nodes.now c)) ≤ length es.old }
     ensures { MidsPushed m k es.old vs.now heads.now nodes.now c cut off u first result es.new }
 {
     let mut at = k;

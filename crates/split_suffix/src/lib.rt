@@ -2,7 +2,7 @@
 ghost use Rattle.std.specs.Prelude.{◌≡◌, ◌+◌, ◌*◌, ◌-◌, ◌<◌, get_or};
 ghost use Rattle.index.specs.Index.{Indexed};
 ghost use Rattle.memory.specs.Memory.{Room, Holds};
-ghost use Rattle.split_suffix.specs.Split.{entryNumber, Linkable, LinksDone, BlockReady, BlockDone, SplitEdgesReady, SplitEdgesDone};
+ghost use Rattle.split_suffix.specs.Split.{entry_number, Linkable, LinksDone, BlockReady, BlockDone, SplitEdgesReady, SplitEdgesDone};
 ghost use Rattle.split_suffix.specs.Split.{Cuttable, CutDone, VertsReady, VertsDone, Ending, SplitTried};
 
 use memory::{Held, Tried};
@@ -11,7 +11,7 @@ use split_tests::OptionSuffix;
 // The vertex that takes over the edges into a predecessor, where y is its suffix vertex.
 fn entry_of(prefix: bool, y: u32) -> u32
     requires { y + 1 < 4294967296 }
-    ensures { result ≡ entryNumber prefix y }
+    ensures { result ≡ entry_number prefix y }
 {
     if prefix { y + 1 } else { y }
 }

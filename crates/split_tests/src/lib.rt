@@ -1,10 +1,10 @@
 // When the predecessors of a vertex are split by the suffix that they share. Each test follows the lists of the index.
 ghost use Rattle.std.specs.Prelude.{◌≡◌, ◌+◌, ◌*◌, ◌<◌, ◌≤◌, length};
 ghost use Rattle.defs.specs.Lists.{all_of};
-ghost use Rattle.store.specs.Store.{numsIn};
+ghost use Rattle.store.specs.Store.{nums_in};
 ghost use Rattle.compact.specs.Compact.{Below};
 ghost use Rattle.index.specs.Index.{Indexed};
-ghost use Rattle.split_tests.specs.SplitTests.{oneOut, isLong, SplitTestable, Eliminates, Splits};
+ghost use Rattle.split_tests.specs.SplitTests.{one_out, is_long, SplitTestable, Eliminates, Splits};
 
 // The suffix that the predecessors of a vertex are split by, as its length, or none.
 #[derive(Drop)]
@@ -24,7 +24,7 @@ fn all_one_out(
     c: usize,
 ) -> bool
     requires { Below nodes.now c n × Indexed m n es.now heads.now nexts.now }
-    ensures { result ≡ all_of (oneOut m es.now) (numsIn c nodes.now) }
+    ensures { result ≡ all_of (one_out m es.now) (nums_in c nodes.now) }
 {
     let mut i = 0;
     while i < c {
@@ -65,7 +65,7 @@ pub fn would_eliminate_ref_source(
 // Whether each of the first c of `nodes` has s bytes.
 fn all_long(vs: &[u32], n: usize, nodes: &[u32], c: usize, s: usize) -> bool
     requires { (2 * n ≤ length vs.now) × Below nodes.now c n }
-    ensures { result ≡ all_of (isLong vs.now s) (numsIn c nodes.now) }
+    ensures { result ≡ all_of (is_long vs.now s) (nums_in c nodes.now) }
 {
     let mut i = 0;
     while i < c {

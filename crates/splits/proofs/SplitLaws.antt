@@ -12,23 +12,23 @@ use lib.Seq.{get_or-set_same, get_or-set_other}
 use lib.Dec.{eqb}
 use borrow.Author.Tests.{eqb-true, eqb-false}
 use Rattle.defs.specs.Lists.{rank, elem_of}
-use Rattle.defs.specs.SeqGraph.{Graph, nodeCount, incomingNodes, keeps, remapNumbers, withAdditions, applyChange, removeVerticesById}
-use Rattle.defs.specs.Rewrites.{splitsSuffix, splitChange, trySplitCommonSuffix}
-use Rattle.defs.specs.Simplify.{Split, firstSplit, splitUntilComplete, fuelFor}
-use Rattle.laws.proofs.Walks.{byTest}
+use Rattle.defs.specs.SeqGraph.{Graph, node_count, incoming_nodes, keeps, remap_numbers, with_additions, apply_change, remove_vertices_by_id}
+use Rattle.defs.specs.Rewrites.{splits_suffix, split_change, try_split_common_suffix}
+use Rattle.defs.specs.Simplify.{Split, first_split, split_until_complete, fuel_for}
+use Rattle.laws.proofs.Walks.{by_test}
 use Rattle.laws.proofs.ListLaws.{clash, given-some, rank_mono}
 use Rattle.laws.proofs.Nets.{order-restrict}
 use Rattle.laws.proofs.Measures.{weight, order-weight, enough-is, Tame}
-use Rattle.laws.proofs.Bound.{firstSplit-tame}
-use Rattle.laws.proofs.Whole.{again, firstSplit-zero, firstSplit-tried, firstSplit-none, firstSplit-some, splitAll-none, splitAll-some}
+use Rattle.laws.proofs.Bound.{first_split-tame}
+use Rattle.laws.proofs.Whole.{again, first_split-zero, first_split-tried, first_split-none, first_split-some, split_all-none, split_all-some}
 use Rattle.tabs.proofs.Tabs.{one_less}
 use Rattle.tabs.proofs.Ranks.{rank_same}
 use Rattle.compact.specs.Compact.{Cleared}
 use Rattle.compact.proofs.CompactLaws.{order-in}
-use Rattle.store.specs.Store.{is_set, keptBy, Numbered}
+use Rattle.store.specs.Store.{is_set, kept_by, Numbered}
 use Rattle.store.proofs.EdgeLaws.{set_is, set-not}
 use Rattle.index.specs.Index.{Indexed, Indexable}
-use Rattle.memory.specs.Memory.{graph_of, workOf, vertexRoom, Room, Holds, Ready, Counted, Left}
+use Rattle.memory.specs.Memory.{graph_of, work_of, vertex_room, Room, Holds, Ready, Counted, Left}
 use Rattle.memory.specs.declared.Held.{Held}
 use Rattle.memory.specs.declared.Tried.{Tried}
 use Rattle.memory.specs.declared.Work.{Work}
@@ -39,30 +39,30 @@ use Rattle.splits.proofs.MarkLaws.{marks-after}
 
 -- ---- one split
 
-grown : (g : Graph) (v : ℕ) → nodeCount g ≤ nodeCount (withAdditions (splitChange g v) g)
-unfolding withAdditions nodeCount
-grown g v = omega (arith, length-append g.verts (splitChange g v).verts)
+grown : (g : Graph) (v : ℕ) → node_count g ≤ node_count (with_additions (split_change g v) g)
+unfolding with_additions node_count
+grown g v = omega (arith, length-append g.verts (split_change g v).verts)
 
 -- after a split there are at least the vertices that stay
-split-order : (g : Graph) (v : ℕ) (g' : Graph) → trySplitCommonSuffix g v ≡ some g' → rank (keeps (incomingNodes g v)) (nodeCount g) ≤ nodeCount g'
+split-order : (g : Graph) (v : ℕ) (g' : Graph) → try_split_common_suffix g v ≡ some g' → rank (keeps (incoming_nodes g v)) (node_count g) ≤ node_count g'
 split-order g v g' d =
-    let e : applyChange g (splitChange g v) ≡ g' = unfold trySplitCommonSuffix in (given-some (splitsSuffix g v) (applyChange g (splitChange g v)) g' d).1 in
-    omega (arith, ap nodeCount e, left, rank_mono (keeps (incomingNodes g v)) (nodeCount g) (nodeCount (withAdditions (splitChange g v) g)) (grown g v))
+    let e : apply_change g (split_change g v) ≡ g' = unfold try_split_common_suffix in (given-some (splits_suffix g v) (apply_change g (split_change g v)) g' d).1 in
+    omega (arith, ap node_count e, left, rank_mono (keeps (incoming_nodes g v)) (node_count g) (node_count (with_additions (split_change g v) g)) (grown g v))
   where
-    left : nodeCount (applyChange g (splitChange g v)) ≡ rank (keeps (incomingNodes g v)) (nodeCount (withAdditions (splitChange g v) g))
-    left = unfold applyChange removeVerticesById splitChange in (order-restrict (keeps (incomingNodes g v)) (withAdditions (splitChange g v) g))
+    left : node_count (apply_change g (split_change g v)) ≡ rank (keeps (incoming_nodes g v)) (node_count (with_additions (split_change g v) g))
+    left = unfold apply_change remove_vertices_by_id split_change in (order-restrict (keeps (incoming_nodes g v)) (with_additions (split_change g v) g))
 
 module _ {h : Held} {es vs p heads nexts : List ℕ} {v : ℕ} {r : Tried} {es' vs' mp' : List ℕ} (S : SplitTried h es vs p heads nexts v r es' vs' mp') where
   pub remarked-no : {tried : List ℕ} → r.done ≡ false → Remarked h es vs p heads nexts tried v r es' vs' tried
   remarked-no t = record { left = S.left; same = λ _. refl; marks = λ s. clash s t }
 
   -- the vertices that stay come first, the new ones behind them
-  pub kept-first : r.done ≡ true → rank (keptBy mp') h.n ≤ r.held.n
+  pub kept-first : r.done ≡ true → rank (kept_by mp') h.n ≤ r.held.n
   kept-first t =
-      let gone = incomingNodes (graph_of h es vs p) v in
+      let gone = incoming_nodes (graph_of h es vs p) v in
       omega (
         arith,
-        rank_same (keptBy mp') (keeps gone) h.n (λ u b. S.kept t u b),
+        rank_same (kept_by mp') (keeps gone) h.n (λ u b. S.kept t u b),
         split-order (graph_of h es vs p) v (graph_of r.held es' vs' p) (S.left.yes t),
         ap (rank (keeps gone)) (order-in h.k.0 h.n h.m es vs p),
         order-in r.held.k.0 r.held.n r.held.m es' vs' p,
@@ -73,7 +73,7 @@ module _ {h : Held} {es vs p heads nexts : List ℕ} {v : ℕ} {r : Tried} {es' 
   remarked-yes {tried} {tried₁} {tried'} {j} t M C = record {
     left = S.left;
     same = λ s. clash t s;
-    marks = λ _ list K. marks-after h.n r.held.n j mp' (incomingNodes (graph_of h es vs p) v) tried tried₁ tried' (S.kept t) M C
+    marks = λ _ list K. marks-after h.n r.held.n j mp' (incoming_nodes (graph_of h es vs p) v) tried tried₁ tried' (S.kept t) M C
         (omega (arith, M.count, kept-first t)) list K;
   }
 
@@ -83,10 +83,10 @@ module _ {h : Held} {es vs p heads nexts : List ℕ} {v : ℕ} {r : Tried} {es' 
 more-marks : {n : ℕ} {l list : List ℕ} (u : ℕ) → u < n → n ≤ length l → TriedMarks n l list → TriedMarks n (set l u 1) (u ∷ list)
 unfolding elem_of
 more-marks {n} {l} {list} u h r K = record {
-  at = λ v b. byTest (eqb v u)
+  at = λ v b. by_test (eqb v u)
       (λ t. rw (t, elem_of) (ap is_set (same_place v (eqb-true v u t))))
       (λ t. rw (t, elem_of) (ap is_set (get_or-set_other l u v 1 0 (eqb-false v u t)) ∙ K.at v b));
-  below = λ v. byTest (eqb v u)
+  below = λ v. by_test (eqb v u)
       (λ t e. rw (eqb-true v u t) h)
       (λ t. rw (t, elem_of) (λ e. K.below v e));
 }
@@ -97,7 +97,7 @@ more-marks {n} {l} {list} u h r K = record {
 pub record SplitsReached (g : Graph) (n : ℕ) (list tried : List ℕ) (v : ℕ) : Type 0 where
   pub now : List ℕ
   pub marks : TriedMarks n tried now
-  pub is : firstSplit g now v (n - v) ≡ firstSplit g list 0 n
+  pub is : first_split g now v (n - v) ≡ first_split g list 0 n
 
 pub record Splitting (h : Held) (es₀ vs₀ p nodes₀ mp₀ tried₀ es vs nodes mp tried : List ℕ) (v : ℕ) : Type 0 where
   pub high : v ≤ h.n
@@ -117,7 +117,7 @@ module _ {h : Held} {es₀ vs₀ p nodes₀ mp₀ tried₀ : List ℕ} where
     nodes-len = refl;
     mp-len = refl;
     tried-len = refl;
-    reached = λ list K. record { now = list; marks = K; is = ap (firstSplit (graph_of h es₀ vs₀ p) list 0) (omega arith) };
+    reached = λ list K. record { now = list; marks = K; is = ap (first_split (graph_of h es₀ vs₀ p) list 0) (omega arith) };
   }
 
   module _ {es vs nodes mp tried : List ℕ} {v : ℕ} (S : Splitting h es₀ vs₀ p nodes₀ mp₀ tried₀ es vs nodes mp tried v) where
@@ -141,17 +141,17 @@ module _ {h : Held} {es₀ vs₀ p nodes₀ mp₀ tried₀ : List ℕ} where
       reached = λ list K. let z = S.reached list K in record {
         now = z.now;
         marks = z.marks;
-        is = (λ j. firstSplit (graph_of h es₀ vs₀ p) z.now (add-one v j) (h.n - (v + 1)))
-            ∙ sym (firstSplit-tried (graph_of h es₀ vs₀ p) z.now v (h.n - (v + 1)) (sym (z.marks.at v b) ∙ set_is o))
-            ∙ ap (firstSplit (graph_of h es₀ vs₀ p) z.now v) (sym (one_less h.n v b)) ∙ z.is;
+        is = (λ j. first_split (graph_of h es₀ vs₀ p) z.now (add-one v j) (h.n - (v + 1)))
+            ∙ sym (first_split-tried (graph_of h es₀ vs₀ p) z.now v (h.n - (v + 1)) (sym (z.marks.at v b) ∙ set_is o))
+            ∙ ap (first_split (graph_of h es₀ vs₀ p) z.now v) (sym (one_less h.n v b)) ∙ z.is;
       };
     }
 
     module _ (b : v < h.n) (o : get_or tried v 0 ≡ 0) (room : h.n ≤ length tried₀) {heads nexts : List ℕ} {r : Tried} {es' vs' tried' : List ℕ}
         (R : Remarked h es vs p heads nexts (set tried v 1) v r es' vs' tried') where
-      left : Left (trySplitCommonSuffix (graph_of h es₀ vs₀ p) v) h es vs p heads nexts r es' vs' p
+      left : Left (try_split_common_suffix (graph_of h es₀ vs₀ p) v) h es vs p heads nexts r es' vs' p
       left = subst (λ (x : Option Graph). Left x h es vs p heads nexts r es' vs' p) (λ j.
-          trySplitCommonSuffix (graph_of h (S.same-es j) (S.same-vs j) p) v) R.left
+          try_split_common_suffix (graph_of h (S.same-es j) (S.same-vs j) p) v) R.left
 
       not_in : (list : List ℕ) → TriedMarks h.n tried list → elem_of v list ≡ false
       not_in list K = sym (K.at v b) ∙ set-not o
@@ -171,9 +171,9 @@ module _ {h : Held} {es₀ vs₀ p nodes₀ mp₀ tried₀ : List ℕ} where
         reached = λ list K. let z = S.reached list K in record {
           now = v ∷ z.now;
           marks = rw (R.same t) (marked z.now z.marks);
-          is = (λ j. firstSplit (graph_of h es₀ vs₀ p) (v ∷ z.now) (add-one v j) (h.n - (v + 1)))
-              ∙ sym (firstSplit-none (graph_of h es₀ vs₀ p) z.now v (h.n - (v + 1)) (not_in z.now z.marks) (left.no t))
-              ∙ ap (firstSplit (graph_of h es₀ vs₀ p) z.now v) (sym (one_less h.n v b)) ∙ z.is;
+          is = (λ j. first_split (graph_of h es₀ vs₀ p) (v ∷ z.now) (add-one v j) (h.n - (v + 1)))
+              ∙ sym (first_split-none (graph_of h es₀ vs₀ p) z.now v (h.n - (v + 1)) (not_in z.now z.marks) (left.no t))
+              ∙ ap (first_split (graph_of h es₀ vs₀ p) z.now v) (sym (one_less h.n v b)) ∙ z.is;
         };
       }
 
@@ -184,11 +184,11 @@ module _ {h : Held} {es₀ vs₀ p nodes₀ mp₀ tried₀ : List ℕ} where
         same-vs = λ s. clash t s;
         no = λ s. clash t s;
         yes = λ _ list K. let z = S.reached list K in record {
-          list = remapNumbers (incomingNodes (graph_of h es₀ vs₀ p) v) (v ∷ z.now);
-          is = sym z.is ∙ ap (firstSplit (graph_of h es₀ vs₀ p) z.now v) (one_less h.n v b)
-              ∙ firstSplit-some (graph_of h es₀ vs₀ p) z.now v (h.n - (v + 1)) (graph_of r.held es' vs' p) (not_in z.now z.marks)
+          list = remap_numbers (incoming_nodes (graph_of h es₀ vs₀ p) v) (v ∷ z.now);
+          is = sym z.is ∙ ap (first_split (graph_of h es₀ vs₀ p) z.now v) (one_less h.n v b)
+              ∙ first_split-some (graph_of h es₀ vs₀ p) z.now v (h.n - (v + 1)) (graph_of r.held es' vs' p) (not_in z.now z.marks)
               (left.yes t);
-          at = subst (λ (x : Graph). TriedMarks r.held.n tried' (remapNumbers (incomingNodes x v) (v ∷ z.now))) (λ j.
+          at = subst (λ (x : Graph). TriedMarks r.held.n tried' (remap_numbers (incoming_nodes x v) (v ∷ z.now))) (λ j.
               graph_of h (S.same-es j) (S.same-vs j) p) (R.marks t (v ∷ z.now) (marked z.now z.marks));
         };
         holds = λ s. left.holds s;
@@ -199,8 +199,8 @@ module _ {h : Held} {es₀ vs₀ p nodes₀ mp₀ tried₀ : List ℕ} where
       same = λ _. refl;
       same-es = λ _. S.same-es;
       same-vs = λ _. S.same-vs;
-      no = λ _ list K. let z = S.reached list K in sym z.is ∙ ap (firstSplit (graph_of h es₀ vs₀ p) z.now v) (nothing b)
-          ∙ firstSplit-zero (graph_of h es₀ vs₀ p) z.now v;
+      no = λ _ list K. let z = S.reached list K in sym z.is ∙ ap (first_split (graph_of h es₀ vs₀ p) z.now v) (nothing b)
+          ∙ first_split-zero (graph_of h es₀ vs₀ p) z.now v;
       yes = λ t. clash t refl;
       holds = λ t. clash t refl;
     }
@@ -221,7 +221,7 @@ pub record SplittingRound (w₀ : Work) (es₀ vs₀ p heads₀ : List ℕ) (w :
   pub marks : TriedMarks w.held.n tried list
   pub fuel : ℕ
   pub enough : weight (graph_of w.held es vs p) < fuel + w.held.n
-  pub is : splitUntilComplete fuel list (workOf w es vs p) ≡ splitUntilComplete (fuelFor (graph_of w₀.held es₀ vs₀ p)) [] (workOf w₀ es₀ vs₀ p)
+  pub is : split_until_complete fuel list (work_of w es vs p) ≡ split_until_complete (fuel_for (graph_of w₀.held es₀ vs₀ p)) [] (work_of w₀ es₀ vs₀ p)
   pub count : w.rewrites + w₀.held.n ≤ w₀.rewrites + w.held.n
 
 module _ {w₀ : Work} {es₀ vs₀ p heads₀ : List ℕ} where
@@ -232,7 +232,7 @@ module _ {w₀ : Work} {es₀ vs₀ p heads₀ : List ℕ} where
     heads-len = refl;
     list = [];
     marks = K;
-    fuel = fuelFor (graph_of w₀.held es₀ vs₀ p);
+    fuel = fuel_for (graph_of w₀.held es₀ vs₀ p);
     enough = omega (arith, enough-is (graph_of w₀.held es₀ vs₀ p));
     is = refl;
     count = omega arith;
@@ -243,7 +243,7 @@ module _ {w₀ : Work} {es₀ vs₀ p heads₀ : List ℕ} where
     abbrev G : Graph
     G = graph_of w.held es vs p
 
-    order_is : nodeCount G ≡ w.held.n
+    order_is : node_count G ≡ w.held.n
     order_is = order-in w.held.k.0 w.held.n w.held.m es vs p
 
     pub doing_end : {nodes' mp' : List ℕ} → r.done ≡ false → length nodes' ≡ length nodes → length mp' ≡ length mp
@@ -255,28 +255,28 @@ module _ {w₀ : Work} {es₀ vs₀ p heads₀ : List ℕ} where
         holds = rw (S.same-es t, S.same-vs t) D.ready.holds;
         indexed = rw (S.same-es t) D.ready.indexed;
       };
-      is = (λ j. workOf w (S.same-es t j) (S.same-vs t j) p) ∙ sym (stop D.fuel D.enough) ∙ D.is;
+      is = (λ j. work_of w (S.same-es t j) (S.same-vs t j) p) ∙ sym (stop D.fuel D.enough) ∙ D.is;
       most = omega (arith, D.count, held-vertices D.ready.holds);
     }
       where
-        stop : (fuel : ℕ) → weight G < fuel + w.held.n → splitUntilComplete fuel D.list (workOf w es vs p) ≡ workOf w es vs p
+        stop : (fuel : ℕ) → weight G < fuel + w.held.n → split_until_complete fuel D.list (work_of w es vs p) ≡ work_of w es vs p
         stop zero h = absurd (omega (arith, order-weight G, order_is))
-        stop (suc fuel) h = splitAll-none fuel D.list (workOf w es vs p) (ap (firstSplit G D.list 0) order_is ∙ S.no t D.list D.marks)
+        stop (suc fuel) h = split_all-none fuel D.list (work_of w es vs p) (ap (first_split G D.list 0) order_is ∙ S.no t D.list D.marks)
 
     module _ (t : r.done ≡ true) where
-      found : SplitFound (firstSplit G D.list 0 w.held.n) (graph_of r.held es' vs' p) r.held.n tried'
+      found : SplitFound (first_split G D.list 0 w.held.n) (graph_of r.held es' vs' p) r.held.n tried'
       found = S.yes t D.list D.marks
 
       step : Tame G (graph_of r.held es' vs' p) × (w.held.n < r.held.n)
       step =
-          let z = firstSplit-tame G D.list 0 w.held.n record { graph = graph_of r.held es' vs' p; tried = found.list }
+          let z = first_split-tame G D.list 0 w.held.n record { graph = graph_of r.held es' vs' p; tried = found.list }
           D.ready.holds.fit.good found.is in
           (z.0, omega (arith, z.1, order_is, order-in r.held.k.0 r.held.n r.held.m es' vs' p))
 
       pub doing-countable : Counted w₀.rewrites heads₀ → w.rewrites + 1 < 4294967296
       doing-countable C = omega (arith, D.count, step.1, C.small, held-vertices (S.holds t), D.heads-len)
 
-      pub doing-less : vertexRoom heads - r.held.n < vertexRoom heads - w.held.n
+      pub doing-less : vertex_room heads - r.held.n < vertex_room heads - w.held.n
       doing-less = omega (arith, step.1, held-vertices (S.holds t))
 
       pub doing-indexable : length es' ≡ length es → Indexable r.held.m r.held.n es' heads nexts
@@ -294,8 +294,8 @@ module _ {w₀ : Work} {es₀ vs₀ p heads₀ : List ℕ} where
           → SplittingRound w₀ es₀ vs₀ p heads₀ record { held = r.held; rewrites = w.rewrites + 1 } es' vs' heads' nexts' nodes' mp' tried'
       doing-more {heads'} {nexts'} {nodes'} {mp'} I a b d e f i = go D.fuel D.enough D.is
         where
-          go : (fuel : ℕ) → weight G < fuel + w.held.n → splitUntilComplete fuel D.list (workOf w es vs p)
-              ≡ splitUntilComplete (fuelFor (graph_of w₀.held es₀ vs₀ p)) [] (workOf w₀ es₀ vs₀ p)
+          go : (fuel : ℕ) → weight G < fuel + w.held.n → split_until_complete fuel D.list (work_of w es vs p)
+              ≡ split_until_complete (fuel_for (graph_of w₀.held es₀ vs₀ p)) [] (work_of w₀ es₀ vs₀ p)
               → SplittingRound w₀ es₀ vs₀ p heads₀ record { held = r.held; rewrites = w.rewrites + 1 } es' vs' heads' nexts' nodes' mp' tried'
           go zero h q = absurd (omega (arith, order-weight G, order_is))
           go (suc fuel) h q = record {
@@ -311,8 +311,8 @@ module _ {w₀ : Work} {es₀ vs₀ p heads₀ : List ℕ} where
             marks = found.at;
             fuel = fuel;
             enough = omega (arith, step.0.light, step.1);
-            is = (λ j. splitUntilComplete fuel found.list record { graph = graph_of r.held es' vs' p; rewrites = add-one w.rewrites j })
-                ∙ sym (splitAll-some fuel D.list (workOf w es vs p) record { graph = graph_of r.held es' vs' p; tried = found.list }
-                (ap (firstSplit G D.list 0) order_is ∙ found.is)) ∙ q;
+            is = (λ j. split_until_complete fuel found.list record { graph = graph_of r.held es' vs' p; rewrites = add-one w.rewrites j })
+                ∙ sym (split_all-some fuel D.list (work_of w es vs p) record { graph = graph_of r.held es' vs' p; tried = found.list }
+                (ap (first_split G D.list 0) order_is ∙ found.is)) ∙ q;
             count = omega (arith, D.count, step.1);
           }

@@ -2,11 +2,11 @@
 use Rattle.std.specs.Prelude.{◌≡◌, Bool, true, false, List, [], ℕ, ◌+◌, ◌*◌, ◌≤◌, ◌<◌, length, get_or}
 use Rattle.std.proofs.Math.Option.{Option, none, some}
 use Rattle.defs.specs.Lists.{rank, elem_of}
-use Rattle.defs.specs.SeqGraph.{Graph, incomingNodes, keeps, remapNumbers}
-use Rattle.defs.specs.Rewrites.{trySplitCommonSuffix}
-use Rattle.defs.specs.Simplify.{Split, firstSplit, splitUntilComplete, fuelFor}
-use Rattle.store.specs.Store.{is_set, keptBy, Numbered}
-use Rattle.memory.specs.Memory.{graph_of, workOf, vertexRoom, Holds, Ready, Left}
+use Rattle.defs.specs.SeqGraph.{Graph, incoming_nodes, keeps, remap_numbers}
+use Rattle.defs.specs.Rewrites.{try_split_common_suffix}
+use Rattle.defs.specs.Simplify.{Split, first_split, split_until_complete, fuel_for}
+use Rattle.store.specs.Store.{is_set, kept_by, Numbered}
+use Rattle.memory.specs.Memory.{graph_of, work_of, vertex_room, Holds, Ready, Left}
 use Rattle.memory.specs.declared.Held.{Held}
 use Rattle.memory.specs.declared.Tried.{Tried}
 use Rattle.memory.specs.declared.Work.{Work}
@@ -22,14 +22,14 @@ pub record Movable (l : List ℕ) (n : ℕ) (mp : List ℕ) : Type 0 where
 
 -- the marks of those that stay stand at their new numbers
 pub record MarksMoved (l : List ℕ) (n : ℕ) (mp : List ℕ) (r : ℕ) (l' : List ℕ) : Type 0 where
-  pub count : r ≡ rank (keptBy mp) n
-  pub at : (v : ℕ) → v < n → keptBy mp v ≡ true → get_or l' (rank (keptBy mp) v) 0 ≡ get_or l v 0
+  pub count : r ≡ rank (kept_by mp) n
+  pub at : (v : ℕ) → v < n → kept_by mp v ≡ true → get_or l' (rank (kept_by mp) v) 0 ≡ get_or l v 0
 
 -- with the marks: as they were, or those of the list under its new numbers
 pub record Remarked (h : Held) (es vs p heads nexts tried : List ℕ) (v : ℕ) (r : Tried) (es' vs' tried' : List ℕ) : Type 0 where
-  pub left : Left (trySplitCommonSuffix (graph_of h es vs p) v) h es vs p heads nexts r es' vs' p
+  pub left : Left (try_split_common_suffix (graph_of h es vs p) v) h es vs p heads nexts r es' vs' p
   pub same : r.done ≡ false → tried' ≡ tried
-  pub marks : r.done ≡ true → (list : List ℕ) → TriedMarks h.n tried list → TriedMarks r.held.n tried' (remapNumbers (incomingNodes (graph_of h es vs p) v) list)
+  pub marks : r.done ≡ true → (list : List ℕ) → TriedMarks h.n tried list → TriedMarks r.held.n tried' (remap_numbers (incoming_nodes (graph_of h es vs p) v) list)
 
 -- a split that was found: its graph, and the marks of its list
 pub record SplitFound (o : Option Split) (g : Graph) (n : ℕ) (marks : List ℕ) : Type 0 where
@@ -42,13 +42,13 @@ pub record SplitFirst (h : Held) (es vs p heads nexts tried : List ℕ) (r : Tri
   pub same : r.done ≡ false → r.held ≡ h
   pub same-es : r.done ≡ false → es' ≡ es
   pub same-vs : r.done ≡ false → vs' ≡ vs
-  pub no : r.done ≡ false → (list : List ℕ) → TriedMarks h.n tried list → firstSplit (graph_of h es vs p) list 0 h.n ≡ none
+  pub no : r.done ≡ false → (list : List ℕ) → TriedMarks h.n tried list → first_split (graph_of h es vs p) list 0 h.n ≡ none
   pub yes : r.done ≡ true → (list : List ℕ) → TriedMarks h.n tried list
-      → SplitFound (firstSplit (graph_of h es vs p) list 0 h.n) (graph_of r.held es' vs' p) r.held.n tried'
+      → SplitFound (first_split (graph_of h es vs p) list 0 h.n) (graph_of r.held es' vs' p) r.held.n tried'
   pub holds : r.done ≡ true → Holds r.held es' vs' p heads nexts
 
 -- all splits of a round, from the vertices of `list` tried
 pub record SplitAll (w : Work) (es vs p : List ℕ) (r : Work) (es' vs' heads' nexts' nodes' mp' : List ℕ) : Type 0 where
   pub ready : Ready 4 r.held es' vs' p heads' nexts' nodes' mp'
-  pub is : workOf r es' vs' p ≡ splitUntilComplete (fuelFor (graph_of w.held es vs p)) [] (workOf w es vs p)
-  pub most : r.rewrites ≤ w.rewrites + vertexRoom heads'
+  pub is : work_of r es' vs' p ≡ split_until_complete (fuel_for (graph_of w.held es vs p)) [] (work_of w es vs p)
+  pub most : r.rewrites ≤ w.rewrites + vertex_room heads'

@@ -1,6 +1,6 @@
 // Splits: each vertex is tried once in a round; the marks of tried vertices follow their vertices through a rewrite.
 ghost use Rattle.std.specs.Prelude.{◌≡◌, ℕ, ◌+◌, ◌*◌, ◌<◌, ◌≤◌, length, get_or};
-ghost use Rattle.memory.specs.Memory.{graph_of, vertexRoom, Ready, Counted};
+ghost use Rattle.memory.specs.Memory.{graph_of, vertex_room, Ready, Counted};
 ghost use Rattle.splits.specs.Splits.{Movable, MarksMoved, Remarked, SplitFirst, SplitAll};
 
 use memory::{Held, Tried, Work};
@@ -37,7 +37,7 @@ fn split_at(
     v: usize,
 ) -> Tried
     requires { Ready 4 held es.old vs.old p.now heads.now nexts.now nodes.old map.old
-        × ((v < held.n) × (vertexRoom heads.now ≤ length tried.old)) }
+        × ((v < held.n) × (vertex_room heads.now ≤ length tried.old)) }
     ensures { Remarked held es.old vs.old p.now heads.now nexts.now
         tried.old v result es.new vs.new tried.new }
 {
@@ -64,7 +64,7 @@ fn first_split(
     map: &mut [u32],
     tried: &mut [u8],
 ) -> Tried
-    requires { Ready 4 held es.old vs.old p.now heads.now nexts.now nodes.old map.old × (vertexRoom heads.now ≤ length tried.old) }
+    requires { Ready 4 held es.old vs.old p.now heads.now nexts.now nodes.old map.old × (vertex_room heads.now ≤ length tried.old) }
     ensures { SplitFirst held es.old vs.old p.now heads.now nexts.now
         tried.old result es.new vs.new tried.new }
 {
@@ -101,7 +101,7 @@ pub fn split_until_complete(
     tried: &mut [u8],
 ) -> Work
     requires { Ready 4 work.held es.old vs.old p.now heads.old nexts.old nodes.old map.old
-        × (Counted work.rewrites heads.old × (vertexRoom heads.old ≤ length tried.old)) }
+        × (Counted work.rewrites heads.old × (vertex_room heads.old ≤ length tried.old)) }
     ensures { SplitAll work es.old vs.old p.now result es.new vs.new
         heads.new nexts.new nodes.new map.new }
 {

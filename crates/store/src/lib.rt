@@ -2,9 +2,9 @@
 // pool and how long it is. The pool: the sequences' bytes. Only the functions here read and write an edge's or a vertex's numbers where
 // they stand; other crates call them, and name the places only in contracts.
 ghost use Rattle.std.specs.Prelude.{◌≡◌, ℕ, ◌+◌, ◌*◌, ◌<◌, ◌≤◌, length, get_or, set};
-ghost use Rattle.defs.specs.SeqGraph.{Edge, hasEnds, addOrUpdateEdge};
-ghost use Rattle.edge_data.specs.EdgeData.{carriedData};
-ghost use Rattle.store.specs.Store.{edgeIn, edgesIn, putEdge, putVertex, Joinable, carriedAt};
+ghost use Rattle.defs.specs.SeqGraph.{Edge, has_ends, add_or_update_edge};
+ghost use Rattle.edge_data.specs.EdgeData.{carried_data};
+ghost use Rattle.store.specs.Store.{edge_in, edges_in, put_edge, put_vertex, Joinable, carried_at};
 
 use edge_data::Carried;
 
@@ -38,14 +38,14 @@ pub fn edge_flag(es: &[u32], i: usize) -> u32
 
 pub fn edge_is_ref(es: &[u32], i: usize) -> bool
     requires { 4 * i + 4 ≤ length es.now }
-    ensures { result ≡ (edgeIn es.now i).isRef }
+    ensures { result ≡ (edge_in es.now i).is_ref }
 {
     edge_data::flag_is_ref(edge_flag(es, i))
 }
 
 pub fn edge_is_capped(es: &[u32], i: usize) -> bool
     requires { 4 * i + 4 ≤ length es.now }
-    ensures { result ≡ (edgeIn es.now i).capped }
+    ensures { result ≡ (edge_in es.now i).capped }
 {
     edge_data::flag_is_capped(edge_flag(es, i))
 }
@@ -53,7 +53,7 @@ pub fn edge_is_capped(es: &[u32], i: usize) -> bool
 // What edge i carries: its support and its flag as they are.
 pub fn carried(es: &[u32], i: usize) -> Carried
     requires { 4 * i + 4 ≤ length es.now }
-    ensures { result ≡ carriedAt es.now i }
+    ensures { result ≡ carried_at es.now i }
 {
     Carried {
         support: edge_support(es, i),
@@ -71,7 +71,7 @@ pub fn edge_end(es: &[u32], i: usize, off: usize) -> u32
 
 pub fn put_edge(es: &mut [u32], i: usize, a: u32, b: u32, s: u32, r: u32)
     requires { 4 * i + 4 ≤ length es.old }
-    ensures { es.new ≡ putEdge es.old i a b s r }
+    ensures { es.new ≡ put_edge es.old i a b s r }
 {
     es[4 * i] = a;
     es[4 * i + 1] = b;
@@ -117,7 +117,7 @@ pub fn vertex_len(vs: &[u32], v: u32) -> usize
 
 pub fn put_vertex(vs: &mut [u32], v: usize, start: u32, len: u32)
     requires { 2 * v + 2 ≤ length vs.old }
-    ensures { vs.new ≡ putVertex vs.old v start len }
+    ensures { vs.new ≡ put_vertex vs.old v start len }
 {
     vs[2 * v] = start;
     vs[2 * v + 1] = len;
@@ -134,7 +134,7 @@ pub fn put_start(vs: &mut [u32], v: usize, start: u32)
 // number of edges.
 pub fn add_or_update_edge(es: &mut [u32], m: usize, at: usize, a: u32, b: u32, d: Carried) -> usize
     requires { Joinable m es.old at a b }
-    ensures { (result ≤ m + 1) × (edgesIn result es.new ≡ addOrUpdateEdge a b (carriedData d) (edgesIn m es.old)) }
+    ensures { (result ≤ m + 1) × (edges_in result es.new ≡ add_or_update_edge a b (carried_data d) (edges_in m es.old)) }
 {
     if at < m {
         let j = edge_data::joined(carried(es, at), d);

@@ -1,6 +1,6 @@
 -- The promise of the string calls. Assumes nothing.
 use Rattle.std.specs.Prelude.{◌≡◌, List, ℕ, ◌≤◌, length}
-use Rattle.defs.specs.Forms.{formOf, limits}
+use Rattle.defs.specs.Forms.{form_of, limits}
 use Rattle.defs.specs.Calls as D
 use Rattle.calls.specs.Answers.{answer_of}
 use Rattle.calls.specs.declared.Answer.{Answer}
@@ -10,4 +10,4 @@ use Rattle.calls.specs.declared.Answer.{Answer}
 pub record TellsBytes (bs : List ℕ) (x : D.Response) (out : List ℕ) (r : Answer) (out' : List ℕ) : Type 0 where
   pub answer : answer_of r ≡ D.answer x
   pub written : out' ≡ D.written_of x out
-  pub room : (limits (formOf bs)).bytes ≤ length out → r.number ≡ 11 → ⊥
+  pub room : (limits (form_of bs)).bytes ≤ length out → r.number ≡ 11 → ⊥

@@ -9,11 +9,11 @@ use native.Mathlib.Nat.{add-zero, zero-add}
 use native.Mathlib.Omega.{arith}
 use lib.ListN.{length}
 use lib.Dec.{eqb}
-use Rattle.defs.specs.Lists.{tab, tabFrom}
+use Rattle.defs.specs.Lists.{tab, tab_from}
 use Rattle.tabs.proofs.Tabs.{tab-snoc, tab-zero, length-tab}
-use Rattle.defs.specs.Lists.{keepIf, any_of, keepAt, head_or, elem_of, up_from}
-use Rattle.defs.specs.SeqGraph.{Edge, addOrUpdateEdges}
-use Rattle.laws.proofs.Walks.{byTest}
+use Rattle.defs.specs.Lists.{keep_if, any_of, keep_at, head_or, elem_of, up_from}
+use Rattle.defs.specs.SeqGraph.{Edge, add_or_update_edges}
+use Rattle.laws.proofs.Walks.{by_test}
 
 module _ {A : Type 0} where
   pub tab-append : (n c : ℕ) (f : ℕ → A) → tab (n + c) f ≡ tab n f ++ tab c (λ (i : ℕ). f (n + i))
@@ -26,52 +26,52 @@ module _ {A : Type 0} where
       ++ l) (sym (ap (λ (x : ℕ). tab x (λ (i : ℕ). f (n + i))) d ∙ tab-snoc c (λ (i : ℕ). f (n + i))))
 
   module _ (p : A → Bool) where
-    pub keepIf-append : (xs ys : List A) → keepIf p (xs ++ ys) ≡ keepIf p xs ++ keepIf p ys
-    unfolding keepIf
-    keepIf-append [] ys = refl
-    keepIf-append (x ∷ xs) ys = byTest (p x)
-        (λ t. rw (t) (ap (λ (l : List A). x ∷ l) (keepIf-append xs ys)))
-        (λ t. rw (t) (keepIf-append xs ys))
+    pub keep_if-append : (xs ys : List A) → keep_if p (xs ++ ys) ≡ keep_if p xs ++ keep_if p ys
+    unfolding keep_if
+    keep_if-append [] ys = refl
+    keep_if-append (x ∷ xs) ys = by_test (p x)
+        (λ t. rw (t) (ap (λ (l : List A). x ∷ l) (keep_if-append xs ys)))
+        (λ t. rw (t) (keep_if-append xs ys))
 
-    pub keepIf-tab-yes : (n : ℕ) (f : ℕ → A) → p (f n) ≡ true → keepIf p (tab (n + 1) f) ≡ keepIf p (tab n f) ++ (f n ∷ [])
-    unfolding keepIf
-    keepIf-tab-yes n f t = ap (keepIf p) (tab-snoc n f) ∙ keepIf-append (tab n f) (f n ∷ []) ∙ rw t
+    pub keep_if-tab-yes : (n : ℕ) (f : ℕ → A) → p (f n) ≡ true → keep_if p (tab (n + 1) f) ≡ keep_if p (tab n f) ++ (f n ∷ [])
+    unfolding keep_if
+    keep_if-tab-yes n f t = ap (keep_if p) (tab-snoc n f) ∙ keep_if-append (tab n f) (f n ∷ []) ∙ rw t
 
-    pub keepIf-tab-no : (n : ℕ) (f : ℕ → A) → p (f n) ≡ false → keepIf p (tab (n + 1) f) ≡ keepIf p (tab n f)
-    unfolding keepIf
-    keepIf-tab-no n f t = ap (keepIf p) (tab-snoc n f) ∙ keepIf-append (tab n f) (f n ∷ []) ∙ rw (t, append-nil)
+    pub keep_if-tab-no : (n : ℕ) (f : ℕ → A) → p (f n) ≡ false → keep_if p (tab (n + 1) f) ≡ keep_if p (tab n f)
+    unfolding keep_if
+    keep_if-tab-no n f t = ap (keep_if p) (tab-snoc n f) ∙ keep_if-append (tab n f) (f n ∷ []) ∙ rw (t, append-nil)
 
   module _ (p : ℕ → Bool) where
-    keepAt-append : (i : ℕ) (xs ys : List A) → keepAt p i (xs ++ ys) ≡ keepAt p i xs ++ keepAt p (i + length xs) ys
-    unfolding keepAt
-    keepAt-append i [] ys = rw add-zero
-    keepAt-append i (x ∷ xs) ys =
-        let ih : keepAt p (suc i) (xs ++ ys) ≡ keepAt p (suc i) xs ++ keepAt p (i + suc (length xs)) ys
-        = keepAt-append (suc i) xs ys ∙ ap (λ (k : ℕ). keepAt p (suc i) xs ++ keepAt p k ys) (omega arith) in
-        byTest (p i) (λ t. rw t (ap (λ (l : List A). x ∷ l) ih)) (λ t. rw t ih)
+    keep_at-append : (i : ℕ) (xs ys : List A) → keep_at p i (xs ++ ys) ≡ keep_at p i xs ++ keep_at p (i + length xs) ys
+    unfolding keep_at
+    keep_at-append i [] ys = rw add-zero
+    keep_at-append i (x ∷ xs) ys =
+        let ih : keep_at p (suc i) (xs ++ ys) ≡ keep_at p (suc i) xs ++ keep_at p (i + suc (length xs)) ys
+        = keep_at-append (suc i) xs ys ∙ ap (λ (k : ℕ). keep_at p (suc i) xs ++ keep_at p k ys) (omega arith) in
+        by_test (p i) (λ t. rw t (ap (λ (l : List A). x ∷ l) ih)) (λ t. rw t ih)
 
     at_length : (n : ℕ) (f : ℕ → A) → 0 + length (tab n f) ≡ n
     at_length n f = zero-add _ ∙ length-tab n f
 
-    pub keepAt-tab-yes : (n : ℕ) (f : ℕ → A) → p n ≡ true → keepAt p 0 (tab (n + 1) f) ≡ keepAt p 0 (tab n f) ++ (f n ∷ [])
-    unfolding keepAt
-    keepAt-tab-yes n f t = ap (keepAt p 0) (tab-snoc n f) ∙ keepAt-append 0 (tab n f) (f n ∷ []) ∙ rw (at_length n f, t)
+    pub keep_at-tab-yes : (n : ℕ) (f : ℕ → A) → p n ≡ true → keep_at p 0 (tab (n + 1) f) ≡ keep_at p 0 (tab n f) ++ (f n ∷ [])
+    unfolding keep_at
+    keep_at-tab-yes n f t = ap (keep_at p 0) (tab-snoc n f) ∙ keep_at-append 0 (tab n f) (f n ∷ []) ∙ rw (at_length n f, t)
 
-    pub keepAt-tab-no : (n : ℕ) (f : ℕ → A) → p n ≡ false → keepAt p 0 (tab (n + 1) f) ≡ keepAt p 0 (tab n f)
-    unfolding keepAt
-    keepAt-tab-no n f t = ap (keepAt p 0) (tab-snoc n f) ∙ keepAt-append 0 (tab n f) (f n ∷ []) ∙ rw (at_length n f, t, append-nil)
+    pub keep_at-tab-no : (n : ℕ) (f : ℕ → A) → p n ≡ false → keep_at p 0 (tab (n + 1) f) ≡ keep_at p 0 (tab n f)
+    unfolding keep_at
+    keep_at-tab-no n f t = ap (keep_at p 0) (tab-snoc n f) ∙ keep_at-append 0 (tab n f) (f n ∷ []) ∙ rw (at_length n f, t, append-nil)
 
-  any-tab-from : (p : A → Bool) (s n : ℕ) (f : ℕ → A) → any_of p (tabFrom s n f) ≡ any_of (λ (i : ℕ). p (f i)) (up_from s n)
-  unfolding any_of tabFrom up_from
+  any-tab-from : (p : A → Bool) (s n : ℕ) (f : ℕ → A) → any_of p (tab_from s n f) ≡ any_of (λ (i : ℕ). p (f i)) (up_from s n)
+  unfolding any_of tab_from up_from
   any-tab-from p s zero f = refl
-  any-tab-from p s (suc n) f = byTest (p (f s)) (λ t. rw (t, any_of)) (λ t. rw (t, any_of) (any-tab-from p (suc s) n f))
+  any-tab-from p s (suc n) f = by_test (p (f s)) (λ t. rw (t, any_of)) (λ t. rw (t, any_of) (any-tab-from p (suc s) n f))
 
   -- a test of some member, by index
   pub any-tab : (p : A → Bool) (n : ℕ) (f : ℕ → A) → any_of p (tab n f) ≡ any_of (λ (i : ℕ). p (f i)) (up_from 0 n)
   any-tab p n f = any-tab-from p 0 n f
 
-  mem-tab-from : (s n : ℕ) (f : ℕ → A) (k : ℕ) → k < n → Memᴰ (f (s + k)) (tabFrom s n f)
-  unfolding tabFrom
+  mem-tab-from : (s n : ℕ) (f : ℕ → A) (k : ℕ) → k < n → Memᴰ (f (s + k)) (tab_from s n f)
+  unfolding tab_from
   mem-tab-from s zero f k h = absurd (omega arith)
   mem-tab-from s (suc n) f zero h = Memᴰ.head (ap f (add-zero s))
   mem-tab-from s (suc n) f (suc k) h = let e : s + suc k ≡ suc s + k = omega arith in rw e (Memᴰ.tail (mem-tab-from (suc s) n f k (omega arith)))
@@ -79,8 +79,8 @@ module _ {A : Type 0} where
   pub mem-tab : (n : ℕ) (f : ℕ → A) (k : ℕ) → k < n → Memᴰ (f k) (tab n f)
   mem-tab n f k h = rw zero-add at (mem-tab-from 0 n f k h)
 
-  pub of-mem-tab-from : (s n : ℕ) (f : ℕ → A) {x : A} → Memᴰ x (tabFrom s n f) → (k : ℕ) × (k < n) × (x ≡ f (s + k))
-  unfolding tabFrom
+  pub of-mem-tab-from : (s n : ℕ) (f : ℕ → A) {x : A} → Memᴰ x (tab_from s n f) → (k : ℕ) × (k < n) × (x ≡ f (s + k))
+  unfolding tab_from
   of-mem-tab-from s zero f m = absurd (Memᴰ.not-nil m)
   of-mem-tab-from s (suc n) f {x} m = ⊎_elim
       (λ (e : x ≡ f s). (0, omega arith, e ∙ ap f (sym (add-zero s))))
@@ -90,16 +90,16 @@ module _ {A : Type 0} where
   pub of-mem-tab : (n : ℕ) (f : ℕ → A) {x : A} → Memᴰ x (tab n f) → (k : ℕ) × (k < n) × (x ≡ f k)
   of-mem-tab n f m = let r = of-mem-tab-from 0 n f m in (r.0, r.1, r.2 ∙ ap f (zero-add _))
 
-pub raiseAll-none : (es : List Edge) → addOrUpdateEdges [] es ≡ es
-unfolding addOrUpdateEdges
-raiseAll-none es = refl
+pub raise_all-none : (es : List Edge) → add_or_update_edges [] es ≡ es
+unfolding add_or_update_edges
+raise_all-none es = refl
 
-pub elemOf-snoc : (v : ℕ) (xs : List ℕ) (y : ℕ) → elem_of v (xs ++ (y ∷ [])) ≡ elem_of v xs || eqb v y
+pub elem_of-snoc : (v : ℕ) (xs : List ℕ) (y : ℕ) → elem_of v (xs ++ (y ∷ [])) ≡ elem_of v xs || eqb v y
 unfolding elem_of
-elemOf-snoc v [] y = byTest (eqb v y) (λ t. rw (t, elem_of)) (λ t. rw (t, elem_of))
-elemOf-snoc v (x ∷ xs) y = byTest (eqb v x) (λ t. rw (t, elem_of)) (λ t. rw (t, elem_of) (elemOf-snoc v xs y))
+elem_of-snoc v [] y = by_test (eqb v y) (λ t. rw (t, elem_of)) (λ t. rw (t, elem_of))
+elem_of-snoc v (x ∷ xs) y = by_test (eqb v x) (λ t. rw (t, elem_of)) (λ t. rw (t, elem_of) (elem_of-snoc v xs y))
 
 pub head-tab : (n : ℕ) (f : ℕ → ℕ) → 0 < n → head_or 0 (tab n f) ≡ f 0
-unfolding head_or tabFrom
+unfolding head_or tab_from
 head-tab zero f h = absurd (omega arith)
 head-tab (suc n) f h = refl

@@ -7,8 +7,8 @@ use native.Mathlib.Numerals.{add-one}
 use native.Mathlib.Omega.{arith}
 use native.Mathlib.Decide.{ℕ_discrete}
 use lib.ListN.{length, length-append}
-use Rattle.defs.specs.Lists.{tab, tabFrom, sum, concat}
-use Rattle.defs.specs.Simplify.{sequenceBytes}
+use Rattle.defs.specs.Lists.{tab, tab_from, sum, concat}
+use Rattle.defs.specs.Simplify.{sequence_bytes}
 use Rattle.laws.proofs.Counts.{total}
 use Rattle.tabs.proofs.Tabs.{tab-snoc}
 
@@ -18,7 +18,7 @@ sum-snoc [] y = omega arith
 sum-snoc (x ∷ xs) y = omega (arith, sum-snoc xs y)
 
 pub sum-none : (f : ℕ → ℕ) → sum (tab 0 f) ≡ 0
-unfolding sum tabFrom
+unfolding sum tab_from
 sum-none f = refl
 
 pub sum_more : (n : ℕ) (f : ℕ → ℕ) → sum (tab (n + 1) f) ≡ sum (tab n f) + f n
@@ -48,8 +48,8 @@ pub sum-equal : (w n : ℕ) (f : ℕ → ℕ) → ((i : ℕ) → i < n → f i �
 sum-equal w n f h = omega (arith, sum-most w n f (λ i b. omega (arith, h i b)), sum-least w n f (λ i b. omega (arith, h i b)))
 
 -- the bytes of sequences, as a sum
-pub bytes-sum : (vs : List (List ℕ)) → sequenceBytes vs ≡ sum (map length vs)
-unfolding sequenceBytes sum
+pub bytes-sum : (vs : List (List ℕ)) → sequence_bytes vs ≡ sum (map length vs)
+unfolding sequence_bytes sum
 bytes-sum [] = refl
 bytes-sum (v ∷ vs) = ap (λ (n : ℕ). length v + n) (bytes-sum vs)
 
@@ -70,8 +70,8 @@ module _ {A : Type 0} where
   concat-snoc xs y = concat-append xs (y ∷ []) ∙ ap (λ (l : List A). concat xs ++ l) (append-nil y)
 
 module _ {A B : Type 0} (f : A → B) where
-  map-tab-from : (s n : ℕ) (g : ℕ → A) → map f (tabFrom s n g) ≡ tabFrom s n (λ (i : ℕ). f (g i))
-  unfolding tabFrom
+  map-tab-from : (s n : ℕ) (g : ℕ → A) → map f (tab_from s n g) ≡ tab_from s n (λ (i : ℕ). f (g i))
+  unfolding tab_from
   map-tab-from s zero g = refl
   map-tab-from s (suc n) g = ap (λ (l : List B). f (g s) ∷ l) (map-tab-from (suc s) n g)
 
@@ -84,7 +84,7 @@ module _ (f : ℕ → List ℕ) where
   fields i = concat (tab i f)
 
   pub fields-none : concat (tab 0 f) ≡ []
-  unfolding concat tabFrom
+  unfolding concat tab_from
   fields-none = refl
 
   pub fields-more : (i : ℕ) → concat (tab (i + 1) f) ≡ concat (tab i f) ++ f i

@@ -2,6 +2,6 @@
 use Rattle.std.specs.Prelude.{ℕ, zero, suc, Bool, cond, List, [], ◌∷◌}
 
 -- the index of the first element that passes the test, or the length
-unfoldable pub firstIx : {A : Type 0} → (A → Bool) → List A → ℕ
-firstIx p [] = zero
-firstIx p (x ∷ xs) = cond (p x) zero (suc (firstIx p xs))
+unfoldable pub first_ix : {A : Type 0} → (A → Bool) → List A → ℕ
+first_ix p [] = zero
+first_ix p (x ∷ xs) = cond (p x) zero (suc (first_ix p xs))

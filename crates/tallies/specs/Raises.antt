@@ -2,7 +2,7 @@
 use Rattle.std.specs.Prelude.{◌≡◌, List, [], ◌∷◌, map, ℕ}
 use Rattle.defs.specs.Tallies as D
 use Rattle.defs.specs.Tallies.{CountedCall, tallied, after_call}
-use Rattle.defs.specs.Sequence.{TalliedCall, countedBy}
+use Rattle.defs.specs.Sequence.{TalliedCall, counted_by}
 use Rattle.tallies.specs.declared.Tally.{Tally}
 use Rattle.tallies.specs.declared.Tallies.{Tallies}
 
@@ -10,8 +10,8 @@ use Rattle.tallies.specs.declared.Tallies.{Tallies}
 abbrev pub tally_of : Tally → D.Tally
 tally_of t = record { answered = t.answered; refused = t.refused; rewrites = t.rewrites }
 
-abbrev pub talliesOf : Tallies → List D.Tally
-talliesOf table = map tally_of table.callers
+abbrev pub tallies_of : Tallies → List D.Tally
+tallies_of table = map tally_of table.callers
 
 abbrev pub counted : ℕ → ℕ → ℕ → CountedCall
 counted caller number rewrites = record { caller = caller; number = number; rewrites = rewrites }
@@ -22,9 +22,9 @@ pub record TalliesCall (number rewrites : ℕ) (t t' : Tally) : Type 0 where
 
 -- The table at exit is the definition's, all sixteen entries.
 pub record Raises (c : CountedCall) (table table' : Tallies) : Type 0 where
-  pub is : talliesOf table' ≡ after_call c (talliesOf table)
+  pub is : tallies_of table' ≡ after_call c (tallies_of table)
 
 -- Calls one after another on one table: each leaves it as the promise of its call says.
 unfoldable pub Leaves : List TalliedCall → Tallies → Tallies → Type 0
 Leaves [] table table' = table' ≡ table
-Leaves (call ∷ calls) table table' = (between : Tallies) × (Raises (countedBy call) table between × Leaves calls between table')
+Leaves (call ∷ calls) table table' = (between : Tallies) × (Raises (counted_by call) table between × Leaves calls between table')

@@ -12,7 +12,7 @@ use borrow.Author.Tests.{ltb-true}
 use mir.Syntax.{w32}
 use mir.Val.{Fits, SFits, to_z, of_z}
 use mir.Facts.{to_z-of_z, to_z_pos}
-use Rattle.defs.specs.Lists.{tabFrom}
+use Rattle.defs.specs.Lists.{tab_from}
 use Rattle.text.specs.Printed.{ascii, decimal, signed, surplus}
 use Rattle.text.specs.Put.{TextPut}
 use Rattle.text.proofs.TextLaws.{put_one, put_then, put_as, put-most}
@@ -61,7 +61,7 @@ same-cast (pos n) h t = (tt, record { fits = omega arith })
 same-cast (negsuc n) h t = let z : ◌≡◌ {A = ℕ} 0 1 = cc in absurd (omega arith)
 
 signed_below : (x : ℤ) → lt_z x (pos 0) ≡ true → (45 ∷ []) ++ decimal (nat_abs (pos 0 -ℤ x)) ≡ signed x
-unfolding signed ascii tabFrom
+unfolding signed ascii tab_from
 signed_below (pos n) t = absurd (omega (arith, ltb-true n 0 t))
 signed_below (negsuc n) t = let e : nat_abs (pos 0 -ℤ negsuc n) ≡ suc n = omega arith in ap (λ (k : ℕ). 45 ∷ decimal k) e
 

@@ -9,12 +9,12 @@ use lib.Dec.{ltb}
 use lib.ListN.{length, get_or, set, take, length-append}
 use lib.Seq.{sets, length-sets, take-suc, take_all, length-take-le}
 use borrow.Author.Tests.{ltb-true, ltb-false, lt-ltb, le-ltb, le-leb, lt-leb}
-use Rattle.defs.specs.Lists.{concat, tab, tabFrom}
-use Rattle.laws.proofs.Walks.{byTest}
+use Rattle.defs.specs.Lists.{concat, tab, tab_from}
+use Rattle.laws.proofs.Walks.{by_test}
 use Rattle.write_record.proofs.WriteLaws.{put-behind, Growing, growing-more}
-use Rattle.tabs.proofs.Tabs.{tab-getD}
+use Rattle.tabs.proofs.Tabs.{tab-get_or}
 use Rattle.tabs.proofs.SumTabs.{map-tab, fields-none, fields-more}
-use Rattle.text.specs.Printed.{ascii, digit, decimalBy, decimal, isLetter, printedByte, printedSequence}
+use Rattle.text.specs.Printed.{ascii, digit, decimal_by, decimal, is_letter, printed_byte, printed_sequence}
 use Rattle.text.specs.Put.{TextPut}
 
 -- ---- one behind the other
@@ -82,18 +82,18 @@ module _ {s text : List ℕ} {at : ℕ} {text' : List ℕ} {i : ℕ} (G : Growin
 
 -- ---- the bytes of a sequence
 
-pub each-is : (s : List ℕ) → concat (tab (length s) (λ (k : ℕ). printedByte (get_or s k 0))) ≡ concat (map printedByte s)
-each-is s = ap concat (sym (map-tab printedByte (length s) (λ (k : ℕ). get_or s k 0)) ∙ ap (map printedByte) (tab-getD s 0))
+pub each-is : (s : List ℕ) → concat (tab (length s) (λ (k : ℕ). printed_byte (get_or s k 0))) ≡ concat (map printed_byte s)
+each-is s = ap concat (sym (map-tab printed_byte (length s) (λ (k : ℕ). get_or s k 0)) ∙ ap (map printed_byte) (tab-get_or s 0))
 
 pub sequence-none : (s : List ℕ) {text text' : List ℕ} {at r : ℕ} → length s ≡ 0 → TextPut 1 (46 ∷ []) text at r text'
-    → TextPut (4 * length s + 1) (printedSequence s) text at r text'
-unfolding printedSequence ascii tabFrom
+    → TextPut (4 * length s + 1) (printed_sequence s) text at r text'
+unfolding printed_sequence ascii tab_from
 sequence-none [] q P = P
 sequence-none (b ∷ s) q P = absurd (omega arith)
 
 pub sequence-some : (s : List ℕ) {text text' : List ℕ} {at r : ℕ} → (length s ≡ 0 → ⊥)
-    → TextPut (4 * length s) (concat (map printedByte s)) text at r text' → TextPut (4 * length s + 1) (printedSequence s) text at r text'
-unfolding printedSequence
+    → TextPut (4 * length s) (concat (map printed_byte s)) text at r text' → TextPut (4 * length s + 1) (printed_sequence s) text at r text'
+unfolding printed_sequence
 sequence-some [] o P = absurd (o refl)
 sequence-some (b ∷ s) o P = put-most (omega arith) P
 
@@ -107,19 +107,19 @@ pub digit-high : {d : ℕ} → 10 ≤ d → 87 + d ≡ digit d
 unfolding digit
 digit-high {d} h = rw (le-ltb d 10 h)
 
-by_one : (f n : ℕ) → ltb n 10 ≡ true → decimalBy (suc f) n ≡ digit n ∷ []
-unfolding decimalBy
-by_one f n t = rw (t, decimalBy)
+by_one : (f n : ℕ) → ltb n 10 ≡ true → decimal_by (suc f) n ≡ digit n ∷ []
+unfolding decimal_by
+by_one f n t = rw (t, decimal_by)
 
-by-more : (f n : ℕ) → ltb n 10 ≡ false → decimalBy (suc f) n ≡ decimalBy f (n / 10) ++ (digit (n % 10) ∷ [])
-unfolding decimalBy
-by-more f n t = rw (t, decimalBy)
+by-more : (f n : ℕ) → ltb n 10 ≡ false → decimal_by (suc f) n ≡ decimal_by f (n / 10) ++ (digit (n % 10) ∷ [])
+unfolding decimal_by
+by-more f n t = rw (t, decimal_by)
 
 -- any fuel above the number serves
-fuel-enough : (f g n : ℕ) → n < f → n < g → decimalBy f n ≡ decimalBy g n
+fuel-enough : (f g n : ℕ) → n < f → n < g → decimal_by f n ≡ decimal_by g n
 fuel-enough zero g n p q = absurd (omega arith)
 fuel-enough (suc f) zero n p q = absurd (omega arith)
-fuel-enough (suc f) (suc g) n p q = byTest (ltb n 10)
+fuel-enough (suc f) (suc g) n p q = by_test (ltb n 10)
     (λ t. by_one f n t ∙ sym (by_one g n t))
     (λ t.
     let h : 10 ≤ n = ltb-false n 10 t in
@@ -135,32 +135,32 @@ decimal-more n h = by-more n n (le-ltb n 10 h) ∙ ap (λ (l : List ℕ). l ++ (
     (fuel-enough n (suc (n / 10)) (n / 10) (omega arith) (omega arith))
 
 -- the number that digits spell behind a
-unfoldable pub readFrom : ℕ → List ℕ → ℕ
-readFrom a [] = a
-readFrom a (d ∷ ds) = readFrom (10 * a + (d - 48)) ds
+unfoldable pub read_from : ℕ → List ℕ → ℕ
+read_from a [] = a
+read_from a (d ∷ ds) = read_from (10 * a + (d - 48)) ds
 
-read-snoc : (a : ℕ) (ds : List ℕ) (d : ℕ) → readFrom a (ds ++ (d ∷ [])) ≡ 10 * readFrom a ds + (d - 48)
-unfolding readFrom
+read-snoc : (a : ℕ) (ds : List ℕ) (d : ℕ) → read_from a (ds ++ (d ∷ [])) ≡ 10 * read_from a ds + (d - 48)
+unfolding read_from
 read-snoc a [] d = refl
 read-snoc a (x ∷ ds) d = read-snoc (10 * a + (x - 48)) ds d
 
-read_one : (n : ℕ) → n < 10 → readFrom 0 (decimal n) ≡ n
-unfolding readFrom
-read_one n h = ap (readFrom 0) (decimal-one n h) ∙ omega (arith, digit_low h)
+read_one : (n : ℕ) → n < 10 → read_from 0 (decimal n) ≡ n
+unfolding read_from
+read_one n h = ap (read_from 0) (decimal-one n h) ∙ omega (arith, digit_low h)
 
-read_more : (n : ℕ) → 10 ≤ n → readFrom 0 (decimal (n / 10)) ≡ n / 10 → readFrom 0 (decimal n) ≡ n
+read_more : (n : ℕ) → 10 ≤ n → read_from 0 (decimal (n / 10)) ≡ n / 10 → read_from 0 (decimal n) ≡ n
 read_more n h q =
     let low : 48 + n % 10 ≡ digit (n % 10) = digit_low (omega arith) in
-    ap (readFrom 0) (decimal-more n h) ∙ read-snoc 0 (decimal (n / 10)) (digit (n % 10)) ∙ omega arith
+    ap (read_from 0) (decimal-more n h) ∙ read-snoc 0 (decimal (n / 10)) (digit (n % 10)) ∙ omega arith
 
-read_by : (f n : ℕ) → n < f → readFrom 0 (decimal n) ≡ n
+read_by : (f n : ℕ) → n < f → read_from 0 (decimal n) ≡ n
 read_by zero n p = absurd (omega arith)
-read_by (suc f) n p = byTest (ltb n 10)
+read_by (suc f) n p = by_test (ltb n 10)
     (λ t. read_one n (ltb-true n 10 t))
     (λ t. let h : 10 ≤ n = ltb-false n 10 t in read_more n h (read_by f (n / 10) (omega arith)))
 
 -- what stands there in decimal is the number
-pub decimal-reads : (n : ℕ) → readFrom 0 (decimal n) ≡ n
+pub decimal-reads : (n : ℕ) → read_from 0 (decimal n) ≡ n
 decimal-reads n = read_by (suc n) n (omega arith)
 
 abbrev tens : ℕ → ℕ
@@ -169,7 +169,7 @@ tens (suc d) = 10 * tens d
 
 short : (d n : ℕ) → n < tens d → length (decimal n) ≤ suc d
 short zero n h = omega (arith, ap length (decimal-one n h))
-short (suc d) n h = byTest (ltb n 10)
+short (suc d) n h = by_test (ltb n 10)
     (λ t. omega (arith, ap length (decimal-one n (ltb-true n 10 t))))
     (λ t. omega (arith, ap length (decimal-more n (ltb-false n 10 t)), length-append (decimal (n / 10)) (digit (n % 10) ∷ []), short d (n / 10) (omega arith)))
 
@@ -198,40 +198,40 @@ digits-behind {x} h room P = omega (arith, more-long x h, P.end)
 -- ---- letters
 
 module _ {b : ℕ} where
-  pub letter-upper : 65 ≤ b → b ≤ 90 → true ≡ isLetter b
-  unfolding isLetter
+  pub letter-upper : 65 ≤ b → b ≤ 90 → true ≡ is_letter b
+  unfolding is_letter
   letter-upper h k = rw (le-leb 65 b h, le-leb b 90 k)
 
-  pub letter-lower : 97 ≤ b → b ≤ 122 → true ≡ isLetter b
-  unfolding isLetter
+  pub letter-lower : 97 ≤ b → b ≤ 122 → true ≡ is_letter b
+  unfolding is_letter
   letter-lower h k = rw (le-leb 65 b (omega arith), lt-leb b 90 (omega arith), le-leb 97 b h, le-leb b 122 k)
 
-  pub letter-below : b < 65 → false ≡ isLetter b
-  unfolding isLetter
+  pub letter-below : b < 65 → false ≡ is_letter b
+  unfolding is_letter
   letter-below h = rw (lt-leb 65 b h, lt-leb 97 b (omega arith))
 
-  pub letter-between : 90 < b → b < 97 → false ≡ isLetter b
-  unfolding isLetter
+  pub letter-between : 90 < b → b < 97 → false ≡ is_letter b
+  unfolding is_letter
   letter-between h k = rw (le-leb 65 b (omega arith), lt-leb b 90 h, lt-leb 97 b k)
 
-  pub letter-above : 122 < b → false ≡ isLetter b
-  unfolding isLetter
+  pub letter-above : 122 < b → false ≡ is_letter b
+  unfolding is_letter
   letter-above h = rw (le-leb 65 b (omega arith), lt-leb b 90 (omega arith), le-leb 97 b (omega arith), lt-leb b 122 h)
 
 module _ (b : ℕ) where
-  byte-letter : isLetter b ≡ true → printedByte b ≡ b ∷ []
-  unfolding printedByte
+  byte-letter : is_letter b ≡ true → printed_byte b ≡ b ∷ []
+  unfolding printed_byte
   byte-letter t = rw t
 
-  byte-other : isLetter b ≡ false → printedByte b ≡ 92 ∷ 120 ∷ digit (b / 16) ∷ digit (b % 16) ∷ []
-  unfolding printedByte ascii tabFrom
+  byte-other : is_letter b ≡ false → printed_byte b ≡ 92 ∷ 120 ∷ digit (b / 16) ∷ digit (b % 16) ∷ []
+  unfolding printed_byte ascii tab_from
   byte-other t = rw t
 
-  pub put-letter : {text : List ℕ} {at : ℕ} {l : Bool} → l ≡ true → l ≡ isLetter b → TextPut 4 (printedByte b) text at (at + 1) (set text at b)
+  pub put-letter : {text : List ℕ} {at : ℕ} {l : Bool} → l ≡ true → l ≡ is_letter b → TextPut 4 (printed_byte b) text at (at + 1) (set text at b)
   put-letter {text} {at} t q = put_as (sym (byte-letter (sym q ∙ t))) (put-most (omega arith) (put_one text at (at + 1) refl refl))
 
-  pub put_other : {text : List ℕ} {at x y : ℕ} {l : Bool} → l ≡ false → l ≡ isLetter b → x ≡ digit (b / 16) → y ≡ digit (b % 16)
-      → TextPut 4 (printedByte b) text at (at + 4) (set (set (set (set text at 92) (at + 1) 120) (at + 2) x) (at + 3) y)
+  pub put_other : {text : List ℕ} {at x y : ℕ} {l : Bool} → l ≡ false → l ≡ is_letter b → x ≡ digit (b / 16) → y ≡ digit (b % 16)
+      → TextPut 4 (printed_byte b) text at (at + 4) (set (set (set (set text at 92) (at + 1) 120) (at + 2) x) (at + 3) y)
   put_other {text} {at} t q d e = put_as (sym (byte-other (sym q ∙ t)))
       (put_then (put_then (put_then (put_one text at (at + 1) refl refl) (put_one _ (at + 1) (at + 2) refl (omega arith)))
       (put_one _ (at + 2) (at + 3) d (omega arith))) (put_one _ (at + 3) (at + 4) e (omega arith)))

@@ -3,20 +3,20 @@ use Rattle.std.specs.Prelude.{ℕ, Bool, true, false, List, [], ◌∷◌, ◌++
 use Prim.Native.String.{String}
 use Rattle.defs.specs.SeqGraph.{Edge}
 use Rattle.defs.specs.Forms.{Form, sgr1, sgr2}
-use Rattle.defs.specs.Record.{sequenceGraph, encode}
+use Rattle.defs.specs.Record.{sequence_graph, encode}
 use Rattle.text.specs.Printed.{ascii}
 
 abbrev edge : ℕ → ℕ → ℕ → Bool → Edge
-edge u v s r = record { from = u; to = v; support = s; isRef = r; capped = false }
+edge u v s r = record { from = u; to = v; support = s; is_ref = r; capped = false }
 
-abbrev cappedEdge : ℕ → ℕ → ℕ → Bool → Edge
-cappedEdge u v s r = record { from = u; to = v; support = s; isRef = r; capped = true }
+abbrev capped_edge : ℕ → ℕ → ℕ → Bool → Edge
+capped_edge u v s r = record { from = u; to = v; support = s; is_ref = r; capped = true }
 
-abbrev recordOf : Form → ℕ → List (List ℕ) → List Edge → List ℕ
-recordOf f k vs es = encode f sequenceGraph 0 record { k = k; verts = vs; edges = es }
+abbrev record_of : Form → ℕ → List (List ℕ) → List Edge → List ℕ
+record_of f k vs es = encode f sequence_graph 0 record { k = k; verts = vs; edges = es }
 
 abbrev graph : ℕ → List (List ℕ) → List Edge → List ℕ
-graph = recordOf sgr1
+graph = record_of sgr1
 
 abbrev pub inputs : List (List ℕ)
 inputs =
@@ -26,9 +26,9 @@ inputs =
     graph 128 ((0 ∷ 64 ∷ 65 ∷ 90 ∷ 91 ∷ 96 ∷ 97 ∷ 122 ∷ 123 ∷ 255 ∷ []) ∷ [] ∷ []) [] ∷
     -- more edges than vertices, two of them capped
     graph 2 (ascii "ACA" ∷ ascii "CGT" ∷ ascii "GAC" ∷ ascii "TTG" ∷ [])
-    (cappedEdge 0 1 4294967295 true ∷ edge 0 2 0 false ∷ cappedEdge 0 3 10 false ∷ edge 1 2 100 true ∷ edge 1 3 9 false ∷ edge 2 3 99 true ∷ []) ∷
+    (capped_edge 0 1 4294967295 true ∷ edge 0 2 0 false ∷ capped_edge 0 3 10 false ∷ edge 1 2 100 true ∷ edge 1 3 9 false ∷ edge 2 3 99 true ∷ []) ∷
     -- a graph in SGR2
-    recordOf sgr2 25 (ascii "A" ∷ ascii "C" ∷ ascii "G" ∷ []) (edge 0 1 70000 true ∷ edge 1 2 3 false ∷ []) ∷
+    record_of sgr2 25 (ascii "A" ∷ ascii "C" ∷ ascii "G" ∷ []) (edge 0 1 70000 true ∷ edge 1 2 3 false ∷ []) ∷
     -- a cycle; no record
     graph 10 (ascii "A" ∷ ascii "C" ∷ []) (edge 0 1 1 true ∷ edge 1 0 1 false ∷ []) ∷
     ascii "SGR1" ∷
@@ -57,7 +57,7 @@ texts =
     lines (
     "k 128 vertices 2 edges 0 bytes 10 surplus -2" ∷
     "rewrites 0 rounds 1 end quiet" ∷
-    "v 0 \\x00\\x40AZ\\x5b\\x60az\\x7b\\xff" ∷
+    "v 0 \\x00\\x40_az\\x5b\\x60az\\x7b\\xff" ∷
     "v 1 ." ∷
     []) ∷
     lines (

@@ -2,14 +2,14 @@
 ghost use Rattle.std.specs.Prelude.{◌≡◌, ◌++◌, map, ◌+◌, ◌*◌, ◌<◌, ◌≤◌, length};
 ghost use Rattle.std.specs.Int.Signed.{mag};
 ghost use Rattle.defs.specs.Lists.{concat};
-ghost use Rattle.text.specs.Printed.{decimal, signed, isLetter, printedByte, printedSequence};
-ghost use Rattle.text.specs.Printed.{digit as digitOf, surplus as surplusOf};
+ghost use Rattle.text.specs.Printed.{decimal, signed, is_letter, printed_byte, printed_sequence};
+ghost use Rattle.text.specs.Printed.{digit as digit_of, surplus as surplus_of};
 ghost use Rattle.text.specs.Put.{TextPut};
 
 // The code of a digit below 16.
 fn digit(d: u32) -> u8
     requires { d < 16 }
-    ensures { result ≡ digitOf d }
+    ensures { result ≡ digit_of d }
 {
     if d < 10 { 48 + d as u8 } else { 87 + d as u8 }
 }
@@ -39,7 +39,7 @@ pub fn put_decimal(text: &mut [u8], at: usize, x: u32) -> usize
 // Edges minus vertices; may be below zero.
 pub fn surplus(edges: usize, vertices: usize) -> i32
     requires { (edges < 65536) × (vertices < 65536) }
-    ensures { (result ≡ surplusOf edges vertices) × (mag result < 65536) }
+    ensures { (result ≡ surplus_of edges vertices) × (mag result < 65536) }
 {
     (edges as i32) - (vertices as i32)
 }
@@ -79,10 +79,10 @@ pub fn put_field(text: &mut [u8], at: usize, name: &[u8], x: u32) -> usize
 
 // `is_ascii_alphabetic`
 fn is_letter(b: u8) -> bool
-    ensures { result ≡ isLetter b }
+    ensures { result ≡ is_letter b }
 {
     match b {
-        b'A'..=b'Z' | b'a'..=b'z' => true,
+        b'_a'..=b'_z' | b'a'..=b'z' => true,
         _ => false,
     }
 }
@@ -90,7 +90,7 @@ fn is_letter(b: u8) -> bool
 // A letter as it is, any other byte as \x and two digits.
 fn put_byte(text: &mut [u8], at: usize, b: u8) -> usize
     requires { at + 4 ≤ length text.old }
-    ensures { TextPut 4 (printedByte b) text.old at result text.new }
+    ensures { TextPut 4 (printed_byte b) text.old at result text.new }
 {
     if is_letter(b) {
         text[at] = b;
@@ -106,7 +106,7 @@ fn put_byte(text: &mut [u8], at: usize, b: u8) -> usize
 // Each byte in turn.
 fn put_each(text: &mut [u8], at: usize, s: &[u8]) -> usize
     requires { at + 4 * length s.now ≤ length text.old }
-    ensures { TextPut (4 * length s.now) (concat (map printedByte s.now)) text.old at result text.new }
+    ensures { TextPut (4 * length s.now) (concat (map printed_byte s.now)) text.old at result text.new }
 {
     let mut to = at;
     let mut i = 0;
@@ -120,7 +120,7 @@ fn put_each(text: &mut [u8], at: usize, s: &[u8]) -> usize
 // The bytes of a sequence; a dot where there are none.
 pub fn put_sequence(text: &mut [u8], at: usize, s: &[u8]) -> usize
     requires { at + 4 * length s.now + 1 ≤ length text.old }
-    ensures { TextPut (4 * length s.now + 1) (printedSequence s.now) text.old at result text.new }
+    ensures { TextPut (4 * length s.now + 1) (printed_sequence s.now) text.old at result text.new }
 {
     if s.len() == 0 {
         return put_bytes(text, at, b".");

@@ -10,37 +10,37 @@ use lib.ListN.{length, get_or}
 use lib.Dec.{eqb}
 use borrow.Author.Tests.{eqb-true, eq-eqb, ne_eqb}
 use Rattle.defs.specs.Lists.{any_of}
-use Rattle.defs.specs.SeqGraph.{Graph, nodeCount}
+use Rattle.defs.specs.SeqGraph.{Graph, node_count}
 use Rattle.defs.specs.Zip as Z
-use Rattle.defs.specs.Rewrites.{tryMergeDiamond, tryMergeTails, tryMergeCommonSuffices}
-use Rattle.defs.specs.Simplify.{RewriteKind, zip, diamond, tails, split, merge, rewriteKindNumber, first_at, transformUntilComplete, fuelFor}
-use Rattle.laws.proofs.Walks.{byTest}
+use Rattle.defs.specs.Rewrites.{try_merge_diamond, try_merge_tails, try_merge_common_suffices}
+use Rattle.defs.specs.Simplify.{RewriteKind, zip, diamond, tails, split, merge, rewrite_kind_number, first_at, transform_until_complete, fuel_for}
+use Rattle.laws.proofs.Walks.{by_test}
 use Rattle.laws.proofs.ListLaws.{clash}
 use Rattle.laws.proofs.Fuel.{Good}
 use Rattle.laws.proofs.Measures.{weight, order-weight, enough-is, Tame, diamond-tame, tails-tame, merge-tame}
-use Rattle.laws.proofs.Whole.{byOption, again, firstAt-some, until_none, until-some}
+use Rattle.laws.proofs.Whole.{by_option, again, first_at-some, until_none, until-some}
 use Rattle.tabs.proofs.Tabs.{one_less}
 use Rattle.compact.proofs.CompactLaws.{order-in}
 use Rattle.index.specs.Index.{Indexed, Indexable}
-use Rattle.memory.specs.Memory.{graph_of, workOf, vertexRoom, Room, Fit, Holds, Ready, Counted, Left}
+use Rattle.memory.specs.Memory.{graph_of, work_of, vertex_room, Room, Fit, Holds, Ready, Counted, Left}
 use Rattle.memory.specs.declared.Held.{Held}
 use Rattle.memory.specs.declared.Tried.{Tried}
 use Rattle.memory.specs.declared.Work.{Work}
 use Rattle.memory.proofs.RoomLaws.{held-vertices, held-edges, held-ends, room-kept, holds_kept}
-use Rattle.until.specs.Until.{rewriteOf, isTransform, Completed}
+use Rattle.until.specs.Until.{rewrite_of, is_transform, Completed}
 
 -- ---- the kinds and their numbers
 
 -- the kind that has a number
-pub kindWithNumber : ℕ → RewriteKind
-kindWithNumber n =
-    cond (eqb n (rewriteKindNumber diamond)) diamond
-    (cond (eqb n (rewriteKindNumber tails)) tails
-    (cond (eqb n (rewriteKindNumber merge)) merge
-    (cond (eqb n (rewriteKindNumber split)) split zip)))
+pub kind_with_number : ℕ → RewriteKind
+kind_with_number n =
+    cond (eqb n (rewrite_kind_number diamond)) diamond
+    (cond (eqb n (rewrite_kind_number tails)) tails
+    (cond (eqb n (rewrite_kind_number merge)) merge
+    (cond (eqb n (rewrite_kind_number split)) split zip)))
 
-kind-back : (rewrite : RewriteKind) → kindWithNumber (rewriteKindNumber rewrite) ≡ rewrite
-unfolding kindWithNumber rewriteKindNumber
+kind-back : (rewrite : RewriteKind) → kind_with_number (rewrite_kind_number rewrite) ≡ rewrite
+unfolding kind_with_number rewrite_kind_number
 kind-back zip = refl
 kind-back diamond = refl
 kind-back tails = refl
@@ -48,60 +48,60 @@ kind-back split = refl
 kind-back merge = refl
 
 -- a transform's number is one of three
-pub one_of_three : (n : ℕ) → isTransform n ≡ true → (n ≡ rewriteKindNumber diamond → ⊥) → (n ≡ rewriteKindNumber tails → ⊥)
-    → (n ≡ rewriteKindNumber merge → ⊥) → ⊥
-unfolding isTransform any_of
+pub one_of_three : (n : ℕ) → is_transform n ≡ true → (n ≡ rewrite_kind_number diamond → ⊥) → (n ≡ rewrite_kind_number tails → ⊥)
+    → (n ≡ rewrite_kind_number merge → ⊥) → ⊥
+unfolding is_transform any_of
 one_of_three n t a b c =
-    clash t (rw (ne_eqb n (rewriteKindNumber diamond) a, ne_eqb n (rewriteKindNumber tails) b, ne_eqb n (rewriteKindNumber merge) c, any_of))
+    clash t (rw (ne_eqb n (rewrite_kind_number diamond) a, ne_eqb n (rewrite_kind_number tails) b, ne_eqb n (rewrite_kind_number merge) c, any_of))
 
-pub kind-number : (n : ℕ) → isTransform n ≡ true → rewriteKindNumber (kindWithNumber n) ≡ n
-unfolding kindWithNumber
-kind-number n t = byTest (eqb n (rewriteKindNumber diamond))
-    (λ a. rw a (sym (eqb-true n (rewriteKindNumber diamond) a)))
-    (λ a. byTest (eqb n (rewriteKindNumber tails))
-    (λ b. rw (a, b) (sym (eqb-true n (rewriteKindNumber tails) b)))
-    (λ b. byTest (eqb n (rewriteKindNumber merge))
-    (λ c. rw (a, b, c) (sym (eqb-true n (rewriteKindNumber merge) c)))
-    (λ c. absurd (one_of_three n t (λ q. clash (eq-eqb n (rewriteKindNumber diamond) q) a) (λ q. clash (eq-eqb n (rewriteKindNumber tails) q) b)
-    (λ q. clash (eq-eqb n (rewriteKindNumber merge) q) c)))))
+pub kind-number : (n : ℕ) → is_transform n ≡ true → rewrite_kind_number (kind_with_number n) ≡ n
+unfolding kind_with_number
+kind-number n t = by_test (eqb n (rewrite_kind_number diamond))
+    (λ a. rw a (sym (eqb-true n (rewrite_kind_number diamond) a)))
+    (λ a. by_test (eqb n (rewrite_kind_number tails))
+    (λ b. rw (a, b) (sym (eqb-true n (rewrite_kind_number tails) b)))
+    (λ b. by_test (eqb n (rewrite_kind_number merge))
+    (λ c. rw (a, b, c) (sym (eqb-true n (rewrite_kind_number merge) c)))
+    (λ c. absurd (one_of_three n t (λ q. clash (eq-eqb n (rewrite_kind_number diamond) q) a) (λ q. clash (eq-eqb n (rewrite_kind_number tails) q) b)
+    (λ q. clash (eq-eqb n (rewrite_kind_number merge) q) c)))))
 
 -- what holds of the kind that has the number n
-pub of-kind : {n : ℕ} (P : RewriteKind → Type 0) → P (kindWithNumber n) → (rewrite : RewriteKind) → rewriteKindNumber rewrite ≡ n → P rewrite
-of-kind P h rewrite q = subst P (sym (ap kindWithNumber q) ∙ kind-back rewrite) h
+pub of-kind : {n : ℕ} (P : RewriteKind → Type 0) → P (kind_with_number n) → (rewrite : RewriteKind) → rewrite_kind_number rewrite ≡ n → P rewrite
+of-kind P h rewrite q = subst P (sym (ap kind_with_number q) ∙ kind-back rewrite) h
 
 -- what was left by the rewrite of that kind
 module _ {n : ℕ} (f : RewriteKind → Option Graph) {k : Held} {es vs p heads nexts : List ℕ} {r : Tried} {es' vs' p' : List ℕ} where
-  pub left-of-kind : Left (f (kindWithNumber n)) k es vs p heads nexts r es' vs' p' → (rewrite : RewriteKind) → rewriteKindNumber rewrite ≡ n
+  pub left-of-kind : Left (f (kind_with_number n)) k es vs p heads nexts r es' vs' p' → (rewrite : RewriteKind) → rewrite_kind_number rewrite ≡ n
       → Left (f rewrite) k es vs p heads nexts r es' vs' p'
   left-of-kind = of-kind (λ (x : RewriteKind). Left (f x) k es vs p heads nexts r es' vs' p')
 
-  pub left-as-kind : (kind : RewriteKind) → n ≡ rewriteKindNumber kind → Left (f kind) k es vs p heads nexts r es' vs' p'
-      → (rewrite : RewriteKind) → rewriteKindNumber rewrite ≡ n → Left (f rewrite) k es vs p heads nexts r es' vs' p'
+  pub left-as-kind : (kind : RewriteKind) → n ≡ rewrite_kind_number kind → Left (f kind) k es vs p heads nexts r es' vs' p'
+      → (rewrite : RewriteKind) → rewrite_kind_number rewrite ≡ n → Left (f rewrite) k es vs p heads nexts r es' vs' p'
   left-as-kind kind q L = left-of-kind
-      (subst (λ (x : RewriteKind). Left (f x) k es vs p heads nexts r es' vs' p') (sym (ap kindWithNumber q ∙ kind-back kind)) L)
+      (subst (λ (x : RewriteKind). Left (f x) k es vs p heads nexts r es' vs' p') (sym (ap kind_with_number q ∙ kind-back kind)) L)
 
 -- ---- what each kind takes away: a merge a vertex, the others a byte
-pub measureOf : RewriteKind → Graph → ℕ
-measureOf zip g = weight g
-measureOf diamond g = weight g
-measureOf tails g = weight g
-measureOf split g = weight g
-measureOf merge g = nodeCount g
+pub measure_of : RewriteKind → Graph → ℕ
+measure_of zip g = weight g
+measure_of diamond g = weight g
+measure_of tails g = weight g
+measure_of split g = weight g
+measure_of merge g = node_count g
 
 never : {A : Type 0} (g : Graph) → none ≡ some g → A
 never g q = absurd (let z : ◌≡◌ {A = ℕ} 0 1 = cc in omega arith)
 
-pub falls : (kind : RewriteKind) (least : ℕ) → 3 < least → (g g' : Graph) (v : ℕ) → Good g → rewriteOf kind least g v ≡ some g' → Tame g g'
-    × (measureOf kind g' < measureOf kind g)
-unfolding measureOf
+pub falls : (kind : RewriteKind) (least : ℕ) → 3 < least → (g g' : Graph) (v : ℕ) → Good g → rewrite_of kind least g v ≡ some g' → Tame g g'
+    × (measure_of kind g' < measure_of kind g)
+unfolding measure_of
 falls zip least pos g g' v h d = never g' d
 falls diamond least pos g g' v h d = let z = diamond-tame g g' v h d in (z.0, z.2)
 falls tails least pos g g' v h d = let z = tails-tame least pos g g' v h d in (z.0, z.2)
 falls split least pos g g' v h d = never g' d
 falls merge least pos g g' v h d = merge-tame g g' v h d
 
-pub measure-most : (kind : RewriteKind) (g : Graph) → measureOf kind g ≤ weight g
-unfolding measureOf
+pub measure-most : (kind : RewriteKind) (g : Graph) → measure_of kind g ≤ weight g
+unfolding measure_of
 measure-most zip g = omega arith
 measure-most diamond g = omega arith
 measure-most tails g = omega arith
@@ -191,10 +191,10 @@ pub record Transforming (kind : RewriteKind) (least : ℕ) (w₀ : Work) (es₀ 
   pub ready : Ready least w.held es vs p heads nexts nodes mp
   pub heads-len : length heads ≡ length heads₀
   pub fuel : ℕ
-  pub enough : measureOf kind (graph_of w.held es vs p) < fuel
-  pub is : transformUntilComplete (rewriteOf kind least) fuel (workOf w es vs p)
-      ≡ transformUntilComplete (rewriteOf kind least) (fuelFor (graph_of w₀.held es₀ vs₀ p₀)) (workOf w₀ es₀ vs₀ p₀)
-  pub count : w.rewrites + measureOf kind (graph_of w.held es vs p) ≤ w₀.rewrites + vertexRoom heads₀
+  pub enough : measure_of kind (graph_of w.held es vs p) < fuel
+  pub is : transform_until_complete (rewrite_of kind least) fuel (work_of w es vs p)
+      ≡ transform_until_complete (rewrite_of kind least) (fuel_for (graph_of w₀.held es₀ vs₀ p₀)) (work_of w₀ es₀ vs₀ p₀)
+  pub count : w.rewrites + measure_of kind (graph_of w.held es vs p) ≤ w₀.rewrites + vertex_room heads₀
 
 module _ {kind : RewriteKind} {least : ℕ} {w₀ : Work} {es₀ vs₀ p₀ heads₀ : List ℕ} where
   pub doing-start : {nexts nodes mp : List ℕ} → Ready least w₀.held es₀ vs₀ p₀ heads₀ nexts nodes mp
@@ -202,14 +202,14 @@ module _ {kind : RewriteKind} {least : ℕ} {w₀ : Work} {es₀ vs₀ p₀ head
   doing-start R = record {
     ready = R;
     heads-len = refl;
-    fuel = fuelFor (graph_of w₀.held es₀ vs₀ p₀);
+    fuel = fuel_for (graph_of w₀.held es₀ vs₀ p₀);
     enough = omega (arith, measure-most kind (graph_of w₀.held es₀ vs₀ p₀), enough-is (graph_of w₀.held es₀ vs₀ p₀));
     is = refl;
     count = omega (arith, measure-most kind (graph_of w₀.held es₀ vs₀ p₀), R.holds.fit.light);
   }
 
   module _ {w : Work} {es vs p heads nexts nodes mp : List ℕ} (D : Transforming kind least w₀ es₀ vs₀ p₀ heads₀ w es vs p heads nexts nodes mp)
-      {r : Tried} {es' vs' p' : List ℕ} (L : Left (first_at (rewriteOf kind least (graph_of w.held es vs p)) 0 w.held.n) w.held es
+      {r : Tried} {es' vs' p' : List ℕ} (L : Left (first_at (rewrite_of kind least (graph_of w.held es vs p)) 0 w.held.n) w.held es
       vs p heads nexts r es' vs' p') where
     abbrev g : Graph
     g = graph_of w.held es vs p
@@ -217,10 +217,10 @@ module _ {kind : RewriteKind} {least : ℕ} {w₀ : Work} {es₀ vs₀ p₀ head
     abbrev g' : Graph
     g' = graph_of r.held es' vs' p'
 
-    order_is : nodeCount g ≡ w.held.n
+    order_is : node_count g ≡ w.held.n
     order_is = order-in w.held.k.0 w.held.n w.held.m es vs p
 
-    pub doing_end : {nodes' mp' : List ℕ} (number : ℕ) → kindWithNumber number ≡ kind → r.done ≡ false → length nodes' ≡ length nodes
+    pub doing_end : {nodes' mp' : List ℕ} (number : ℕ) → kind_with_number number ≡ kind → r.done ≡ false → length nodes' ≡ length nodes
         → length mp' ≡ length mp → Completed number least w₀ es₀ vs₀ p₀ w es' vs' p' heads nexts nodes' mp'
     doing_end {nodes'} {mp'} number q t a b = record {
       ready = record {
@@ -230,27 +230,27 @@ module _ {kind : RewriteKind} {least : ℕ} {w₀ : Work} {es₀ vs₀ p₀ head
         indexed = rw (L.same-es t) D.ready.indexed;
       };
       is = of-kind claim (subst claim (sym q)
-          ((λ j. workOf w (L.same-es t j) (L.same-vs t j) (L.same-p t j)) ∙ sym (stop D.fuel D.enough) ∙ D.is));
+          ((λ j. work_of w (L.same-es t j) (L.same-vs t j) (L.same-p t j)) ∙ sym (stop D.fuel D.enough) ∙ D.is));
       most = rw D.heads-len (omega (arith, D.count));
     }
       where
         claim : RewriteKind → Type 0
-        claim x = workOf w es' vs' p' ≡ transformUntilComplete (rewriteOf x least) (fuelFor (graph_of w₀.held es₀ vs₀ p₀)) (workOf w₀ es₀ vs₀ p₀)
+        claim x = work_of w es' vs' p' ≡ transform_until_complete (rewrite_of x least) (fuel_for (graph_of w₀.held es₀ vs₀ p₀)) (work_of w₀ es₀ vs₀ p₀)
 
-        stop : (fuel : ℕ) → measureOf kind g < fuel → transformUntilComplete (rewriteOf kind least) fuel (workOf w es vs p) ≡ workOf w es vs p
+        stop : (fuel : ℕ) → measure_of kind g < fuel → transform_until_complete (rewrite_of kind least) fuel (work_of w es vs p) ≡ work_of w es vs p
         stop zero h = absurd (omega arith)
-        stop (suc fuel) h = until_none (rewriteOf kind least) fuel (workOf w es vs p) (ap (first_at (rewriteOf kind least g) 0) order_is ∙ L.no t)
+        stop (suc fuel) h = until_none (rewrite_of kind least) fuel (work_of w es vs p) (ap (first_at (rewrite_of kind least g) 0) order_is ∙ L.no t)
 
     module _ (t : r.done ≡ true) where
-      step : Tame g g' × (measureOf kind g' < measureOf kind g)
+      step : Tame g g' × (measure_of kind g' < measure_of kind g)
       step =
-          let z = firstAt-some (rewriteOf kind least g) 0 w.held.n g' (L.yes t) in
+          let z = first_at-some (rewrite_of kind least g) 0 w.held.n g' (L.yes t) in
           falls kind least D.ready.least-is g g' z.0 D.ready.holds.fit.good z.1
 
       pub doing-countable : Counted w₀.rewrites heads₀ → w.rewrites + 1 < 4294967296
       doing-countable C = omega (arith, D.count, step.1, C.small)
 
-      pub doing-less : measureOf kind g' < measureOf kind g
+      pub doing-less : measure_of kind g' < measure_of kind g
       doing-less = step.1
 
       pub doing-indexable : length es' ≡ length es → Indexable r.held.m r.held.n es' heads nexts
@@ -268,8 +268,8 @@ module _ {kind : RewriteKind} {least : ℕ} {w₀ : Work} {es₀ vs₀ p₀ head
           → Transforming kind least w₀ es₀ vs₀ p₀ heads₀ record { held = r.held; rewrites = w.rewrites + 1 } es' vs' p' heads' nexts' nodes' mp'
       doing-more {heads'} {nexts'} {nodes'} {mp'} I a b c d e f i = go D.fuel D.enough D.is
         where
-          go : (fuel : ℕ) → measureOf kind g < fuel → transformUntilComplete (rewriteOf kind least) fuel (workOf w es vs p)
-              ≡ transformUntilComplete (rewriteOf kind least) (fuelFor (graph_of w₀.held es₀ vs₀ p₀)) (workOf w₀ es₀ vs₀ p₀)
+          go : (fuel : ℕ) → measure_of kind g < fuel → transform_until_complete (rewrite_of kind least) fuel (work_of w es vs p)
+              ≡ transform_until_complete (rewrite_of kind least) (fuel_for (graph_of w₀.held es₀ vs₀ p₀)) (work_of w₀ es₀ vs₀ p₀)
               → Transforming kind least w₀ es₀ vs₀ p₀ heads₀ record { held = r.held; rewrites = w.rewrites + 1 } es' vs' p' heads' nexts' nodes' mp'
           go zero h q = absurd (omega arith)
           go (suc fuel) h q = record {
@@ -277,14 +277,14 @@ module _ {kind : RewriteKind} {least : ℕ} {w₀ : Work} {es₀ vs₀ p₀ head
             heads-len = d ∙ D.heads-len;
             fuel = fuel;
             enough = omega (arith, step.1);
-            is = (λ j. transformUntilComplete (rewriteOf kind least) fuel record { graph = g'; rewrites = add-one w.rewrites j })
-                ∙ sym (until-some (rewriteOf kind least) fuel (workOf w es vs p) g' (ap (first_at (rewriteOf kind least g) 0) order_is ∙ L.yes t)) ∙ q;
+            is = (λ j. transform_until_complete (rewrite_of kind least) fuel record { graph = g'; rewrites = add-one w.rewrites j })
+                ∙ sym (until-some (rewrite_of kind least) fuel (work_of w es vs p) g' (ap (first_at (rewrite_of kind least g) 0) order_is ∙ L.yes t)) ∙ q;
             count = omega (arith, D.count, step.1);
           }
 
 -- the slices that were scanned are those at the start
 module _ (kind : RewriteKind) (least : ℕ) {n : ℕ} {h : Held} {es₀ vs₀ p₀ nodes₀ mp₀ es vs p nodes mp : List ℕ} {v : ℕ}
-    (S : ScanningVertices (rewriteOf kind least (graph_of h es₀ vs₀ p₀)) n es₀ vs₀ p₀ nodes₀ mp₀ es vs p nodes mp v) where
+    (S : ScanningVertices (rewrite_of kind least (graph_of h es₀ vs₀ p₀)) n es₀ vs₀ p₀ nodes₀ mp₀ es vs p nodes mp v) where
   pub scan-ready : {heads nexts : List ℕ} → Ready least h es₀ vs₀ p₀ heads nexts nodes₀ mp₀ → Ready least h es vs p heads nexts nodes mp
   scan-ready R = record {
     least-is = R.least-is;
@@ -294,7 +294,7 @@ module _ (kind : RewriteKind) (least : ℕ) {n : ℕ} {h : Held} {es₀ vs₀ p�
   }
 
   pub scan-left : {heads nexts : List ℕ} {r : Tried} {es' vs' p' : List ℕ}
-      → Left (rewriteOf kind least (graph_of h es vs p) v) h es vs p heads nexts r es' vs' p'
-      → Left (rewriteOf kind least (graph_of h es₀ vs₀ p₀) v) h es vs p heads nexts r es' vs' p'
+      → Left (rewrite_of kind least (graph_of h es vs p) v) h es vs p heads nexts r es' vs' p'
+      → Left (rewrite_of kind least (graph_of h es₀ vs₀ p₀) v) h es vs p heads nexts r es' vs' p'
   scan-left {heads} {nexts} {r} {es'} {vs'} {p'} L = subst (λ (o : Option Graph). Left o h es vs p heads nexts r es' vs' p') (λ j.
-      rewriteOf kind least (graph_of h (S.same-es j) (S.same-vs j) (S.same-p j)) v) L
+      rewrite_of kind least (graph_of h (S.same-es j) (S.same-vs j) (S.same-p j)) v) L

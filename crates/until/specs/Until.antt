@@ -3,26 +3,26 @@ use Rattle.std.specs.Prelude.{◌≡◌, Bool, List, [], ◌∷◌, ℕ, ◌+◌
 use Rattle.std.proofs.Math.Option.{Option, none}
 use Rattle.defs.specs.Lists.{any_of}
 use Rattle.defs.specs.SeqGraph.{Graph}
-use Rattle.defs.specs.Rewrites.{tryMergeDiamond, tryMergeTails, tryMergeCommonSuffices}
-use Rattle.defs.specs.Simplify.{RewriteKind, zip, diamond, tails, split, merge, rewriteKindNumber, transformUntilComplete, fuelFor}
-use Rattle.memory.specs.Memory.{graph_of, workOf, vertexRoom, Ready}
+use Rattle.defs.specs.Rewrites.{try_merge_diamond, try_merge_tails, try_merge_common_suffices}
+use Rattle.defs.specs.Simplify.{RewriteKind, zip, diamond, tails, split, merge, rewrite_kind_number, transform_until_complete, fuel_for}
+use Rattle.memory.specs.Memory.{graph_of, work_of, vertex_room, Ready}
 use Rattle.memory.specs.declared.Work.{Work}
 
 -- the rewrite of a kind at the vertex v; zips take whole chains, and splits have marks: no vertex alone allows one
-abbrev pub rewriteOf : RewriteKind → ℕ → Graph → ℕ → Option Graph
-rewriteOf zip least g v = none
-rewriteOf diamond least g v = tryMergeDiamond g v
-rewriteOf tails least g v = tryMergeTails least g v
-rewriteOf split least g v = none
-rewriteOf merge least g v = tryMergeCommonSuffices g v
+abbrev pub rewrite_of : RewriteKind → ℕ → Graph → ℕ → Option Graph
+rewrite_of zip least g v = none
+rewrite_of diamond least g v = try_merge_diamond g v
+rewrite_of tails least g v = try_merge_tails least g v
+rewrite_of split least g v = none
+rewrite_of merge least g v = try_merge_common_suffices g v
 
 -- whether n is the number of a kind that a vertex alone allows
-unfoldable pub isTransform : ℕ → Bool
-isTransform n = any_of (λ (rewrite : RewriteKind). eqb n (rewriteKindNumber rewrite)) (diamond ∷ tails ∷ merge ∷ [])
+unfoldable pub is_transform : ℕ → Bool
+is_transform n = any_of (λ (rewrite : RewriteKind). eqb n (rewrite_kind_number rewrite)) (diamond ∷ tails ∷ merge ∷ [])
 
 -- the rewrites of the kind that has the number `kind`
 pub record Completed (kind least : ℕ) (w : Work) (es vs p : List ℕ) (r : Work) (es' vs' p' heads' nexts' nodes' mp' : List ℕ) : Type 0 where
   pub ready : Ready least r.held es' vs' p' heads' nexts' nodes' mp'
-  pub is : (rewrite : RewriteKind) → rewriteKindNumber rewrite ≡ kind
-      → workOf r es' vs' p' ≡ transformUntilComplete (rewriteOf rewrite least) (fuelFor (graph_of w.held es vs p)) (workOf w es vs p)
-  pub most : r.rewrites ≤ w.rewrites + vertexRoom heads'
+  pub is : (rewrite : RewriteKind) → rewrite_kind_number rewrite ≡ kind
+      → work_of r es' vs' p' ≡ transform_until_complete (rewrite_of rewrite least) (fuel_for (graph_of w.held es vs p)) (work_of w es vs p)
+  pub most : r.rewrites ≤ w.rewrites + vertex_room heads'

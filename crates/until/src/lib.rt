@@ -1,9 +1,9 @@
 // A rewrite at the first vertex that allows it, and until no vertex allows it.
 ghost use Rattle.std.specs.Prelude.{◌≡◌, true, ℕ, ◌+◌, ◌*◌, ◌<◌, ◌≤◌, length};
-ghost use Rattle.defs.specs.SeqGraph.{nodeCount};
-ghost use Rattle.defs.specs.Simplify.{RewriteKind, rewriteKindNumber, first_at};
+ghost use Rattle.defs.specs.SeqGraph.{node_count};
+ghost use Rattle.defs.specs.Simplify.{RewriteKind, rewrite_kind_number, first_at};
 ghost use Rattle.memory.specs.Memory.{graph_of, Ready, Counted, Left};
-ghost use Rattle.until.specs.Until.{rewriteOf, isTransform, Completed};
+ghost use Rattle.until.specs.Until.{rewrite_of, is_transform, Completed};
 
 use memory::{Held, Tried, Work};
 
@@ -21,10 +21,10 @@ pub fn try_rewrite(
     map: &mut [u32],
     v: usize,
 ) -> Tried
-    requires { (isTransform kind ≡ true) × (Ready least held es.old vs.old p.old heads.now nexts.now nodes.old map.old
+    requires { (is_transform kind ≡ true) × (Ready least held es.old vs.old p.old heads.now nexts.now nodes.old map.old
         × (v < held.n)) }
-    ensures { (rewrite : RewriteKind) → rewriteKindNumber rewrite ≡ kind
-        → Left (rewriteOf rewrite least (graph_of held es.old vs.old p.old) v) held es.old
+    ensures { (rewrite : RewriteKind) → rewrite_kind_number rewrite ≡ kind
+        → Left (rewrite_of rewrite least (graph_of held es.old vs.old p.old) v) held es.old
         vs.old p.old heads.now nexts.now result es.new vs.new p.new }
 {
     match kind {
@@ -56,9 +56,9 @@ pub fn first_at(
     nodes: &mut [u32],
     map: &mut [u32],
 ) -> Tried
-    requires { (isTransform kind ≡ true) × Ready least held es.old vs.old p.old heads.now nexts.now nodes.old map.old }
-    ensures { (rewrite : RewriteKind) → rewriteKindNumber rewrite ≡ kind
-        → Left (first_at (rewriteOf rewrite least (graph_of held es.old vs.old p.old)) 0 held.n) held
+    requires { (is_transform kind ≡ true) × Ready least held es.old vs.old p.old heads.now nexts.now nodes.old map.old }
+    ensures { (rewrite : RewriteKind) → rewrite_kind_number rewrite ≡ kind
+        → Left (first_at (rewrite_of rewrite least (graph_of held es.old vs.old p.old)) 0 held.n) held
         es.old vs.old p.old heads.now nexts.now result es.new vs.new
         p.new }
 {
@@ -91,7 +91,7 @@ pub fn transform_until_complete(
     nodes: &mut [u32],
     map: &mut [u32],
 ) -> Work
-    requires { (isTransform kind ≡ true) × (Ready least work.held es.old vs.old p.old heads.old nexts.old nodes.old map.old
+    requires { (is_transform kind ≡ true) × (Ready least work.held es.old vs.old p.old heads.old nexts.old nodes.old map.old
         × Counted work.rewrites heads.old) }
     ensures { Completed kind least work es.old vs.old p.old result es.new vs.new
         p.new heads.new nexts.new nodes.new map.new }

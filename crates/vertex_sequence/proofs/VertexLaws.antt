@@ -8,27 +8,27 @@ use native.Mathlib.Decide.{ℕ_discrete}
 use lib.ListN.{length, take, drop}
 use lib.Dec.{eqb}
 use borrow.Author.Tests.{eq-eqb, ne_eqb, le-leb, lt-leb}
-use Rattle.defs.specs.Forms.{formOf}
-use Rattle.defs.specs.SeqGraph.{vertexSequence}
-use Rattle.defs.specs.Record.{kind_of, k_of, verticesOf, length_at, sequenceStart, decode}
-use Rattle.defs.specs.Refusals.{bothKinds, refusalOf, layoutCauses, recordRefusal, doubledEdge, equalKmers, doubled, hasCycle}
-use Rattle.defs.specs.Calls.{vertexSequenceCauses, vertexSequenceNumber, vertexSequencePart}
-use Rattle.laws.proofs.Walks.{byTest}
+use Rattle.defs.specs.Forms.{form_of}
+use Rattle.defs.specs.SeqGraph.{vertex_sequence}
+use Rattle.defs.specs.Record.{kind_of, k_of, vertices_of, length_at, sequence_start, decode}
+use Rattle.defs.specs.Refusals.{both_kinds, refusal_of, layout_causes, record_refusal, doubled_edge, equal_kmers, doubled, has_cycle}
+use Rattle.defs.specs.Calls.{vertex_sequence_causes, vertex_sequence_number, vertex_sequence_part}
+use Rattle.laws.proofs.Walks.{by_test}
 use Rattle.laws.proofs.ListLaws.{by_order}
 use Rattle.form.specs.declared.Form.{Form}
-use Rattle.form.specs.Coded.{formIs}
+use Rattle.form.specs.Coded.{form_is}
 use Rattle.form.proofs.FormLaws.{limits-small}
 use Rattle.record.specs.Headed.{Headed, LengthInside}
-use Rattle.record.specs.Kinds.{takesOf}
+use Rattle.record.specs.Kinds.{takes_of}
 use Rattle.record.specs.declared.Takes.TheVariants.{BothKinds}
 use Rattle.kmer.specs.declared.KmerSize.{KmerSize}
 use Rattle.record.specs.Layout.{WellFormed, layout_of}
 use Rattle.record.specs.declared.Layout.{Layout}
 use Rattle.record.specs.declared.Layout.TheVariants.{Formed, Refused}
 use Rattle.record.proofs.Accepted.{well-formed, formed-none, formed-size, refused-number, refused-some}
-use Rattle.record.proofs.Fields.{sequenceAt-is}
+use Rattle.record.proofs.Fields.{sequence_at-is}
 use Rattle.record.proofs.Sequences.{vertex-is, sequence-inside, length-least, length_most, formed-headed, formed-length}
-use Rattle.store.specs.Store.{edgesIn, seqsIn}
+use Rattle.store.specs.Store.{edges_in, seqs_in}
 use Rattle.index.specs.Index.{Indexed, Indexable}
 use Rattle.cycle.specs.Peel.{HasCycle}
 use Rattle.memory.specs.declared.Held.{Held}
@@ -48,18 +48,18 @@ use Rattle.vertex_sequence.specs.Handed.{Handed, Placed}
 module _ (m n : ℕ) (es vs p : List ℕ) where
   -- what is doubled, in graphs of k-mers and of sequences
   pub kmers-doubled : {kmers d : Bool} {order : List ℕ} → kmers ≡ true → Doubles m n es vs p d order → d
-      ≡ (doubledEdge (edgesIn m es) || (kmers && equalKmers (seqsIn n vs p)))
+      ≡ (doubled_edge (edges_in m es) || (kmers && equal_kmers (seqs_in n vs p)))
   kmers-doubled t D = rw t D.is
 
-  pub edges-doubled : {kmers d : Bool} → kmers ≡ false → d ≡ doubledEdge (edgesIn m es) → d
-      ≡ (doubledEdge (edgesIn m es) || (kmers && equalKmers (seqsIn n vs p)))
-  edges-doubled f e = rw f (e ∙ sym (or-none (doubledEdge (edgesIn m es))))
+  pub edges-doubled : {kmers d : Bool} → kmers ≡ false → d ≡ doubled_edge (edges_in m es) → d
+      ≡ (doubled_edge (edges_in m es) || (kmers && equal_kmers (seqs_in n vs p)))
+  edges-doubled f e = rw f (e ∙ sym (or-none (doubled_edge (edges_in m es))))
     where
       or-none : (b : Bool) → (b || false) ≡ b
       or-none true = refl
       or-none false = refl
 
-  module _ {kmers d : Bool} (q : d ≡ (doubledEdge (edgesIn m es) || (kmers && equalKmers (seqsIn n vs p)))) where
+  module _ {kmers d : Bool} (q : d ≡ (doubled_edge (edges_in m es) || (kmers && equal_kmers (seqs_in n vs p)))) where
     pub checks-6 : d ≡ true → Checks kmers m n es vs p 6
     checks-6 t = record { is = λ k. rw (sym q ∙ t) refl }
 
@@ -71,24 +71,24 @@ module _ (m n : ℕ) (es vs p : List ℕ) where
 
 -- ---- the record
 
-module _ (bs : List ℕ) {r : Layout} (e : r ≡ layout_of (refusalOf (layoutCauses (takesOf BothKinds) bs)) (k_of bs)) where
-  pub number-early : {n : ℕ} → r ≡ Refused n → n ≡ recordRefusal bothKinds bs
-  unfolding takesOf
+module _ (bs : List ℕ) {r : Layout} (e : r ≡ layout_of (refusal_of (layout_causes (takes_of BothKinds) bs)) (k_of bs)) where
+  pub number-early : {n : ℕ} → r ≡ Refused n → n ≡ record_refusal both_kinds bs
+  unfolding takes_of
   number-early {n} f =
-      sym (refused-early bothKinds bs (sym (refused-number bothKinds bs e f))
-      (by_order 1 n (λ b. b) (λ b. absurd (refused-some bothKinds bs e f (omega arith)))))
+      sym (refused-early both_kinds bs (sym (refused-number both_kinds bs e f))
+      (by_order 1 n (λ b. b) (λ b. absurd (refused-some both_kinds bs e f (omega arith)))))
 
   module _ {k : KmerSize} (ok : r ≡ Formed k) where
-    layout-none : refusalOf (layoutCauses bothKinds bs) ≡ 0
-    unfolding takesOf
-    layout-none = formed-none bothKinds bs e ok
+    layout-none : refusal_of (layout_causes both_kinds bs) ≡ 0
+    unfolding takes_of
+    layout-none = formed-none both_kinds bs e ok
 
     -- in arrays for a vertices and b edges
     pub number-loadable : {a b : ℕ} → FewToRead a b bs → {es vs : List ℕ} → length es ≡ 4 * b → length vs ≡ 2 * a
         → (k.0 ≡ k_of bs) × Loadable bs es vs
     number-loadable F p q =
-        let formed = well-formed bothKinds bs layout-none in (
-          formed-size (takesOf BothKinds) bs e ok,
+        let formed = well-formed both_kinds bs layout-none in (
+          formed-size (takes_of BothKinds) bs e ok,
           record { laid = formed-laid formed; es-room = omega (arith, F.edges formed); vs-room = omega (arith, F.vertices formed) },
         )
 
@@ -98,16 +98,16 @@ module _ (bs : List ℕ) {r : Layout} (e : r ≡ layout_of (refusalOf (layoutCau
 
 module _ {bs : List ℕ} {h : Held} {es vs heads nexts order scratch place : List ℕ} (H : LoadedToCheck bs h es vs heads nexts order scratch place) where
   formed : WellFormed bs
-  formed = well-formed bothKinds bs H.none
+  formed = well-formed both_kinds bs H.none
 
   room : RoomFor bs es vs heads nexts order scratch
   room = H.room.reading.room formed
 
   n-small : h.n < 4294967296
-  n-small = omega (arith, H.loaded.n, formed.vertices, (limits-small (formOf bs)).vertices)
+  n-small = omega (arith, H.loaded.n, formed.vertices, (limits-small (form_of bs)).vertices)
 
   m-small : h.m < 4294967296
-  m-small = omega (arith, H.loaded.m, formed.edges, (limits-small (formOf bs)).edges)
+  m-small = omega (arith, H.loaded.m, formed.edges, (limits-small (form_of bs)).edges)
 
   -- its kind can be read
   pub loaded-long : 32 ≤ length bs
@@ -144,87 +144,87 @@ module _ {bs : List ℕ} {h : Held} {es vs heads nexts order scratch place : Lis
       }
 
   number_is : {kmers : Bool} {n : ℕ} → kmers ≡ eqb (kind_of bs) 0 → Checks kmers h.m h.n es vs bs n → n
-      ≡ cond (doubled bs) 6 (cond (hasCycle (decode bs)) 7 0)
+      ≡ cond (doubled bs) 6 (cond (has_cycle (decode bs)) 7 0)
   unfolding doubled
   number_is q C =
       let is = H.loaded.is in
-      C.is h.k.0 ∙ (λ i. cond (doubledEdge (is i).edges || (q i && equalKmers (is i).verts)) 6 (cond (hasCycle (is i)) 7 0))
+      C.is h.k.0 ∙ (λ i. cond (doubled_edge (is i).edges || (q i && equal_kmers (is i).verts)) 6 (cond (has_cycle (is i)) 7 0))
 
-  by_tests : cond (doubled bs) 6 (cond (hasCycle (decode bs)) 7 0) ≡ recordRefusal bothKinds bs
-  by_tests = byTest (doubled bs)
-      (λ d. rw d (sym (refused-6 bothKinds bs H.none d)))
-      (λ d. byTest (hasCycle (decode bs))
-      (λ c. rw (d, c) (sym (refused-7 bothKinds bs H.none d c)))
-      (λ c. rw (d, c) (sym (accepted bothKinds bs H.none d c))))
+  by_tests : cond (doubled bs) 6 (cond (has_cycle (decode bs)) 7 0) ≡ record_refusal both_kinds bs
+  by_tests = by_test (doubled bs)
+      (λ d. rw d (sym (refused-6 both_kinds bs H.none d)))
+      (λ d. by_test (has_cycle (decode bs))
+      (λ c. rw (d, c) (sym (refused-7 both_kinds bs H.none d c)))
+      (λ c. rw (d, c) (sym (accepted both_kinds bs H.none d c))))
 
-  pub number-late : {kmers : Bool} {n : ℕ} → kmers ≡ eqb (kind_of bs) 0 → Checks kmers h.m h.n es vs bs n → n ≡ recordRefusal bothKinds bs
+  pub number-late : {kmers : Bool} {n : ℕ} → kmers ≡ eqb (kind_of bs) 0 → Checks kmers h.m h.n es vs bs n → n ≡ record_refusal both_kinds bs
   number-late q C = number_is q C ∙ by_tests
 
 -- ---- the vertex
 
 module _ (bs : List ℕ) (v : ℕ) where
-  pub vertex-refused : {r : ℕ} → r ≡ recordRefusal bothKinds bs → (r ≡ 0 → ⊥) → r ≡ vertexSequenceNumber bs v
-  unfolding vertexSequenceNumber vertexSequenceCauses
-  vertex-refused e o = sym (behind-refused bothKinds bs 9 _ (sym e) o)
+  pub vertex-refused : {r : ℕ} → r ≡ record_refusal both_kinds bs → (r ≡ 0 → ⊥) → r ≡ vertex_sequence_number bs v
+  unfolding vertex_sequence_number vertex_sequence_causes
+  vertex-refused e o = sym (behind-refused both_kinds bs 9 _ (sym e) o)
 
-  module _ (z : recordRefusal bothKinds bs ≡ 0) where
-    pub vertex-9 : verticesOf bs ≤ v → 9 ≡ vertexSequenceNumber bs v
-    unfolding vertexSequenceNumber vertexSequenceCauses
-    vertex-9 l = sym (behind-present bothKinds bs 9 _ z (le-leb (verticesOf bs) v l))
+  module _ (z : record_refusal both_kinds bs ≡ 0) where
+    pub vertex-9 : vertices_of bs ≤ v → 9 ≡ vertex_sequence_number bs v
+    unfolding vertex_sequence_number vertex_sequence_causes
+    vertex-9 l = sym (behind-present both_kinds bs 9 _ z (le-leb (vertices_of bs) v l))
 
-    pub vertex-0 : v < verticesOf bs → 0 ≡ vertexSequenceNumber bs v
-    unfolding vertexSequenceNumber vertexSequenceCauses
-    vertex-0 l = sym (behind-absent bothKinds bs 9 _ z (lt-leb (verticesOf bs) v l))
+    pub vertex-0 : v < vertices_of bs → 0 ≡ vertex_sequence_number bs v
+    unfolding vertex_sequence_number vertex_sequence_causes
+    vertex-0 l = sym (behind-absent both_kinds bs 9 _ z (lt-leb (vertices_of bs) v l))
 
   -- an accepted call's record and vertex
-  pub record-zero : {r : ℕ} → r ≡ recordRefusal bothKinds bs → r ≡ 0 → recordRefusal bothKinds bs ≡ 0
+  pub record-zero : {r : ℕ} → r ≡ record_refusal both_kinds bs → r ≡ 0 → record_refusal both_kinds bs ≡ 0
   record-zero e z = sym e ∙ z
 
-  pub record-headed : recordRefusal bothKinds bs ≡ 0 → {form : Form} → formIs form ≡ formOf bs → Headed form bs
-  record-headed z = formed-headed (accepted-layout bothKinds bs z)
+  pub record-headed : record_refusal both_kinds bs ≡ 0 → {form : Form} → form_is form ≡ form_of bs → Headed form bs
+  record-headed z = formed-headed (accepted-layout both_kinds bs z)
 
-  pub vertex-known : vertexSequenceNumber bs v ≡ 0 → WellFormed bs × (v < verticesOf bs)
-  vertex-known z = elim (ℕ_discrete (recordRefusal bothKinds bs) 0) [
+  pub vertex-known : vertex_sequence_number bs v ≡ 0 → WellFormed bs × (v < vertices_of bs)
+  vertex-known z = elim (ℕ_discrete (record_refusal both_kinds bs) 0) [
     | no ne ↦ absurd (ne (vertex-refused refl ne ∙ z))
-    | yes y ↦ by_order (verticesOf bs) v (λ l. absurd (nine (vertex-9 y l ∙ z))) (λ l. (accepted-layout bothKinds bs y, l))
+    | yes y ↦ by_order (vertices_of bs) v (λ l. absurd (nine (vertex-9 y l ∙ z))) (λ l. (accepted-layout both_kinds bs y, l))
   ]
     where
       nine : ◌≡◌ {A = ℕ} 9 0 → ⊥
       nine q = omega (arith, q)
 
-  part_none : {told : ℕ} → told ≡ vertexSequenceNumber bs v → (told ≡ 0 → ⊥) → [] ≡ vertexSequencePart bs v
-  unfolding vertexSequencePart
-  part_none e o = rw (ne_eqb (vertexSequenceNumber bs v) 0 (λ q. o (e ∙ q)), vertexSequencePart) refl
+  part_none : {told : ℕ} → told ≡ vertex_sequence_number bs v → (told ≡ 0 → ⊥) → [] ≡ vertex_sequence_part bs v
+  unfolding vertex_sequence_part
+  part_none e o = rw (ne_eqb (vertex_sequence_number bs v) 0 (λ q. o (e ∙ q)), vertex_sequence_part) refl
 
-  part-some : vertexSequenceNumber bs v ≡ 0 → vertexSequence (decode bs) v ≡ vertexSequencePart bs v
-  unfolding vertexSequencePart
-  part-some z = rw (eq-eqb (vertexSequenceNumber bs v) 0 z, vertexSequencePart) refl
+  part-some : vertex_sequence_number bs v ≡ 0 → vertex_sequence (decode bs) v ≡ vertex_sequence_part bs v
+  unfolding vertex_sequence_part
+  part-some z = rw (eq-eqb (vertex_sequence_number bs v) 0 z, vertex_sequence_part) refl
 
-  module _ {told : ℕ} (e : told ≡ vertexSequenceNumber bs v) where
+  module _ {told : ℕ} (e : told ≡ vertex_sequence_number bs v) where
     pub handed-none : (told ≡ 0 → ⊥) → Handed bs v told []
     handed-none o = record { number = e; part = part_none e o }
 
     pub handed-part : told ≡ 0 → {r : List ℕ} → Part bs v r → Handed bs v told r
     handed-part z P = record { number = e; part = P.vertex ∙ part-some (sym e ∙ z) }
 
-    pub known : told ≡ 0 → WellFormed bs × (v < verticesOf bs)
+    pub known : told ≡ 0 → WellFormed bs × (v < vertices_of bs)
     known z = vertex-known (sym e ∙ z)
 
     pub placed-none : (told ≡ 0 → ⊥) → Placed bs v told record { offset = 0; length = 0 }
     placed-none o = record { number = e; offset = rw (ne_eqb told 0 o) refl; size = rw (ne_eqb told 0 o) refl; part = part_none e o }
 
-    pub placed-inside : told ≡ 0 → {form : Form} → formIs form ≡ formOf bs → LengthInside form bs v
+    pub placed-inside : told ≡ 0 → {form : Form} → form_is form ≡ form_of bs → LengthInside form bs v
     placed-inside z is = let k = known z in formed-length k.0 is v k.1
 
-    pub placed-part : (z : told ≡ 0) {at len : ℕ} → at ≡ sequenceStart bs v → len ≡ length_at bs v → Placed bs v told record { offset = at; length = len }
+    pub placed-part : (z : told ≡ 0) {at len : ℕ} → at ≡ sequence_start bs v → len ≡ length_at bs v → Placed bs v told record { offset = at; length = len }
     placed-part z {at} {len} a b = record {
       number = e;
       offset = rw (eq-eqb told 0 z) a;
       size = rw (eq-eqb told 0 z) b;
-      part = (λ i. take (b i) (drop (a i) bs)) ∙ sym (sequenceAt-is bs v) ∙ sym (vertex-is bs v (known z).1) ∙ part-some (sym e ∙ z);
+      part = (λ i. take (b i) (drop (a i) bs)) ∙ sym (sequence_at-is bs v) ∙ sym (vertex-is bs v (known z).1) ∙ part-some (sym e ∙ z);
     }
 
-    pub placed-small : (z : told ≡ 0) → sequenceStart bs v + length_at bs v < 4294967296
+    pub placed-small : (z : told ≡ 0) → sequence_start bs v + length_at bs v < 4294967296
     placed-small z =
         let W = (known z).0 in
         omega (arith, sequence-inside bs v (known z).1 W, length_most bs W)

@@ -1,11 +1,11 @@
 // A vertex's sequence of a record of either kind, as the part of the record's bytes that holds it. Nothing is asked of the caller.
 ghost use Rattle.std.specs.Prelude.{◌≡◌, ◌&&◌, ◌||◌};
-ghost use Rattle.defs.specs.Forms.{formOf};
-ghost use Rattle.defs.specs.Record.{verticesOf, edgesOf};
-ghost use Rattle.defs.specs.Refusals.{bothKinds, recordRefusal, doubledEdge, equalKmers};
-ghost use Rattle.defs.specs.Calls.{vertexSequenceNumber};
-ghost use Rattle.form.specs.Coded.{formIs};
-ghost use Rattle.store.specs.Store.{edgesIn, seqsIn};
+ghost use Rattle.defs.specs.Forms.{form_of};
+ghost use Rattle.defs.specs.Record.{vertices_of, edges_of};
+ghost use Rattle.defs.specs.Refusals.{both_kinds, record_refusal, doubled_edge, equal_kmers};
+ghost use Rattle.defs.specs.Calls.{vertex_sequence_number};
+ghost use Rattle.form.specs.Coded.{form_is};
+ghost use Rattle.store.specs.Store.{edges_in, seqs_in};
 ghost use Rattle.index.specs.Index.{Indexed};
 ghost use Rattle.doubled.specs.Doubled.{Markable};
 ghost use Rattle.sort.specs.Sort.{Sortable};
@@ -44,7 +44,7 @@ fn is_doubled(
 ) -> bool
     requires { Indexed m n es.now heads.now nexts.now
         × (Markable n scratch.old × Sortable (ReadableSequence vs.now p.now) n order.old scratch.old) }
-    ensures { result ≡ (doubledEdge (edgesIn m es.now) || (kmers && equalKmers (seqsIn n vs.now p.now))) }
+    ensures { result ≡ (doubled_edge (edges_in m es.now) || (kmers && equal_kmers (seqs_in n vs.now p.now))) }
 {
     if kmers {
         return read_kmers::is_doubled(es, m, n, vs, p, heads, nexts, order, scratch);
@@ -91,7 +91,7 @@ fn loaded_number(
     place: &mut [u32],
 ) -> u32
     requires { LoadedToCheck rec.now held es.now vs.now heads.old nexts.old order.old scratch.old place.old }
-    ensures { result ≡ recordRefusal bothKinds rec.now }
+    ensures { result ≡ record_refusal both_kinds rec.now }
 {
     index::build_index(es, held.m, held.n, heads, nexts);
     graph_number(
@@ -121,7 +121,7 @@ fn vast_with(
     scratch: &mut [u32; MOST_VERTICES],
     place: &mut [u32; MOST_VERTICES],
 ) -> u32
-    ensures { result ≡ recordRefusal bothKinds rec.now }
+    ensures { result ≡ record_refusal both_kinds rec.now }
 {
     let k = match record::check_layout(rec, Takes::BothKinds) {
         Layout::Formed(k) => k,
@@ -132,7 +132,7 @@ fn vast_with(
 }
 
 fn vast(rec: &[u8]) -> u32
-    ensures { result ≡ recordRefusal bothKinds rec.now }
+    ensures { result ≡ record_refusal both_kinds rec.now }
 {
     let mut es = [0u32; 4 * MOST_EDGES];
     let mut vs = [0u32; 2 * MOST_VERTICES];
@@ -164,7 +164,7 @@ fn large_with(
     place: &mut [u32; MANY_VERTICES],
 ) -> u32
     requires { FewToRead 2048 4096 rec.now }
-    ensures { result ≡ recordRefusal bothKinds rec.now }
+    ensures { result ≡ record_refusal both_kinds rec.now }
 {
     let k = match record::check_layout(rec, Takes::BothKinds) {
         Layout::Formed(k) => k,
@@ -176,7 +176,7 @@ fn large_with(
 
 fn large(rec: &[u8]) -> u32
     requires { FewToRead 2048 4096 rec.now }
-    ensures { result ≡ recordRefusal bothKinds rec.now }
+    ensures { result ≡ record_refusal both_kinds rec.now }
 {
     let mut es = [0u32; 4 * MANY_EDGES];
     let mut vs = [0u32; 2 * MANY_VERTICES];
@@ -208,7 +208,7 @@ fn small_with(
     place: &mut [u32; FEW_VERTICES],
 ) -> u32
     requires { FewToRead 512 512 rec.now }
-    ensures { result ≡ recordRefusal bothKinds rec.now }
+    ensures { result ≡ record_refusal both_kinds rec.now }
 {
     let k = match record::check_layout(rec, Takes::BothKinds) {
         Layout::Formed(k) => k,
@@ -220,7 +220,7 @@ fn small_with(
 
 fn small(rec: &[u8]) -> u32
     requires { FewToRead 512 512 rec.now }
-    ensures { result ≡ recordRefusal bothKinds rec.now }
+    ensures { result ≡ record_refusal both_kinds rec.now }
 {
     let mut es = [0u32; 4 * FEW_EDGES];
     let mut vs = [0u32; 2 * FEW_VERTICES];
@@ -243,8 +243,8 @@ fn small(rec: &[u8]) -> u32
 
 // A record past the small class. One that does not begin SGR2 is refused, if it is, by the limits of SGR1, for which the large arrays are enough.
 fn past_small(rec: &[u8], form: Form, vertices: usize, edges: usize) -> u32
-    requires { (formIs form ≡ formOf rec.now) × ((vertices ≡ verticesOf rec.now) × (edges ≡ edgesOf rec.now)) }
-    ensures { result ≡ recordRefusal bothKinds rec.now }
+    requires { (form_is form ≡ form_of rec.now) × ((vertices ≡ vertices_of rec.now) × (edges ≡ edges_of rec.now)) }
+    ensures { result ≡ record_refusal both_kinds rec.now }
 {
     match form {
         Form::Sgr1 => return large(rec),
@@ -262,7 +262,7 @@ fn past_small(rec: &[u8], form: Form, vertices: usize, edges: usize) -> u32
 // In the arrays of the record's class. Those of each but the small one stand behind two tests: with one call of a function that has arrays the
 // compiler would lay its frame into this one, and every record would take it.
 fn checked_record(rec: &[u8]) -> u32
-    ensures { result ≡ recordRefusal bothKinds rec.now }
+    ensures { result ≡ record_refusal both_kinds rec.now }
 {
     if rec.len() <= SMALL_RECORD {
         return small(rec);
@@ -281,7 +281,7 @@ fn checked_record(rec: &[u8]) -> u32
 
 // The record's number, or 9 where v is no vertex, or 0.
 fn vertex_number(rec: &[u8], v: u32) -> u32
-    ensures { result ≡ vertexSequenceNumber rec.now v }
+    ensures { result ≡ vertex_sequence_number rec.now v }
 {
     let number = checked_record(rec);
     if number != 0 {

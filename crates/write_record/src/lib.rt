@@ -2,12 +2,12 @@
 ghost use Rattle.std.specs.Prelude.{◌≡◌, [], ◌∷◌, ◌++◌, ◌+◌, ◌-◌, ◌*◌, ◌<◌, ◌≤◌, length};
 ghost use Rattle.std.proofs.lemmas.List.Edits.{sets};
 ghost use Rattle.defs.specs.Lists.{concat, tab};
-ghost use Rattle.defs.specs.Forms.{mark, lengthsAt};
-ghost use Rattle.defs.specs.Record.{le16, le32, word_bytes, edges_at, bytes_at, wholeLength, encodeEdge, encodeHeader};
-ghost use Rattle.form.specs.Coded.{formIs};
-ghost use Rattle.store.specs.Store.{edgeIn, part, seqIn};
-ghost use Rattle.pool.specs.Pool.{bytesIn};
-ghost use Rattle.write_record.specs.Written.{lengthBytes, HeaderCountable, EdgeFits, EdgesFit, LengthsFit, SequencesFit, Measured, RecordWritable, RecordWritten};
+ghost use Rattle.defs.specs.Forms.{mark, lengths_at};
+ghost use Rattle.defs.specs.Record.{le16, le32, word_bytes, edges_at, bytes_at, whole_length, encode_edge, encode_header};
+ghost use Rattle.form.specs.Coded.{form_is};
+ghost use Rattle.store.specs.Store.{edge_in, part, seq_in};
+ghost use Rattle.pool.specs.Pool.{bytes_in};
+ghost use Rattle.write_record.specs.Written.{length_bytes, HeaderCountable, EdgeFits, EdgesFit, LengthsFit, SequencesFit, Measured, RecordWritable, RecordWritten};
 
 use form::Form;
 use kmer::KmerSize;
@@ -26,7 +26,7 @@ fn put_letters(out: &mut [u8], letters: &[u8])
 // The four letters that a record begins with.
 fn put_mark(out: &mut [u8], form: Form)
     requires { 4 ≤ length out.old }
-    ensures { out.new ≡ sets out.old 0 (mark (formIs form)) }
+    ensures { out.new ≡ sets out.old 0 (mark (form_is form)) }
 {
     match form {
         Form::Sgr1 => {
@@ -41,7 +41,7 @@ fn put_mark(out: &mut [u8], form: Form)
 // The mark, the kind and the status.
 fn put_kind(out: &mut [u8], form: Form, status: u32)
     requires { (6 ≤ length out.old) × (status < 256) }
-    ensures { out.new ≡ sets out.old 0 (mark (formIs form) ++ (1 ∷ status ∷ [])) }
+    ensures { out.new ≡ sets out.old 0 (mark (form_is form) ++ (1 ∷ status ∷ [])) }
 {
     put_mark(out, form);
     out[4] = 1;
@@ -49,8 +49,8 @@ fn put_kind(out: &mut [u8], form: Form, status: u32)
 }
 
 fn put_counts(out: &mut [u8], form: Form, k: KmerSize, n: usize, m: usize, b: usize)
-    requires { (lengthsAt (formIs form) ≤ length out.old) × HeaderCountable (formIs form) n m b }
-    ensures { out.new ≡ sets out.old 6 (le16 k.0 ++ word_bytes (formIs form) n ++ word_bytes (formIs form) m ++ le32 b) }
+    requires { (lengths_at (form_is form) ≤ length out.old) × HeaderCountable (form_is form) n m b }
+    ensures { out.new ≡ sets out.old 6 (le16 k.0 ++ word_bytes (form_is form) n ++ word_bytes (form_is form) m ++ le32 b) }
 {
     let word = form::word_size(form);
     le::put_u16(out, 6, kmer::value(k));
@@ -61,9 +61,9 @@ fn put_counts(out: &mut [u8], form: Form, k: KmerSize, n: usize, m: usize, b: us
 
 // They end where the lengths begin.
 fn put_offsets(out: &mut [u8], form: Form, edges: u32, bytes: u32, whole: u32)
-    requires { lengthsAt (formIs form) ≤ length out.old }
-    ensures { out.new ≡ sets out.old (lengthsAt (formIs form) - 16)
-        (le32 (lengthsAt (formIs form)) ++ le32 edges ++ le32 bytes ++ le32 whole) }
+    requires { lengths_at (form_is form) ≤ length out.old }
+    ensures { out.new ≡ sets out.old (lengths_at (form_is form) - 16)
+        (le32 (lengths_at (form_is form)) ++ le32 edges ++ le32 bytes ++ le32 whole) }
 {
     let header = form::lengths_at(form);
     le::put_u32(out, header - 16, header as u32);
@@ -73,8 +73,8 @@ fn put_offsets(out: &mut [u8], form: Form, edges: u32, bytes: u32, whole: u32)
 }
 
 fn put_header(out: &mut [u8], form: Form, status: u32, k: KmerSize, n: usize, m: usize, b: usize)
-    requires { (lengthsAt (formIs form) ≤ length out.old) × ((status < 256) × HeaderCountable (formIs form) n m b) }
-    ensures { out.new ≡ sets out.old 0 (encodeHeader (formIs form) 1 status k.0 n m b) }
+    requires { (lengths_at (form_is form) ≤ length out.old) × ((status < 256) × HeaderCountable (form_is form) n m b) }
+    ensures { out.new ≡ sets out.old 0 (encode_header (form_is form) 1 status k.0 n m b) }
 {
     put_kind(out, form, status);
     put_counts(out, form, k, n, m, b);
@@ -85,8 +85,8 @@ fn put_header(out: &mut [u8], form: Form, status: u32, k: KmerSize, n: usize, m:
 }
 
 fn put_lengths(out: &mut [u8], form: Form, vs: &[u32], n: usize)
-    requires { LengthsFit (formIs form) n vs.now out.old }
-    ensures { out.new ≡ sets out.old (lengthsAt (formIs form)) (concat (tab n (lengthBytes (formIs form) vs.now))) }
+    requires { LengthsFit (form_is form) n vs.now out.old }
+    ensures { out.new ≡ sets out.old (lengths_at (form_is form)) (concat (tab n (length_bytes (form_is form) vs.now))) }
 {
     let mut i = 0;
     while i < n {
@@ -96,8 +96,8 @@ fn put_lengths(out: &mut [u8], form: Form, vs: &[u32], n: usize)
 }
 
 fn put_edge(out: &mut [u8], form: Form, at: usize, es: &[u32], i: usize)
-    requires { EdgeFits (formIs form) es.now i at out.old }
-    ensures { out.new ≡ sets out.old at (encodeEdge (formIs form) (edgeIn es.now i)) }
+    requires { EdgeFits (form_is form) es.now i at out.old }
+    ensures { out.new ≡ sets out.old at (encode_edge (form_is form) (edge_in es.now i)) }
 {
     let word = form::word_size(form);
     form::put_word(out, at, form, store::edge_from(es, i));
@@ -109,9 +109,9 @@ fn put_edge(out: &mut [u8], form: Form, at: usize, es: &[u32], i: usize)
 
 // Behind the lengths of n vertices.
 fn put_edges(out: &mut [u8], form: Form, n: usize, es: &[u32], m: usize)
-    requires { EdgesFit (formIs form) n m es.now out.old }
-    ensures { out.new ≡ sets out.old (edges_at (formIs form) n)
-        (concat (tab m (λ i. encodeEdge (formIs form) (edgeIn es.now i)))) }
+    requires { EdgesFit (form_is form) n m es.now out.old }
+    ensures { out.new ≡ sets out.old (edges_at (form_is form) n)
+        (concat (tab m (λ i. encode_edge (form_is form) (edge_in es.now i)))) }
 {
     let mut i = 0;
     while i < m {
@@ -133,7 +133,7 @@ fn put_sequence(out: &mut [u8], at: usize, p: &[u8], start: usize, len: usize)
 
 fn put_sequences(out: &mut [u8], at: usize, vs: &[u32], n: usize, p: &[u8])
     requires { SequencesFit n vs.now p.now at out.old }
-    ensures { out.new ≡ sets out.old at (concat (tab n (seqIn vs.now p.now))) }
+    ensures { out.new ≡ sets out.old at (concat (tab n (seq_in vs.now p.now))) }
 {
     let mut to = at;
     let mut v = 0;
@@ -148,8 +148,8 @@ fn put_sequences(out: &mut [u8], at: usize, vs: &[u32], n: usize, p: &[u8])
 
 // The lengths of the first n vertices together.
 pub fn sequence_bytes(vs: &[u32], n: usize) -> usize
-    requires { (2 * n ≤ length vs.now) × (bytesIn n vs.now < 4294967296) }
-    ensures { result ≡ bytesIn n vs.now }
+    requires { (2 * n ≤ length vs.now) × (bytes_in n vs.now < 4294967296) }
+    ensures { result ≡ bytes_in n vs.now }
 {
     let mut total = 0;
     let mut v = 0;
@@ -162,8 +162,8 @@ pub fn sequence_bytes(vs: &[u32], n: usize) -> usize
 
 // The record's length, before it is written.
 pub fn record_length(form: Form, held: Held, vs: &[u32]) -> usize
-    requires { Measured (formIs form) held vs.now }
-    ensures { result ≡ wholeLength (formIs form) held.n held.m (bytesIn held.n vs.now) }
+    requires { Measured (form_is form) held vs.now }
+    ensures { result ≡ whole_length (form_is form) held.n held.m (bytes_in held.n vs.now) }
 {
     let n = held.n;
     form::bytes_at(form, n, held.m) + sequence_bytes(vs, n)
@@ -179,8 +179,8 @@ pub fn write_record(
     vs: &[u32],
     p: &[u8],
 ) -> usize
-    requires { RecordWritable (formIs form) status held es.now vs.now p.now out.old }
-    ensures { RecordWritten (formIs form) status held es.now vs.now p.now out.old result out.new }
+    requires { RecordWritable (form_is form) status held es.now vs.now p.now out.old }
+    ensures { RecordWritten (form_is form) status held es.now vs.now p.now out.old result out.new }
 {
     let n = held.n;
     let m = held.m;

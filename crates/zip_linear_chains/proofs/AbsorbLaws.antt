@@ -7,19 +7,19 @@ use native.Mathlib.Omega.{arith}
 use lib.ListN.{length, get_or, set}
 use Rattle.defs.specs.Lists.{concat, sum}
 use Rattle.defs.specs.SeqGraph.{Graph}
-use Rattle.defs.specs.Zip.{traceLinearChain, last_of, linearChain}
+use Rattle.defs.specs.Zip.{trace_linear_chain, last_of, linear_chain}
 use Rattle.laws.proofs.ListLaws.{by_order}
 use Rattle.laws.proofs.Counts.{total}
 use Rattle.laws.proofs.SplitCounts.{length-flat-map}
-use Rattle.laws.proofs.Whole.{byList}
+use Rattle.laws.proofs.Whole.{by_list}
 use Rattle.laws.proofs.Quiet.{chain-none}
 use Rattle.all_chains.proofs.Traces.{linear-yes}
 use Rattle.tabs.proofs.Tabs.{length-tab, tab-zero, tab-ext}
-use Rattle.store.specs.Store.{seqIn, seqsIn, graphIn, numsIn, nodesLength, Within, putVertex}
+use Rattle.store.specs.Store.{seq_in, seqs_in, graph_in, nums_in, nodes_length, Within, put_vertex}
 use Rattle.compact.proofs.CompactLaws.{order-in}
 use Rattle.chain.specs.Chain.{ChainStart, Traced}
 use Rattle.store.proofs.VertexLaws.{part-long}
-use Rattle.memory.specs.Memory.{vertexRoom}
+use Rattle.memory.specs.Memory.{vertex_room}
 use Rattle.merge_linear_chain.specs.Zip.{ChainWritable, ChainWritten}
 use Rattle.merge_linear_chain.proofs.JoinLaws.{total-tab, last-of}
 use Rattle.merge_linear_chain.proofs.WrittenLaws.{verts-written, within-written}
@@ -35,12 +35,12 @@ nil-cons {X} {y} {ys} e = absurd (omega (arith, bad))
 
 module _ {m n : ℕ} {es vs p heads nexts nodes rest froms : List ℕ} {t : Absorbed} {s : ℕ} (R : Absorbable m n es vs p heads nexts nodes rest froms t s) where
   abbrev g : Graph
-  g = graphIn 0 n m es vs p
+  g = graph_in 0 n m es vs p
 
   in-pool : Within (length p) n vs
   in-pool = record { at = λ v b. omega (arith, R.within.at v b, R.at_high, R.p-room) }
 
-  same : linearChain g s ≡ [] → AbsorbedAt m n es vs p nodes froms t s t vs p nodes froms
+  same : linear_chain g s ≡ [] → AbsorbedAt m n es vs p nodes froms t s t vs p nodes froms
   same e = record {
     none = λ _. record { same = refl; same-vs = refl; same-p = refl; same_nodes = refl; same-froms = refl };
     some =
@@ -51,39 +51,39 @@ module _ {m n : ℕ} {es vs p heads nexts nodes rest froms : List ℕ} {t : Abso
   absorb-no-start C e = same (chain-none g s (sym (C.is 0 vs p) ∙ e))
 
   module _ {r : Bool} (C : ChainStart m n es s r) (e : r ≡ true) {c : ℕ} {rest' : List ℕ} (T : Traced m n es s c rest') where
-    chain-is : linearChain g s ≡ numsIn c rest'
+    chain-is : linear_chain g s ≡ nums_in c rest'
     chain-is =
         linear-yes g s (omega (arith, R.below, order-in 0 n m es vs p)) (sym (C.is 0 vs p) ∙ e)
-        ∙ (ap (λ (x : ℕ). traceLinearChain x g s) (order-in 0 n m es vs p) ∙ sym (T.is 0 vs p))
+        ∙ (ap (λ (x : ℕ). trace_linear_chain x g s) (order-in 0 n m es vs p) ∙ sym (T.is 0 vs p))
 
     pub absorb-none : c ≡ 0 → AbsorbedAt m n es vs p nodes froms t s t vs p nodes froms
-    absorb-none z = same (chain-is ∙ (ap (λ (x : ℕ). numsIn x rest') z ∙ tab-zero (λ (i : ℕ). get_or rest' i 0)))
+    absorb-none z = same (chain-is ∙ (ap (λ (x : ℕ). nums_in x rest') z ∙ tab-zero (λ (i : ℕ). get_or rest' i 0)))
 
     module _ (o : c ≡ 0 → ⊥) (q : length rest' ≡ length rest) where
       pub some-c : 1 ≤ c
       some-c = by_order 1 c (λ b. b) (λ b. absurd (o (omega arith)))
 
       -- the chain as a list that is not empty
-      by_chain : {X : Type 0} → ((y : ℕ) (ys : List ℕ) → numsIn c rest' ≡ y ∷ ys → linearChain g s ≡ y ∷ ys → X) → X
-      by_chain f = byList (numsIn c rest') (λ z. absurd (omega (arith, some-c, ap length z, length-tab c (λ (i : ℕ). get_or rest' i 0))))
+      by_chain : {X : Type 0} → ((y : ℕ) (ys : List ℕ) → nums_in c rest' ≡ y ∷ ys → linear_chain g s ≡ y ∷ ys → X) → X
+      by_chain f = by_list (nums_in c rest') (λ z. absurd (omega (arith, some-c, ap length z, length-tab c (λ (i : ℕ). get_or rest' i 0))))
           (λ y ys z. f y ys z (chain-is ∙ z))
 
-      fit-nums : t.at + length (concat (map (seqIn vs p) (s ∷ numsIn c rest'))) ≤ 2 * vertexRoom heads
-      fit-nums = by_chain (λ y ys z f. subst (λ (l : List ℕ). t.at + length (concat (map (seqIn vs p) (s ∷ l))) ≤ 2 * vertexRoom heads)
+      fit-nums : t.at + length (concat (map (seq_in vs p) (s ∷ nums_in c rest'))) ≤ 2 * vertex_room heads
+      fit-nums = by_chain (λ y ys z f. subst (λ (l : List ℕ). t.at + length (concat (map (seq_in vs p) (s ∷ l))) ≤ 2 * vertex_room heads)
           (sym z) (R.fits y ys f))
 
       pub fit-nodes : t.gone + c ≤ n
       fit-nodes = by_chain (λ y ys z f. omega (arith, R.nodes-fit y ys f, ap length z, length-tab c (λ (i : ℕ). get_or rest' i 0)))
 
-      size_is : length (concat (map (seqIn vs p) (s ∷ numsIn c rest'))) ≡ get_or vs (2 * s + 1) 0 + nodesLength vs rest' c
-      size_is = length-flat-map (seqIn vs p) (s ∷ numsIn c rest') ∙ sums
+      size_is : length (concat (map (seq_in vs p) (s ∷ nums_in c rest'))) ≡ get_or vs (2 * s + 1) 0 + nodes_length vs rest' c
+      size_is = length-flat-map (seq_in vs p) (s ∷ nums_in c rest') ∙ sums
         where
-          size : (v : ℕ) → v < n → length (seqIn vs p v) ≡ get_or vs (2 * v + 1) 0
+          size : (v : ℕ) → v < n → length (seq_in vs p v) ≡ get_or vs (2 * v + 1) 0
           size v b = part-long p _ _ (in-pool.at v b)
 
-          sums : total (λ (v : ℕ). length (seqIn vs p v)) (s ∷ numsIn c rest') ≡ get_or vs (2 * s + 1) 0 + nodesLength vs rest' c
-          sums = unfold total in (λ i. size s R.below i + (total-tab c (λ (v : ℕ). length (seqIn vs p v)) (λ (j : ℕ). get_or rest' j 0)
-              ∙ ap sum (tab-ext c (λ (j : ℕ). length (seqIn vs p (get_or rest' j 0))) (λ (j : ℕ). get_or vs (2 * get_or rest' j 0 + 1) 0) (λ j b.
+          sums : total (λ (v : ℕ). length (seq_in vs p v)) (s ∷ nums_in c rest') ≡ get_or vs (2 * s + 1) 0 + nodes_length vs rest' c
+          sums = unfold total in (λ i. size s R.below i + (total-tab c (λ (v : ℕ). length (seq_in vs p v)) (λ (j : ℕ). get_or rest' j 0)
+              ∙ ap sum (tab-ext c (λ (j : ℕ). length (seq_in vs p (get_or rest' j 0))) (λ (j : ℕ). get_or vs (2 * get_or rest' j 0 + 1) 0) (λ j b.
               size (get_or rest' j 0) (T.below j b)))) i)
 
       pub absorb-writable : ChainWritable vs p t.at s rest' c
@@ -103,30 +103,30 @@ module _ {m n : ℕ} {es vs p heads nexts nodes rest froms : List ℕ} {t : Abso
         pub end_low : t.at ≤ end
         end_low = omega (arith, W.end)
 
-        pub end-high : end ≤ 2 * vertexRoom heads
+        pub end-high : end ≤ 2 * vertex_room heads
         end-high = omega (arith, W.end, fit-nums, size_is)
 
         module _ (l : length p' ≡ length p) where
           at-pool : t.at ≤ length p
           at-pool = omega (arith, R.at_high, R.p-room)
 
-          verts-absorbed : seqsIn n (putVertex vs s t.at (end - t.at)) p' ≡ set (seqsIn n vs p) s (concat (map (seqIn vs p) (s ∷ numsIn c rest')))
+          verts-absorbed : seqs_in n (put_vertex vs s t.at (end - t.at)) p' ≡ set (seqs_in n vs p) s (concat (map (seq_in vs p) (s ∷ nums_in c rest')))
           verts-absorbed = verts-written R.below R.vs-room R.within at-pool W l
 
-          within-absorbed : Within end n (putVertex vs s t.at (end - t.at))
+          within-absorbed : Within end n (put_vertex vs s t.at (end - t.at))
           within-absorbed = within-written R.below R.vs-room R.within at-pool W
 
-          pub absorb-done : {vs₁ nodes₁ froms₁ : List ℕ} → vs₁ ≡ putVertex vs s t.at (end - t.at)
+          pub absorb-done : {vs₁ nodes₁ froms₁ : List ℕ} → vs₁ ≡ put_vertex vs s t.at (end - t.at)
               → NodesAppended t.gone c nodes rest' nodes₁ → froms₁ ≡ set froms (get_or rest' (c - 1) 0) s
               → AbsorbedAt m n es vs p nodes froms t s record { at = end; gone = t.gone + c; chains = t.chains + 1 } vs₁ p' nodes₁ froms₁
           absorb-done {vs₁} {nodes₁} {froms₁} put A led = record {
             none = λ e. absurd (omega (arith, some-c, ap length (sym chain-is ∙ e), length-tab c (λ (i : ℕ). get_or rest' i 0)));
-            some = λ y ys f. let z : numsIn c rest' ≡ y ∷ ys = sym chain-is ∙ f in record {
-              verts = ap (λ (x : List ℕ). seqsIn n x p') put ∙ (verts-absorbed
-                  ∙ ap (λ (x : List ℕ). set (seqsIn n vs p) s (concat (map (seqIn vs p) (s ∷ x)))) z);
+            some = λ y ys f. let z : nums_in c rest' ≡ y ∷ ys = sym chain-is ∙ f in record {
+              verts = ap (λ (x : List ℕ). seqs_in n x p') put ∙ (verts-absorbed
+                  ∙ ap (λ (x : List ℕ). set (seqs_in n vs p) s (concat (map (seq_in vs p) (s ∷ x)))) z);
               within = subst (λ (x : List ℕ). Within end n x) (sym put) within-absorbed;
-              at-is = omega (arith, W.end, size_is, ap (λ (x : List ℕ). length (concat (map (seqIn vs p) (s ∷ x)))) z);
-              gone-is = A.is ∙ ap (λ (x : List ℕ). numsIn t.gone nodes ++ x) z;
+              at-is = omega (arith, W.end, size_is, ap (λ (x : List ℕ). length (concat (map (seq_in vs p) (s ∷ x)))) z);
+              gone-is = A.is ∙ ap (λ (x : List ℕ). nums_in t.gone nodes ++ x) z;
               handed = led ∙ ap (λ (x : ℕ). set froms x s) (sym (last-of s c (λ (i : ℕ). get_or rest' i 0) some-c) ∙ ap (last_of s) z);
               chains-is = refl;
             };

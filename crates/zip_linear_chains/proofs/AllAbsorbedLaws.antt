@@ -9,64 +9,64 @@ use lib.Seq.{get_or-set_same, get_or-set_other}
 use lib.Dec.{eqb, ltb}
 use borrow.Author.Tests.{eqb-true, eqb-false}
 use Rattle.defs.specs.Lists.{concat, up_from}
-use Rattle.defs.specs.SeqGraph.{Graph, nodeCount, vertexSequence, edgesFrom, edges_into, outgoingNodes, incomingNodes, outDegree, inDegree, isReferenceNode}
-use Rattle.defs.specs.Zip.{isLinearChainStart, chainGoesOn, traceLinearChain, last_of, linearChain}
-use Rattle.laws.proofs.Walks.{byTest}
+use Rattle.defs.specs.SeqGraph.{Graph, node_count, vertex_sequence, edges_from, edges_into, outgoing_nodes, incoming_nodes, out_degree, in_degree, is_reference_node}
+use Rattle.defs.specs.Zip.{is_linear_chain_start, chain_goes_on, trace_linear_chain, last_of, linear_chain}
+use Rattle.laws.proofs.Walks.{by_test}
 use Rattle.laws.proofs.Counts.{total}
 use Rattle.laws.proofs.Cycles.{distinct-length}
 use Rattle.laws.proofs.Measures.{bytes-is}
 use Rattle.laws.proofs.Sound.{Sound}
-use Rattle.laws.proofs.Whole.{byList}
-use Rattle.all_chains.specs.AllChains.{LinearChain, chainsOf, goneOf, fromAfter, chainSequence, writeChains}
+use Rattle.laws.proofs.Whole.{by_list}
+use Rattle.all_chains.specs.AllChains.{LinearChain, chains_of, gone_of, from_after, chain_sequence, write_chains}
 use Rattle.all_chains.proofs.Traces.{chained-below, whole-chained, linear-start, linear-whole, WholeChain}
-use Rattle.all_chains.proofs.Zipped.{distinct-upFrom}
+use Rattle.all_chains.proofs.Zipped.{distinct-up_from}
 use Rattle.all_chains.proofs.ChainsBelow as L
-use Rattle.all_chains.proofs.ChainsBelow.{chainsBelow}
-use Rattle.tabs.proofs.Tabs.{length-tab, tab-zero, getD-tab}
-use Rattle.store.specs.Store.{seqIn, seqsIn, graphIn, numsIn, Within}
+use Rattle.all_chains.proofs.ChainsBelow.{chains_below}
+use Rattle.tabs.proofs.Tabs.{length-tab, tab-zero, get_or-tab}
+use Rattle.store.specs.Store.{seq_in, seqs_in, graph_in, nums_in, Within}
 use Rattle.compact.proofs.CompactLaws.{order-in}
 use Rattle.index.specs.Index.{Indexed}
-use Rattle.memory.specs.Memory.{graph_of, vertexRoom, Room, Holds}
+use Rattle.memory.specs.Memory.{graph_of, vertex_room, Room, Holds}
 use Rattle.memory.specs.declared.Held.{Held}
 use Rattle.memory.proofs.RoomLaws.{fit-bytes, held-vertices, room-kept}
 use Rattle.zip_linear_chains.specs.declared.Absorbed.{Absorbed}
 use Rattle.zip_linear_chains.specs.Loops.{EachItsOwn}
-use Rattle.zip_linear_chains.specs.Absorb.{chainIn, Absorbable, ChainAbsorbed, NothingAbsorbed, AbsorbedAt, ChainsAbsorbed, AllAbsorbed}
+use Rattle.zip_linear_chains.specs.Absorb.{chain_in, Absorbable, ChainAbsorbed, NothingAbsorbed, AbsorbedAt, ChainsAbsorbed, AllAbsorbed}
 
 -- ---- a chain is the same in graphs of the same edges and as many vertices
 
 module _ (g g' : Graph) (e : g.edges ≡ g'.edges) where
-  start-same : (x : ℕ) → isLinearChainStart g x ≡ isLinearChainStart g' x
-  unfolding isLinearChainStart outDegree inDegree incomingNodes edgesFrom edges_into
-  start-same x = ap (λ es. isLinearChainStart record { k = 0; verts = []; edges = es } x) e
+  start-same : (x : ℕ) → is_linear_chain_start g x ≡ is_linear_chain_start g' x
+  unfolding is_linear_chain_start out_degree in_degree incoming_nodes edges_from edges_into
+  start-same x = ap (λ es. is_linear_chain_start record { k = 0; verts = []; edges = es } x) e
 
-  next-same : (x : ℕ) → outgoingNodes g x ≡ outgoingNodes g' x
-  unfolding outgoingNodes edgesFrom
-  next-same x = ap (λ es. outgoingNodes record { k = 0; verts = []; edges = es } x) e
+  next-same : (x : ℕ) → outgoing_nodes g x ≡ outgoing_nodes g' x
+  unfolding outgoing_nodes edges_from
+  next-same x = ap (λ es. outgoing_nodes record { k = 0; verts = []; edges = es } x) e
 
-  goes_same : (x y : ℕ) → chainGoesOn g x y ≡ chainGoesOn g' x y
-  unfolding chainGoesOn outDegree inDegree edgesFrom edges_into isReferenceNode
-  goes_same x y = ap (λ es. chainGoesOn record { k = 0; verts = []; edges = es } x y) e
+  goes_same : (x y : ℕ) → chain_goes_on g x y ≡ chain_goes_on g' x y
+  unfolding chain_goes_on out_degree in_degree edges_from edges_into is_reference_node
+  goes_same x y = ap (λ es. chain_goes_on record { k = 0; verts = []; edges = es } x y) e
 
-  trace-same : (fuel x : ℕ) → traceLinearChain fuel g x ≡ traceLinearChain fuel g' x
-  unfolding traceLinearChain
+  trace-same : (fuel x : ℕ) → trace_linear_chain fuel g x ≡ trace_linear_chain fuel g' x
+  unfolding trace_linear_chain
   trace-same zero x = refl
   trace-same (suc fuel) x =
-      let y = Rattle.defs.specs.Lists.head_or 0 (outgoingNodes g x) in
-      let y' = Rattle.defs.specs.Lists.head_or 0 (outgoingNodes g' x) in
+      let y = Rattle.defs.specs.Lists.head_or 0 (outgoing_nodes g x) in
+      let y' = Rattle.defs.specs.Lists.head_or 0 (outgoing_nodes g' x) in
       let q : y ≡ y' = ap (Rattle.defs.specs.Lists.head_or 0) (next-same x) in
-      let s : chainGoesOn g x y ≡ chainGoesOn g' x y' = goes_same x y ∙ ap (chainGoesOn g' x) q in
-      byTest (chainGoesOn g x y)
-      (λ t. rw (t, traceLinearChain) (rw (sym s ∙ t, traceLinearChain) (λ i. q i ∷ (trace-same fuel y ∙ ap (traceLinearChain fuel g') q) i)))
-      (λ t. rw (t, traceLinearChain) (rw (sym s ∙ t, traceLinearChain)))
+      let s : chain_goes_on g x y ≡ chain_goes_on g' x y' = goes_same x y ∙ ap (chain_goes_on g' x) q in
+      by_test (chain_goes_on g x y)
+      (λ t. rw (t, trace_linear_chain) (rw (sym s ∙ t, trace_linear_chain) (λ i. q i ∷ (trace-same fuel y ∙ ap (trace_linear_chain fuel g') q) i)))
+      (λ t. rw (t, trace_linear_chain) (rw (sym s ∙ t, trace_linear_chain)))
 
-  linear-same : nodeCount g ≡ nodeCount g' → (x : ℕ) → linearChain g x ≡ linearChain g' x
-  unfolding linearChain
+  linear-same : node_count g ≡ node_count g' → (x : ℕ) → linear_chain g x ≡ linear_chain g' x
+  unfolding linear_chain
   linear-same n x =
-      let b : (ltb x (nodeCount g) && isLinearChainStart g x) ≡ (ltb x (nodeCount g') && isLinearChainStart g' x) = λ i. ltb x (n i) && start-same x i in
-      byTest (ltb x (nodeCount g) && isLinearChainStart g x)
-      (λ t. rw (t, linearChain) (rw (sym b ∙ t, linearChain) (trace-same (nodeCount g) x ∙ ap (λ (f : ℕ). traceLinearChain f g' x) n)))
-      (λ t. rw (t, linearChain) (rw (sym b ∙ t, linearChain)))
+      let b : (ltb x (node_count g) && is_linear_chain_start g x) ≡ (ltb x (node_count g') && is_linear_chain_start g' x) = λ i. ltb x (n i) && start-same x i in
+      by_test (ltb x (node_count g) && is_linear_chain_start g x)
+      (λ t. rw (t, linear_chain) (rw (sym b ∙ t, linear_chain) (trace-same (node_count g) x ∙ ap (λ (f : ℕ). trace_linear_chain f g' x) n)))
+      (λ t. rw (t, linear_chain) (rw (sym b ∙ t, linear_chain)))
 
 map-members : {A B : Type 0} (f k : A → B) (l : List A) → ((x : A) → Memᴰ x l → f x ≡ k x) → map f l ≡ map k l
 map-members f k [] h = refl
@@ -75,13 +75,13 @@ map-members f k (x ∷ l) h = λ i. h x (Memᴰ.head refl) i ∷ map-members f k
 -- ---- the loop
 
 -- the bytes of the chains' sequences
-abbrev chainBytes : Graph → List LinearChain → ℕ
-chainBytes g cs = total (λ c. length (chainSequence (vertexSequence g) c)) cs
+abbrev chain_bytes : Graph → List LinearChain → ℕ
+chain_bytes g cs = total (λ c. length (chain_sequence (vertex_sequence g) c)) cs
 
 -- what the loop keeps: the chains that start below v are absorbed
 pub record AbsorbedBelow (h : Held) (es vs₀ p₀ heads : List ℕ) (v : ℕ) (t : Absorbed) (vs p nodes froms : List ℕ) : Type 0 where
-  pub absorbed : ChainsAbsorbed h es vs₀ p₀ heads (chainsBelow (graph_of h es vs₀ p₀) v) t vs p nodes froms
-  pub at-is : t.at ≡ h.used + chainBytes (graph_of h es vs₀ p₀) (chainsBelow (graph_of h es vs₀ p₀) v)
+  pub absorbed : ChainsAbsorbed h es vs₀ p₀ heads (chains_below (graph_of h es vs₀ p₀) v) t vs p nodes froms
+  pub at-is : t.at ≡ h.used + chain_bytes (graph_of h es vs₀ p₀) (chains_below (graph_of h es vs₀ p₀) v)
 
 module _ {h : Held} {es vs₀ p₀ heads nexts : List ℕ} (H : Holds h es vs₀ p₀ heads nexts) where
   abbrev g : Graph
@@ -90,12 +90,12 @@ module _ {h : Held} {es vs₀ p₀ heads nexts : List ℕ} (H : Holds h es vs₀
   abbrev sound : Sound g
   sound = H.fit.good.0
 
-  order : nodeCount g ≡ h.n
+  order : node_count g ≡ h.n
   order = order-in h.k.0 h.n h.m es vs₀ p₀
 
   pub below-start : {nodes froms : List ℕ} → EachItsOwn h.n froms
       → AbsorbedBelow h es vs₀ p₀ heads 0 record { at = h.used; gone = 0; chains = 0 } vs₀ p₀ nodes froms
-  unfolding writeChains goneOf fromAfter total
+  unfolding write_chains gone_of from_after total
   below-start {nodes} {froms} O = record {
     absorbed = subst (λ (cs : List LinearChain). ChainsAbsorbed h es vs₀ p₀ heads cs record { at = h.used; gone = 0; chains = 0 } vs₀ p₀ nodes froms)
         (sym (L.below_none g)) record {
@@ -108,31 +108,31 @@ module _ {h : Held} {es vs₀ p₀ heads nexts : List ℕ} (H : Holds h es vs₀
           same-vs = λ _. refl;
           same-p = λ _. refl;
         };
-    at-is = none ∙ ap (λ (cs : List LinearChain). h.used + chainBytes g cs) (sym (L.below_none g));
+    at-is = none ∙ ap (λ (cs : List LinearChain). h.used + chain_bytes g cs) (sym (L.below_none g));
   }
     where
-      none : h.used ≡ h.used + chainBytes g []
+      none : h.used ≡ h.used + chain_bytes g []
       none = unfold total in omega arith
 
   module _ {v : ℕ} {t : Absorbed} {vs p nodes froms : List ℕ} (W : AbsorbedBelow h es vs₀ p₀ heads v t vs p nodes froms) (b : v < h.n) where
-    chain-at : chainIn h.m h.n es vs p v ≡ linearChain g v
-    chain-at = linear-same (graphIn 0 h.n h.m es vs p) g refl (order-in 0 h.n h.m es vs p ∙ sym order) v
+    chain-at : chain_in h.m h.n es vs p v ≡ linear_chain g v
+    chain-at = linear-same (graph_in 0 h.n h.m es vs p) g refl (order-in 0 h.n h.m es vs p ∙ sym order) v
 
-    module _ (y : ℕ) (ys : List ℕ) (q : linearChain g v ≡ y ∷ ys) where
+    module _ (y : ℕ) (ys : List ℕ) (q : linear_chain g v ≡ y ∷ ys) where
       below : (u : ℕ) → Memᴰ u (v ∷ y ∷ ys) → u < h.n
       below u m =
           let a = linear-start g v y ys q in
           let w : WholeChain g v (y ∷ ys) = subst (WholeChain g v) q (linear-whole g sound v a.0 a.1) in
           omega (arith, chained-below g sound v (y ∷ ys) a.0 (whole-chained g v (y ∷ ys) w) u m, order)
 
-      seq-now : (u : ℕ) → Memᴰ u (v ∷ y ∷ ys) → seqIn vs p u ≡ vertexSequence g u
-      seq-now u m = sym (getD-tab h.n (seqIn vs p) u [] (below u m))
+      seq-now : (u : ℕ) → Memᴰ u (v ∷ y ∷ ys) → seq_in vs p u ≡ vertex_sequence g u
+      seq-now u m = sym (get_or-tab h.n (seq_in vs p) u [] (below u m))
           ∙ (ap (λ (l : List (List ℕ)). get_or l u []) W.absorbed.verts ∙ L.sequence-now g sound v y ys q u m)
 
-      sequences-same : concat (map (seqIn vs p) (v ∷ y ∷ ys)) ≡ concat (map (vertexSequence g) (v ∷ y ∷ ys))
-      sequences-same = ap concat (map-members (seqIn vs p) (vertexSequence g) (v ∷ y ∷ ys) seq-now)
+      sequences-same : concat (map (seq_in vs p) (v ∷ y ∷ ys)) ≡ concat (map (vertex_sequence g) (v ∷ y ∷ ys))
+      sequences-same = ap concat (map-members (seq_in vs p) (vertex_sequence g) (v ∷ y ∷ ys) seq-now)
 
-      fits : t.at + length (concat (map (seqIn vs p) (v ∷ y ∷ ys))) ≤ 2 * vertexRoom heads
+      fits : t.at + length (concat (map (seq_in vs p) (v ∷ y ∷ ys))) ≤ 2 * vertex_room heads
       fits = omega (
         arith,
         W.at-is,
@@ -150,9 +150,9 @@ module _ {h : Held} {es vs₀ p₀ heads nexts : List ℕ} (H : Holds h es vs₀
         ap length W.absorbed.gone-is,
         length-tab t.gone (λ (i : ℕ). get_or nodes i 0),
         ap length (L.gone-add g sound v y ys q),
-        length-append (goneOf (chainsBelow g v)) (y ∷ ys),
-        distinct-length (nodeCount g) (goneOf (chainsBelow g (v + 1)))
-            (L.gone-distinct g sound (up_from 0 (v + 1)) (distinct-upFrom 0 (v + 1))) (L.gone-below g sound (up_from 0 (v + 1))),
+        length-append (gone_of (chains_below g v)) (y ∷ ys),
+        distinct-length (node_count g) (gone_of (chains_below g (v + 1)))
+            (L.gone-distinct g sound (up_from 0 (v + 1)) (distinct-up_from 0 (v + 1))) (L.gone-below g sound (up_from 0 (v + 1))),
         order,
       )
 
@@ -161,7 +161,7 @@ module _ {h : Held} {es vs₀ p₀ heads nexts : List ℕ} (H : Holds h es vs₀
       arith,
       W.absorbed.chains-is,
       L.chains-less g sound (up_from 0 v),
-      distinct-length (nodeCount g) (goneOf (chainsBelow g v)) (L.gone-distinct g sound (up_from 0 v) (distinct-upFrom 0 v)) (L.gone-below g sound (up_from 0 v)),
+      distinct-length (node_count g) (gone_of (chains_below g v)) (L.gone-distinct g sound (up_from 0 v) (distinct-up_from 0 v)) (L.gone-below g sound (up_from 0 v)),
       order,
     )
 
@@ -188,26 +188,26 @@ module _ {h : Held} {es vs₀ p₀ heads nexts : List ℕ} (H : Holds h es vs₀
     pub below_more : {r : Absorbed} {vs' p' nodes' froms' : List ℕ}
         → AbsorbedAt h.m h.n es vs p nodes froms t v r vs' p' nodes' froms' → h.n ≤ length froms
         → AbsorbedBelow h es vs₀ p₀ heads (v + 1) r vs' p' nodes' froms'
-    below_more {r} {vs'} {p'} {nodes'} {froms'} K ll = byList (linearChain g v)
+    below_more {r} {vs'} {p'} {nodes'} {froms'} K ll = by_list (linear_chain g v)
         (λ q. none_more (L.below-skip g v q) (K.none (chain-at ∙ q)))
         (λ y ys q. some_more y ys q (K.some y ys (chain-at ∙ q)))
       where
-        none_more : chainsBelow g (v + 1) ≡ chainsBelow g v → NothingAbsorbed vs p nodes froms t r vs' p' nodes' froms'
+        none_more : chains_below g (v + 1) ≡ chains_below g v → NothingAbsorbed vs p nodes froms t r vs' p' nodes' froms'
             → AbsorbedBelow h es vs₀ p₀ heads (v + 1) r vs' p' nodes' froms'
         none_more e N = record {
           absorbed = record {
-            verts = (λ i. seqsIn h.n (N.same-vs i) (N.same-p i))
-                ∙ (W.absorbed.verts ∙ ap (λ (cs : List LinearChain). writeChains (vertexSequence g) cs g.verts) (sym e));
+            verts = (λ i. seqs_in h.n (N.same-vs i) (N.same-p i))
+                ∙ (W.absorbed.verts ∙ ap (λ (cs : List LinearChain). write_chains (vertex_sequence g) cs g.verts) (sym e));
             within = within-still;
             at_high = omega (arith, ap (λ (x : Absorbed). x.at) N.same, W.absorbed.at_high);
-            gone-is = (λ i. numsIn (N.same i).gone (N.same_nodes i)) ∙ (W.absorbed.gone-is ∙ ap goneOf (sym e));
+            gone-is = (λ i. nums_in (N.same i).gone (N.same_nodes i)) ∙ (W.absorbed.gone-is ∙ ap gone_of (sym e));
             froms-is = λ u c. ap (λ (l : List ℕ). get_or l u 0) N.same-froms
-                ∙ (W.absorbed.froms-is u c ∙ ap (λ (cs : List LinearChain). fromAfter cs u) (sym e));
+                ∙ (W.absorbed.froms-is u c ∙ ap (λ (cs : List LinearChain). from_after cs u) (sym e));
             chains-is = ap (λ (x : Absorbed). x.chains) N.same ∙ (W.absorbed.chains-is ∙ ap length (sym e));
             same-vs = λ z. N.same-vs ∙ W.absorbed.same-vs (sym e ∙ z);
             same-p = λ z. N.same-p ∙ W.absorbed.same-p (sym e ∙ z);
           };
-          at-is = ap (λ (x : Absorbed). x.at) N.same ∙ (W.at-is ∙ ap (λ (cs : List LinearChain). h.used + chainBytes g cs) (sym e));
+          at-is = ap (λ (x : Absorbed). x.at) N.same ∙ (W.at-is ∙ ap (λ (cs : List LinearChain). h.used + chain_bytes g cs) (sym e));
         }
           where
             within-still : Within r.at h.n vs'
@@ -221,7 +221,7 @@ module _ {h : Held} {es vs₀ p₀ heads nexts : List ℕ} (H : Holds h es vs₀
               );
             }
 
-        some_more : (y : ℕ) (ys : List ℕ) → linearChain g v ≡ y ∷ ys → ChainAbsorbed h.n vs p nodes froms t v y ys r vs' p' nodes' froms'
+        some_more : (y : ℕ) (ys : List ℕ) → linear_chain g v ≡ y ∷ ys → ChainAbsorbed h.n vs p nodes froms t v y ys r vs' p' nodes' froms'
             → AbsorbedBelow h es vs₀ p₀ heads (v + 1) r vs' p' nodes' froms'
         some_more y ys q S = record {
           absorbed = record {
@@ -229,7 +229,7 @@ module _ {h : Held} {es vs₀ p₀ heads nexts : List ℕ} (H : Holds h es vs₀
             within = S.within;
             at_high = omega (arith, S.at-is, fits y ys q);
             gone-is = S.gone-is ∙ (ap (λ (l : List ℕ). l ++ (y ∷ ys)) W.absorbed.gone-is ∙ sym (L.gone-add g sound v y ys q));
-            froms-is = λ u c. ap (λ (l : List ℕ). get_or l u 0) S.handed ∙ (handed u c ∙ sym (L.fromAfter-add g sound v y ys q u));
+            froms-is = λ u c. ap (λ (l : List ℕ). get_or l u 0) S.handed ∙ (handed u c ∙ sym (L.from_after-add g sound v y ys q u));
             chains-is = S.chains-is ∙ (ap (λ (x : ℕ). x + 1) W.absorbed.chains-is ∙ sym (L.count_add g sound v y ys q));
             same-vs = λ z. absurd (one_more z);
             same-p = λ z. absurd (one_more z);
@@ -237,26 +237,26 @@ module _ {h : Held} {es vs₀ p₀ heads nexts : List ℕ} (H : Holds h es vs₀
           at-is = omega (arith, S.at-is, W.at-is, ap length (sequences-same y ys q), L.bytes-add g sound v y ys q);
         }
           where
-            one_more : chainsBelow g (v + 1) ≡ [] → ⊥
+            one_more : chains_below g (v + 1) ≡ [] → ⊥
             one_more z = omega (arith, ap length z, L.count_add g sound v y ys q)
 
             last-in : last_of v (y ∷ ys) < h.n
             last-in = below y ys q (last_of v (y ∷ ys)) (Rattle.all_chains.proofs.OnePass.last_mem v (y ∷ ys))
 
-            handed : (u : ℕ) → u < h.n → get_or (set froms (last_of v (y ∷ ys)) v) u 0 ≡ cond (eqb u (last_of v (y ∷ ys))) v (fromAfter (chainsBelow g v) u)
-            handed u c = byTest (eqb u (last_of v (y ∷ ys)))
+            handed : (u : ℕ) → u < h.n → get_or (set froms (last_of v (y ∷ ys)) v) u 0 ≡ cond (eqb u (last_of v (y ∷ ys))) v (from_after (chains_below g v) u)
+            handed u c = by_test (eqb u (last_of v (y ∷ ys)))
                 (λ z. ap (λ (x : ℕ). get_or (set froms (last_of v (y ∷ ys)) v) x 0) (eqb-true _ _ z)
                 ∙ (get_or-set_same froms (last_of v (y ∷ ys)) v 0 (omega (arith, last-in, ll))
-                ∙ sym (ap (λ (x : Bool). cond x v (fromAfter (chainsBelow g v) u)) z)))
+                ∙ sym (ap (λ (x : Bool). cond x v (from_after (chains_below g v) u)) z)))
                 (λ z. get_or-set_other froms (last_of v (y ∷ ys)) u v 0 (eqb-false _ _ z)
-                ∙ (W.absorbed.froms-is u c ∙ sym (ap (λ (x : Bool). cond x v (fromAfter (chainsBelow g v) u)) z)))
+                ∙ (W.absorbed.froms-is u c ∙ sym (ap (λ (x : Bool). cond x v (from_after (chains_below g v) u)) z)))
 
   pub below_end : {v : ℕ} {t : Absorbed} {vs p nodes froms : List ℕ} → AbsorbedBelow h es vs₀ p₀ heads v t vs p nodes froms → v ≡ h.n
       → AllAbsorbed h es vs₀ p₀ heads t vs p nodes froms
-  unfolding chainsOf
+  unfolding chains_of
   below_end {v} {t} {vs} {p} {nodes} {froms} W e = record {
     absorbed =
-        subst (λ (x : ℕ). ChainsAbsorbed h es vs₀ p₀ heads (chainsBelow g x) t vs p nodes froms) (e ∙ sym order) W.absorbed;
+        subst (λ (x : ℕ). ChainsAbsorbed h es vs₀ p₀ heads (chains_below g x) t vs p nodes froms) (e ∙ sym order) W.absorbed;
   }
 
 -- ---- the invariant, with the lengths

@@ -9,8 +9,8 @@ use lib.Seq.{get_or-set_same, get_or-set_other}
 use Rattle.tabs.proofs.Tabs.{tab-ext, set_more}
 use Rattle.tabs.proofs.ListTabs.{tab-append}
 use Rattle.tabs.proofs.SumTabs.{map-tab}
-use Rattle.store.specs.Store.{edge, edgeIn, EndsBelow}
-use Rattle.zip_linear_chains.specs.Loops.{EachItsOwn, edgeWithFrom, AllEdgesMoved, NodesAppended}
+use Rattle.store.specs.Store.{edge, edge_in, EndsBelow}
+use Rattle.zip_linear_chains.specs.Loops.{EachItsOwn, edge_with_from, AllEdgesMoved, NodesAppended}
 
 -- ---- own_froms
 
@@ -77,11 +77,11 @@ moving-all-more {m} {es₀} {froms} {e} {es} L h r x q put = rw put (record {
 
 pub moving-all-end : {m : ℕ} {es₀ froms : List ℕ} {e : ℕ} {es : List ℕ} → MovingAll m es₀ froms e es → m ≤ e → AllEdgesMoved m es₀ froms es
 moving-all-end {m} {es₀} {froms} {e} {es} L h = record {
-  is = tab-ext m (edgeIn es) (λ (i : ℕ). edgeWithFrom froms (edgeIn es₀ i)) each
-      ∙ sym (map-tab (edgeWithFrom froms) m (edgeIn es₀));
+  is = tab-ext m (edge_in es) (λ (i : ℕ). edge_with_from froms (edge_in es₀ i)) each
+      ∙ sym (map-tab (edge_with_from froms) m (edge_in es₀));
 }
   where
-    each : (j : ℕ) → j < m → edgeIn es j ≡ edgeWithFrom froms (edgeIn es₀ j)
+    each : (j : ℕ) → j < m → edge_in es j ≡ edge_with_from froms (edge_in es₀ j)
     each j b = λ i. edge (L.done j (omega arith) i) (L.to-kept j i) (L.support-kept j i) (L.flag-kept j i)
 
 -- ---- append_nodes

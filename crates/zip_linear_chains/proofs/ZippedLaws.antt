@@ -1,29 +1,29 @@
--- The whole zip makes `zipLinearChains`. Assumes nothing.
+-- The whole zip makes `zip_linear_chains`. Assumes nothing.
 use mathlib.Core.Path.{◌≡◌, refl, sym, ap, ◌∙◌, subst}
 use mathlib.Core.List.{List, [], Memᴰ}
 use Prim.Native.Nat.{ℕ, ◌+◌, ◌*◌, ◌-◌, ◌≤◌, ◌<◌}
 use native.Mathlib.Omega.{arith}
 use lib.ListN.{length, get_or}
 use Rattle.defs.specs.Lists.{up_from}
-use Rattle.defs.specs.SeqGraph.{Graph, nodeCount, removeVerticesById}
+use Rattle.defs.specs.SeqGraph.{Graph, node_count, remove_vertices_by_id}
 use Rattle.laws.proofs.Nets.{Bounded}
 use Rattle.laws.proofs.Measures.{Tame}
 use Rattle.laws.proofs.Bound.{Paid}
 use Rattle.laws.proofs.Sound.{Sound}
-use Rattle.laws.proofs.Whole.{byList}
-use Rattle.all_chains.specs.AllChains.{LinearChain, chainsOf, goneOf, absorbChains, mergeLinearChains, zipAll}
+use Rattle.laws.proofs.Whole.{by_list}
+use Rattle.all_chains.specs.AllChains.{LinearChain, chains_of, gone_of, absorb_chains, merge_linear_chains, zip_all}
 use Rattle.all_chains.proofs.Zipped.{zip-all-is, zip-all-paid, zip-all-none}
 use Rattle.all_chains.proofs.ChainsBelow as L
 use Rattle.tabs.proofs.Tabs.{length-tab}
 use Rattle.tabs.proofs.ListTabs.{mem-tab}
-use Rattle.store.specs.Store.{edgesIn, graphIn, numsIn, EndsBelow, Within}
+use Rattle.store.specs.Store.{edges_in, graph_in, nums_in, EndsBelow, Within}
 use Rattle.compact.specs.Compact.{Compactable, Below, Removed}
 use Rattle.compact.specs.declared.Counts.{Counts}
 use Rattle.compact.proofs.CompactLaws.{order-in, mem-ends}
 use Rattle.index.specs.Index.{Indexed, Indexable}
-use Rattle.pool.specs.Pool.{bytesIn, Packable, Packed}
+use Rattle.pool.specs.Pool.{bytes_in, Packable, Packed}
 use Rattle.pool.proofs.PoolLaws.{packed-seqs, packed-within}
-use Rattle.memory.specs.Memory.{graph_of, workOf, vertexRoom, Fit, Holds}
+use Rattle.memory.specs.Memory.{graph_of, work_of, vertex_room, Fit, Holds}
 use Rattle.memory.specs.declared.Held.{Held}
 use Rattle.memory.specs.declared.Work.{Work}
 use Rattle.memory.proofs.RoomLaws.{fit-bytes, fit-tame, held-vertices, held-edges, held-ends, room-kept, holds_kept}
@@ -43,10 +43,10 @@ module _ {w : Work} {es vs p heads nexts nodes mp : List ℕ} (R : ReadyToZip w 
   abbrev sound : Sound g
   sound = R.holds.fit.good.0
 
-  order : nodeCount g ≡ w.held.n
+  order : node_count g ≡ w.held.n
   order = order-in w.held.k.0 w.held.n w.held.m es vs p
 
-  pub n_room : w.held.n ≤ vertexRoom heads
+  pub n_room : w.held.n ≤ vertex_room heads
   n_room = held-vertices R.holds
 
   pub n-small : w.held.n < 4294967296
@@ -63,12 +63,12 @@ module _ {w : Work} {es vs p heads nexts nodes mp : List ℕ} (R : ReadyToZip w 
       indexed = R.indexed;
       countable = R.countable;
     };
-    is = (λ i. workOf w es (same-vs i) (same-p i)) ∙ (sym (zip-all-none (workOf w es vs p) none) ∙ zip-all-is (workOf w es vs p) sound);
+    is = (λ i. work_of w es (same-vs i) (same-p i)) ∙ (sym (zip-all-none (work_of w es vs p) none) ∙ zip-all-is (work_of w es vs p) sound);
     less = omega arith;
   }
     where
-      none : chainsOf (graph_of w.held es vs p) ≡ []
-      none = byList (chainsOf (graph_of w.held es vs p)) (λ e. e) (λ y ys e. absurd (omega (arith, z, A.absorbed.chains-is, ap length e)))
+      none : chains_of (graph_of w.held es vs p) ≡ []
+      none = by_list (chains_of (graph_of w.held es vs p)) (λ e. e) (λ y ys e. absurd (omega (arith, z, A.absorbed.chains-is, ap length e)))
 
       same-vs : vs₁ ≡ vs
       same-vs = A.absorbed.same-vs none
@@ -80,10 +80,10 @@ module _ {w : Work} {es vs p heads nexts nodes mp : List ℕ} (R : ReadyToZip w 
       (lv : length vs₁ ≡ length vs) (lp : length p₁ ≡ length p) (ln : length nodes₁ ≡ length nodes) {es₁ : List ℕ} (E :
       AllEdgesMoved w.held.m es froms₁ es₁) (le : length es₁ ≡ length es) where
     abbrev cs : List LinearChain
-    cs = chainsOf (graph_of w.held es vs p)
+    cs = chains_of (graph_of w.held es vs p)
 
-    moved-is : graphIn w.held.k.0 w.held.n w.held.m es₁ vs₁ p₁ ≡ absorbChains cs g
-    unfolding absorbChains
+    moved-is : graph_in w.held.k.0 w.held.n w.held.m es₁ vs₁ p₁ ≡ absorb_chains cs g
+    unfolding absorb_chains
     moved-is = λ i. record {
       k = w.held.k.0;
       verts = A.absorbed.verts i;
@@ -92,7 +92,7 @@ module _ {w : Work} {es vs p heads nexts nodes mp : List ℕ} (R : ReadyToZip w 
 
     ends-moved : EndsBelow w.held.n w.held.m es₁
     ends-moved = mem-ends w.held.n w.held.m es₁ (λ e m.
-        let b = subst (λ (x : Graph). Bounded x) (sym moved-is) (unfold chainsOf in L.moved-bounded g sound (up_from 0 (nodeCount g))) e m in (
+        let b = subst (λ (x : Graph). Bounded x) (sym moved-is) (unfold chains_of in L.moved-bounded g sound (up_from 0 (node_count g))) e m in (
           omega (arith, b.0, order-in w.held.k.0 w.held.n w.held.m es₁ vs₁ p₁),
           omega (arith, b.1, order-in w.held.k.0 w.held.n w.held.m es₁ vs₁ p₁),
         ))
@@ -127,33 +127,33 @@ module _ {w : Work} {es vs p heads nexts nodes mp : List ℕ} (R : ReadyToZip w 
       );
     }
       where
-        gone_old : (u : ℕ) → Memᴰ u (goneOf (chainsOf (graph_of w.held es vs p))) → u < nodeCount (graph_of w.held es vs p)
-        gone_old u m = L.gone-below g sound (up_from 0 (nodeCount g)) u (unfold chainsOf in m)
+        gone_old : (u : ℕ) → Memᴰ u (gone_of (chains_of (graph_of w.held es vs p))) → u < node_count (graph_of w.held es vs p)
+        gone_old u m = L.gone-below g sound (up_from 0 (node_count g)) u (unfold chains_of in m)
 
-    module _ {r : Counts} {es₂ vs₂ mp₂ : List ℕ} (D : Removed w.held.n w.held.m es₁ vs₁ (numsIn t.gone nodes₁) r es₂ vs₂ mp₂) where
-      removed-is : graphIn w.held.k.0 r.n r.m es₂ vs₂ p₁ ≡ mergeLinearChains cs g
-      unfolding mergeLinearChains
-      removed-is = D.is w.held.k.0 p₁ ∙ (λ i. removeVerticesById (A.absorbed.gone-is i) (moved-is i))
+    module _ {r : Counts} {es₂ vs₂ mp₂ : List ℕ} (D : Removed w.held.n w.held.m es₁ vs₁ (nums_in t.gone nodes₁) r es₂ vs₂ mp₂) where
+      removed-is : graph_in w.held.k.0 r.n r.m es₂ vs₂ p₁ ≡ merge_linear_chains cs g
+      unfolding merge_linear_chains
+      removed-is = D.is w.held.k.0 p₁ ∙ (λ i. remove_vertices_by_id (A.absorbed.gone-is i) (moved-is i))
 
-      paid : Paid nodeCount (workOf w es vs p) (zipAll (workOf w es vs p))
-      paid = zip-all-paid (workOf w es vs p) R.holds.fit.good
+      paid : Paid node_count (work_of w es vs p) (zip_all (work_of w es vs p))
+      paid = zip-all-paid (work_of w es vs p) R.holds.fit.good
 
-      tame : Tame g (mergeLinearChains cs g)
-      tame = unfold zipAll in paid.tame
+      tame : Tame g (merge_linear_chains cs g)
+      tame = unfold zip_all in paid.tame
 
-      fit-rest : Fit (graphIn w.held.k.0 r.n r.m es₂ vs₂ p₁) heads nexts
+      fit-rest : Fit (graph_in w.held.k.0 r.n r.m es₂ vs₂ p₁) heads nexts
       fit-rest = subst (λ (x : Graph). Fit x heads nexts) (sym removed-is) (fit-tame R.holds.fit tame)
 
-      within-rest : Within (2 * vertexRoom heads) r.n vs₂
-      within-rest = D.within (2 * vertexRoom heads) (record { at = λ v b. omega (arith, A.absorbed.within.at v b, A.absorbed.at_high) })
+      within-rest : Within (2 * vertex_room heads) r.n vs₂
+      within-rest = D.within (2 * vertex_room heads) (record { at = λ v b. omega (arith, A.absorbed.within.at v b, A.absorbed.at_high) })
 
       pool-rest : Within (length p₁) r.n vs₂
       pool-rest = record { at = λ v b. omega (arith, within-rest.at v b, R.room.p-room, lp) }
 
-      bytes_rest : bytesIn r.n vs₂ ≤ vertexRoom heads
+      bytes_rest : bytes_in r.n vs₂ ≤ vertex_room heads
       bytes_rest = omega (arith, fit-bytes fit-rest, held_bytes r.n vs₂ p₁ pool-rest)
 
-      pub zip-packable : {base : ℕ} → base ≡ 2 * vertexRoom heads → length vs₂ ≡ length vs₁ → Packable r.n vs₂ p₁ base
+      pub zip-packable : {base : ℕ} → base ≡ 2 * vertex_room heads → length vs₂ ≡ length vs₁ → Packable r.n vs₂ p₁ base
       zip-packable e b = record {
         vs-room = omega (arith, b, lv, D.most-n, n_room, R.room.vs-room);
         within = subst (λ (x : ℕ). Within x r.n vs₂) (sym e) within-rest;
@@ -166,9 +166,9 @@ module _ {w : Work} {es vs p heads nexts nodes mp : List ℕ} (R : ReadyToZip w 
         abbrev held₃ : Held
         held₃ = record { k = w.held.k; n = r.n; m = r.m; used = used }
 
-        same : graph_of held₃ es₂ vs₃ p₃ ≡ graphIn w.held.k.0 r.n r.m es₂ vs₂ p₁
+        same : graph_of held₃ es₂ vs₃ p₃ ≡ graph_in w.held.k.0 r.n r.m es₂ vs₂ p₁
         same = let s = packed-seqs K pool-rest (omega (arith, K.used-is, bytes_rest, R.room.p-room, lp, b)) in λ i.
-            record { k = w.held.k.0; verts = s i; edges = edgesIn r.m es₂ }
+            record { k = w.held.k.0; verts = s i; edges = edges_in r.m es₂ }
 
         holds-rest : Holds held₃ es₂ vs₃ p₃ heads nexts
         holds-rest = record {
@@ -192,7 +192,7 @@ module _ {w : Work} {es vs p heads nexts nodes mp : List ℕ} (R : ReadyToZip w 
           A.absorbed.chains-is,
           L.joined-less g sound,
           order-in w.held.k.0 r.n r.m es₂ vs₂ p₁,
-          ap nodeCount removed-is,
+          ap node_count removed-is,
           order,
         )
 
@@ -213,7 +213,7 @@ module _ {w : Work} {es vs p heads nexts nodes mp : List ℕ} (R : ReadyToZip w 
             indexed = I;
             countable = omega (arith, R.countable, joined-n);
           };
-          is = (λ i. record { graph = (same ∙ removed-is) i; rewrites = count i }) ∙ (unfold zipAll in zip-all-is (workOf w es vs p) sound);
+          is = (λ i. record { graph = (same ∙ removed-is) i; rewrites = count i }) ∙ (unfold zip_all in zip-all-is (work_of w es vs p) sound);
           less = omega (arith, joined-n);
         }
           where

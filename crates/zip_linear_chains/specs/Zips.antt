@@ -1,8 +1,8 @@
 -- What zipping does to the slices. Assumes nothing.
 use Rattle.std.specs.Prelude.{◌≡◌, List, ℕ, ◌+◌, ◌≤◌, ◌<◌}
-use Rattle.defs.specs.Zip.{zipLinearChains}
+use Rattle.defs.specs.Zip.{zip_linear_chains}
 use Rattle.index.specs.Index.{Indexed}
-use Rattle.memory.specs.Memory.{workOf, Room, Holds}
+use Rattle.memory.specs.Memory.{work_of, Room, Holds}
 use Rattle.memory.specs.declared.Work.{Work}
 
 -- the graph is held and indexed, there is room, and the rewrites can be counted on: each zip takes a vertex away
@@ -15,5 +15,5 @@ pub record ReadyToZip (w : Work) (es vs p heads nexts nodes mp : List ℕ) : Typ
 -- what zipping all leaves
 pub record ZippedAll (w : Work) (es vs p : List ℕ) (r : Work) (es' vs' p' heads' nexts' nodes' mp' : List ℕ) : Type 0 where
   pub ready : ReadyToZip r es' vs' p' heads' nexts' nodes' mp'
-  pub is : workOf r es' vs' p' ≡ zipLinearChains (workOf w es vs p)
+  pub is : work_of r es' vs' p' ≡ zip_linear_chains (work_of w es vs p)
   pub less : r.rewrites + r.held.n ≤ w.rewrites + w.held.n

@@ -1,7 +1,7 @@
 -- `cycle::count_entering` meets its contract. Assumes nothing.
 use native.Mathlib.Omega.{arith}
 use Prim.Native.Nat.{◌-◌}
-use Rattle.index.specs.Index.{edgeEnd}
+use Rattle.index.specs.Index.{edge_end}
 use Rattle.cycle.proofs.PeelLaws.{Counting, counting-start, counting_more, counting-end, degree-most}
 use Rattle.cycle.proofs.count_entering.Statement.{statement}
 use Rattle.cycle.proofs.count_entering.Tie as tie
@@ -24,7 +24,7 @@ cast-degrees c =
     omega (
       arith,
       c.degree.ensures,
-      degree-most (edgeEnd 1 (start c).args.es.now) (start c).args.m (at-loop c).loop.v,
+      degree-most (edge_end 1 (start c).args.es.now) (start c).args.m (at-loop c).loop.v,
       (start c).requires.1.0,
     )
 

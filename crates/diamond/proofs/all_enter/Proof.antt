@@ -4,14 +4,14 @@ use mathlib.Core.Path.{sym, ◌∙◌}
 use Prim.Native.Nat.{ℕ, ◌-◌, ◌*◌}
 use lib.Dec.{eqb}
 use borrow.Author.Tests.{ne_eqb}
-use Rattle.index.specs.Index.{edgeEnd}
+use Rattle.index.specs.Index.{edge_end}
 use Rattle.index.proofs.AdjLaws.{Testing, testing-fails, testing-end}
 use Rattle.diamond.proofs.TestLaws.{enter-start, enter-more, enter-on}
 use Rattle.diamond.proofs.all_enter.Statement.{statement}
 use Rattle.diamond.proofs.all_enter.Tie as tie
 
 abbrev invariant-loop : tie.invariant-loop
-invariant-loop es m n heads nexts v b e₀ e = Testing (edgeEnd 0 es) m v (λ (x : ℕ). eqb b (edgeEnd 1 es x)) e
+invariant-loop es m n heads nexts v b e₀ e = Testing (edge_end 0 es) m v (λ (x : ℕ). eqb b (edge_end 1 es x)) e
 
 abbrev decreases-loop : tie.decreases-loop
 decreases-loop es m n heads nexts v b e₀ e = m - e

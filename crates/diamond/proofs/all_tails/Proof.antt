@@ -6,13 +6,13 @@ use Prim.Native.Nat.{ℕ, ◌-◌, ◌≤◌, ◌<◌}
 use lib.ListN.{get_or}
 use borrow.Author.Tests.{not-true, not-false}
 use borrow.Author.Count.{below_none, below_more}
-use Rattle.diamond.specs.Diamond.{isTail}
-use Rattle.diamond.proofs.TestLaws.{allOf-yes, allOf-no}
+use Rattle.diamond.specs.Diamond.{is_tail}
+use Rattle.diamond.proofs.TestLaws.{all_of-yes, all_of-no}
 use Rattle.diamond.proofs.all_tails.Statement.{statement}
 use Rattle.diamond.proofs.all_tails.Tie as tie
 
 abbrev invariant-loop : tie.invariant-loop
-invariant-loop es m n heads nexts nodes c i₀ i = (i ≤ c) × ((k : ℕ) → k < i → isTail m es (get_or nodes k 0) ≡ true)
+invariant-loop es m n heads nexts nodes c i₀ i = (i ≤ c) × ((k : ℕ) → k < i → is_tail m es (get_or nodes k 0) ≡ true)
 
 abbrev decreases-loop : tie.decreases-loop
 decreases-loop es m n heads nexts nodes c i₀ i = c - i
@@ -34,7 +34,7 @@ returns c =
     let at-is-tail : tie.After-is-tail invariant-loop decreases-loop = search in
     let at-loop-test : tie.In-loop invariant-loop decreases-loop = search in
     sym
-    (allOf-no _ _ _ _ at-loop-test.loop-test.taken (sym at-is-tail.is-tail.ensures ∙ not-true _ c.if1.true))
+    (all_of-no _ _ _ _ at-loop-test.loop-test.taken (sym at-is-tail.is-tail.ensures ∙ not-true _ c.if1.true))
 
 loop-again : tie.Need-loop-preserved invariant-loop decreases-loop
 loop-again c =
@@ -47,7 +47,7 @@ loop-again c =
     at-loop = let c = at-is-tail in search
 
 returns-2 : tie.Need-returns-2 invariant-loop decreases-loop
-returns-2 c = sym (allOf-yes _ _ _ (λ k h. at-loop.loop.inv.1 k (omega arith)))
+returns-2 c = sym (all_of-yes _ _ _ (λ k h. at-loop.loop.inv.1 k (omega arith)))
   where
     at-loop : tie.At-loop invariant-loop decreases-loop
     at-loop = search

@@ -1,7 +1,7 @@
 -- `graph_text::put_edge` meets its contract. Assumes nothing.
 use native.Mathlib.Omega.{arith}
-use Rattle.defs.specs.Lists.{tabFrom}
-use Rattle.store.specs.Store.{edgeIn}
+use Rattle.defs.specs.Lists.{tab_from}
+use Rattle.store.specs.Store.{edge_in}
 use Rattle.text.specs.Printed.{ascii, field}
 use Rattle.graph_text.proofs.GraphLaws.{edge-line}
 use borrow.Author.Rules.{rules}
@@ -42,10 +42,10 @@ put-capped-requires c κs = omega (
     start = let c = at-put-field in search
 
 returns : tie.Need-returns
-unfolding ascii tabFrom field
+unfolding ascii tab_from field
 returns c =
     edge-line
-    (edgeIn start.args.es.now start.args.i)
+    (edge_in start.args.es.now start.args.i)
     at-edge-from.edge-from.ensures
     at-edge-to.edge_to.ensures
     at-edge-support.edge-support.ensures

@@ -1,14 +1,14 @@
 -- `graph_text::put_edges` meets its contract. Assumes nothing.
 use native.Mathlib.Omega.{arith}
 use Prim.Native.Nat.{ℕ, ◌*◌, ◌-◌}
-use Rattle.store.specs.Store.{edgeIn}
-use Rattle.text.specs.Printed.{edgeLine}
+use Rattle.store.specs.Store.{edge_in}
+use Rattle.text.specs.Printed.{edge_line}
 use Rattle.text.proofs.TextLaws.{Lines, lines_start, lines_more, lines_end, lines_long, lines_at}
 use Rattle.graph_text.proofs.put_edges.Statement.{statement}
 use Rattle.graph_text.proofs.put_edges.Tie as tie
 
 abbrev invariant-loop : tie.invariant-loop
-invariant-loop text₀ at es m to₀ i₀ text to i = Lines m (λ (k : ℕ). 38 * k) (λ (k : ℕ). edgeLine (edgeIn es k)) text₀ at text to i
+invariant-loop text₀ at es m to₀ i₀ text to i = Lines m (λ (k : ℕ). 38 * k) (λ (k : ℕ). edge_line (edge_in es k)) text₀ at text to i
 
 abbrev decreases-loop : tie.decreases-loop
 decreases-loop text₀ at es m to₀ i₀ text to i = m - i

@@ -1,7 +1,7 @@
 -- `graph_text::put_first_line` meets its contract. Assumes nothing.
 use native.Mathlib.Omega.{arith}
 use mathlib.Core.Path.{ap, ◌∙◌}
-use Rattle.defs.specs.Lists.{tabFrom}
+use Rattle.defs.specs.Lists.{tab_from}
 use Rattle.text.specs.Printed.{ascii, field}
 use Rattle.text.proofs.TextLaws.{put_as}
 use Rattle.text.proofs.SignLaws.{word_of}
@@ -136,7 +136,7 @@ same_length c =
     at-put-field = let c = at-put-field2 in search
 
 returns : tie.Need-returns
-unfolding ascii tabFrom field
+unfolding ascii tab_from field
 returns c =
     first-line
     start.args.k.0

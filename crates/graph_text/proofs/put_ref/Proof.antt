@@ -1,5 +1,5 @@
 -- `graph_text::put_ref` meets its contract. Assumes nothing.
-use Rattle.defs.specs.Lists.{tabFrom}
+use Rattle.defs.specs.Lists.{tab_from}
 use Rattle.text.specs.Printed.{ascii}
 use Rattle.graph_text.proofs.GraphLaws.{put_one, put_other}
 use borrow.Author.Rules.{rules}
@@ -7,7 +7,7 @@ use Rattle.graph_text.proofs.put_ref.Statement.{statement}
 use Rattle.graph_text.proofs.put_ref.Tie as tie
 
 returns : tie.Need-returns
-unfolding ascii tabFrom
+unfolding ascii tab_from
 returns c =
     let at-put-bytes : tie.After-put-bytes = search in
     let at-if1 : tie.Then1 = search in
@@ -15,7 +15,7 @@ returns c =
     put_one 2 start.args.reference (ascii " r") (ascii " -") at-if1.if1.taken at-put-bytes.put-bytes.ensures
 
 returns-2 : tie.Need-returns-2
-unfolding ascii tabFrom
+unfolding ascii tab_from
 returns-2 c =
     let at-put-bytes2 : tie.After-put-bytes2 = search in
     let at-if1 : tie.Else1 = search in

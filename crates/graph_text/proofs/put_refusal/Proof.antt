@@ -1,5 +1,5 @@
 -- `graph_text::put_refusal` meets its contract. Assumes nothing.
-use Rattle.defs.specs.Lists.{tabFrom}
+use Rattle.defs.specs.Lists.{tab_from}
 use Rattle.text.specs.Printed.{ascii, field}
 use Rattle.graph_text.proofs.GraphLaws.{refusal-line}
 use borrow.Author.Rules.{rules}
@@ -7,7 +7,7 @@ use Rattle.graph_text.proofs.put_refusal.Statement.{statement}
 use Rattle.graph_text.proofs.put_refusal.Tie as tie
 
 returns : tie.Need-returns
-unfolding ascii tabFrom field
+unfolding ascii tab_from field
 returns c =
     let at-put-bytes : tie.After-put-bytes = search in
     let at-put-field : tie.After-put-field = search in

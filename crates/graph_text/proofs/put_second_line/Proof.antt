@@ -1,19 +1,19 @@
 -- `graph_text::put_second_line` meets its contract. Assumes nothing.
-use Rattle.defs.specs.Lists.{tabFrom}
+use Rattle.defs.specs.Lists.{tab_from}
 use Rattle.text.specs.Printed.{ascii, field}
-use Rattle.graph_text.specs.GraphText.{endWithNumber}
+use Rattle.graph_text.specs.GraphText.{end_with_number}
 use Rattle.graph_text.proofs.GraphLaws.{second-line}
 use borrow.Author.Rules.{rules}
 use Rattle.graph_text.proofs.put_second_line.Statement.{statement}
 use Rattle.graph_text.proofs.put_second_line.Tie as tie
 
 returns : tie.Need-returns
-unfolding ascii tabFrom field
+unfolding ascii tab_from field
 returns c =
     second-line
     start.args.rewrites
     start.args.rounds
-    (endWithNumber start.args.end)
+    (end_with_number start.args.end)
     at-put-field.put-field.ensures
     at-put-field2.put-field2.ensures
     at-put-bytes.put-bytes.ensures

@@ -1,17 +1,17 @@
 -- `graph_text::put_vertices` meets its contract. Assumes nothing.
 use native.Mathlib.Omega.{arith}
 use Prim.Native.Nat.{ℕ, ◌-◌}
-use Rattle.store.specs.Store.{seqIn}
-use Rattle.pool.proofs.PoolLaws.{bytesIn-more}
-use Rattle.text.specs.Printed.{vertexLine}
+use Rattle.store.specs.Store.{seq_in}
+use Rattle.pool.proofs.PoolLaws.{bytes_in-more}
+use Rattle.text.specs.Printed.{vertex_line}
 use Rattle.text.proofs.TextLaws.{Lines, lines_start, lines_more, lines_end, lines_long}
-use Rattle.graph_text.specs.GraphText.{verticesMost}
+use Rattle.graph_text.specs.GraphText.{vertices_most}
 use Rattle.graph_text.proofs.GraphLaws.{vertices-fit}
 use Rattle.graph_text.proofs.put_vertices.Statement.{statement}
 use Rattle.graph_text.proofs.put_vertices.Tie as tie
 
 abbrev invariant-loop : tie.invariant-loop
-invariant-loop text₀ at vs p n to₀ v₀ text to v = Lines n (λ (k : ℕ). verticesMost k vs) (λ (k : ℕ). vertexLine k (seqIn vs p k)) text₀ at text to v
+invariant-loop text₀ at vs p n to₀ v₀ text to v = Lines n (λ (k : ℕ). vertices_most k vs) (λ (k : ℕ). vertex_line k (seq_in vs p k)) text₀ at text to v
 
 abbrev decreases-loop : tie.decreases-loop
 decreases-loop text₀ at vs p n to₀ v₀ text to v = n - v
@@ -22,7 +22,7 @@ loop-again c =
     at-loop.loop.inv
     at-loop-test.loop-test.taken
     at-put-vertex.put-vertex.ensures
-    (omega (arith, bytesIn-more at-loop.loop.v start.args.vs.now))
+    (omega (arith, bytes_in-more at-loop.loop.v start.args.vs.now))
   where
     at-put-vertex : tie.After-put-vertex invariant-loop decreases-loop
     at-put-vertex = search

@@ -1,13 +1,13 @@
 -- `index::degree` meets its contract. Assumes nothing.
 use native.Mathlib.Omega.{arith}
 use Prim.Native.Nat.{◌+◌, ◌*◌, ◌-◌}
-use Rattle.index.specs.Index.{edgeEnd}
+use Rattle.index.specs.Index.{edge_end}
 use Rattle.index.proofs.AdjLaws.{ListWalked, walked_start, walked_more, walked_end}
 use Rattle.index.proofs.degree.Statement.{statement}
 use Rattle.index.proofs.degree.Tie as tie
 
 abbrev invariant-loop : tie.invariant-loop
-invariant-loop es m n heads nexts off v d₀ e₀ d e = ListWalked (edgeEnd off es) m v d e
+invariant-loop es m n heads nexts off v d₀ e₀ d e = ListWalked (edge_end off es) m v d e
 
 abbrev decreases-loop : tie.decreases-loop
 decreases-loop es m n heads nexts off v d₀ e₀ d e = m - e

@@ -1,22 +1,22 @@
 -- `kmer::kmer_size` meets its contract. Assumes nothing.
 use borrow.Author.Tests.{lt-ltb, le-ltb}
-use Rattle.kmer.specs.Size.{size_of, kPastLimit}
+use Rattle.kmer.specs.Size.{size_of, k_past_limit}
 use Rattle.kmer.proofs.kmer_size.Statement.{statement}
 use Rattle.kmer.proofs.kmer_size.Tie as tie
 
 returns : tie.Need-returns
-unfolding size_of kPastLimit
+unfolding size_of k_past_limit
 returns c = simp (lt-ltb _ _ c.if1.true)
 
 returns-2 : tie.Need-returns-2
-unfolding size_of kPastLimit
+unfolding size_of k_past_limit
 returns-2 c = simp (le-ltb _ _ at-if1.if1.left, lt-ltb _ _ c.if2.true)
   where
     at-if1 : tie.Else1
     at-if1 = search
 
 returns-3 : tie.Need-returns-3
-unfolding size_of kPastLimit
+unfolding size_of k_past_limit
 returns-3 c = simp (le-ltb _ _ at-if1.if1.left, le-ltb _ _ c.if2.false)
   where
     at-if1 : tie.Else1

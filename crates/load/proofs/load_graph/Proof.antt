@@ -1,7 +1,7 @@
 -- `load::load_graph` meets its contract. Assumes nothing.
 use native.Mathlib.Omega.{arith}
 use mathlib.Core.Path.{refl}
-use Rattle.defs.specs.Forms.{formOf}
+use Rattle.defs.specs.Forms.{form_of}
 use Rattle.record.proofs.Fields.{bytes-at-read}
 use Rattle.load.proofs.LoadLaws.{laid-headed, loaded}
 use borrow.Author.Rules.{rules}

@@ -6,13 +6,13 @@ use Prim.Native.Nat.{ℕ, ◌-◌, ◌≤◌, ◌<◌}
 use lib.ListN.{get_or}
 use borrow.Author.Count.{below_none, below_more}
 use borrow.Author.Tests.{not-true, not-false}
-use Rattle.diamond.proofs.TestLaws.{allOf-yes, allOf-no}
-use Rattle.merge_suffices.specs.Merge.{isPrev}
+use Rattle.diamond.proofs.TestLaws.{all_of-yes, all_of-no}
+use Rattle.merge_suffices.specs.Merge.{is_prev}
 use Rattle.merge_suffices.proofs.all_prevs.Statement.{statement}
 use Rattle.merge_suffices.proofs.all_prevs.Tie as tie
 
 abbrev invariant-loop : tie.invariant-loop
-invariant-loop es m n heads nexts vs p nodes c i₀ i = (i ≤ c) × ((j : ℕ) → j < i → isPrev m es vs p (get_or nodes 0 0) (get_or nodes j 0) ≡ true)
+invariant-loop es m n heads nexts vs p nodes c i₀ i = (i ≤ c) × ((j : ℕ) → j < i → is_prev m es vs p (get_or nodes 0 0) (get_or nodes j 0) ≡ true)
 
 abbrev decreases-loop : tie.decreases-loop
 decreases-loop es m n heads nexts vs p nodes c i₀ i = c - i
@@ -32,7 +32,7 @@ returns c =
     let at-is-prev : tie.After-is-prev invariant-loop decreases-loop = search in
     let at-loop-test : tie.In-loop invariant-loop decreases-loop = search in
     sym
-    (allOf-no _ _ _ _ at-loop-test.loop-test.taken (sym at-is-prev.is-prev.ensures ∙ not-true _ c.if1.true))
+    (all_of-no _ _ _ _ at-loop-test.loop-test.taken (sym at-is-prev.is-prev.ensures ∙ not-true _ c.if1.true))
 
 loop-again : tie.Need-loop-preserved invariant-loop decreases-loop
 loop-again c =
@@ -45,7 +45,7 @@ loop-again c =
     at-loop = let c = at-is-prev in search
 
 returns-2 : tie.Need-returns-2 invariant-loop decreases-loop
-returns-2 c = sym (allOf-yes _ _ _ (λ k h. at-loop.loop.inv.1 k (omega arith)))
+returns-2 c = sym (all_of-yes _ _ _ (λ k h. at-loop.loop.inv.1 k (omega arith)))
   where
     at-loop : tie.At-loop invariant-loop decreases-loop
     at-loop = search

@@ -6,7 +6,7 @@ use mathlib.Core.List.{List}
 use Rattle.defs.specs.Lists.{any_of, up_from}
 use Rattle.defs.specs.Record.{edge_at, decode}
 use Rattle.defs.specs.Assembly.{overlaps}
-use Rattle.defs.specs.Refusals.{edgeWithoutOverlap}
+use Rattle.defs.specs.Refusals.{edge_without_overlap}
 use Rattle.record.proofs.TurnLaws.{any-start, any-turn, any_found, any_none}
 use Rattle.overlap.proofs.OverlapLaws.{without_is}
 use Rattle.record.proofs.Fields.{bytes-at-read}
@@ -44,7 +44,7 @@ module _ (c : tie.At-loop invariant-loop decreases-loop) where
 
   -- what the search gives when it ends with r at turn i
   found : {r : Bool} → any_of (apart start.args.rec.now) (up_from c.loop.i (at-edge-count.IsEdge-count.result - c.loop.i)) ≡ r
-      → r ≡ edgeWithoutOverlap (decode start.args.rec.now)
+      → r ≡ edge_without_overlap (decode start.args.rec.now)
   found q = sym q ∙ c.loop.invariant.1 ∙ ap (λ (n : ℕ). any_of (apart start.args.rec.now) (up_from 0 n)) at-edge-count.IsEdge-count.ensures.0
       ∙ sym (without_is start.pre)
 

@@ -2,14 +2,14 @@
 use native.Mathlib.Omega.{arith}
 use mathlib.Core.Path.{◌∙◌}
 use Prim.Native.Nat.{◌*◌, ◌-◌}
-use Rattle.index.specs.Index.{edgeEnd}
+use Rattle.index.specs.Index.{edge_end}
 use Rattle.refs.proofs.RefLaws.{SeekingReference, seeking-start, seeking-more, seeking-found, seeking-end}
-use Rattle.paths.proofs.StepLaws.{entersAt, any-ends, out-index, enters-yes, enters-no}
+use Rattle.paths.proofs.StepLaws.{enters_at, any-ends, out-index, enters-yes, enters-no}
 use Rattle.paths.proofs.has_edge.Statement.{statement}
 use Rattle.paths.proofs.has_edge.Tie as tie
 
 abbrev invariant-loop : tie.invariant-loop
-invariant-loop es m n heads nexts u v e₀ e = SeekingReference (edgeEnd 0 es) m u (entersAt es v) e
+invariant-loop es m n heads nexts u v e₀ e = SeekingReference (edge_end 0 es) m u (enters_at es v) e
 
 abbrev decreases-loop : tie.decreases-loop
 decreases-loop es m n heads nexts u v e₀ e = m - e
@@ -17,7 +17,7 @@ decreases-loop es m n heads nexts u v e₀ e = m - e
 loop-holds : tie.Need-loop-init invariant-loop decreases-loop
 loop-holds c =
     let start : tie.Start invariant-loop decreases-loop = search in
-    seeking-start (out-index start.pre.1) (entersAt start.args.es.now start.args.v) start.pre.0
+    seeking-start (out-index start.pre.1) (enters_at start.args.es.now start.args.v) start.pre.0
 
 returns : tie.Need-returns invariant-loop decreases-loop
 returns c =
@@ -25,7 +25,7 @@ returns c =
     let at-loop-test : tie.In-loop invariant-loop decreases-loop = search in
     let at-loop : tie.At-loop invariant-loop decreases-loop = search in
     let start : tie.Start invariant-loop decreases-loop = search in
-    seeking-found (out-index start.pre.1) (entersAt start.args.es.now start.args.v) at-loop.loop.inv
+    seeking-found (out-index start.pre.1) (enters_at start.args.es.now start.args.v) at-loop.loop.inv
     at-loop-test.loop-test.taken (enters-yes _ _ at-edge-to.edge_to.ensures c.if1.true)
     ∙ any-ends _ start.args.es.now _ _
 
@@ -38,7 +38,7 @@ loop-again c =
     let start : tie.Start invariant-loop decreases-loop = search in
     seeking-more
     (out-index start.pre.1)
-    (entersAt start.args.es.now start.args.v)
+    (enters_at start.args.es.now start.args.v)
     at-loop.loop.inv
     at-loop-test.loop-test.taken
     (enters-no _ _ at-edge-to.edge_to.ensures at-if1.if1.left)
@@ -47,7 +47,7 @@ returns-2 : tie.Need-returns-2 invariant-loop decreases-loop
 returns-2 c =
     let at-loop : tie.At-loop invariant-loop decreases-loop = search in
     let start : tie.Start invariant-loop decreases-loop = search in
-    seeking-end (out-index start.pre.1) (entersAt start.args.es.now start.args.v) at-loop.loop.inv
+    seeking-end (out-index start.pre.1) (enters_at start.args.es.now start.args.v) at-loop.loop.inv
     c.loop-test.false ∙ any-ends _ start.args.es.now _ _
 
 cast-e : tie.Need-overflow-cast-e invariant-loop decreases-loop

@@ -2,7 +2,7 @@
 use Prim.Native.Nat.{◌-◌, ◌≤◌}
 use mathlib.Core.Path.{◌≡◌, sym, ap, ◌∙◌}
 use Rattle.defs.specs.Lists.{any_of, up_from}
-use Rattle.defs.specs.Refusals.{badEdge}
+use Rattle.defs.specs.Refusals.{bad_edge}
 use Rattle.record.proofs.Fields.{edge-inside}
 use Rattle.record.proofs.Tests.{any-bad-is}
 use Rattle.record.proofs.TurnLaws.{any-start, any-turn, any_found, any_none}
@@ -12,7 +12,7 @@ use Rattle.record.proofs.any_bad_edge.Statement.{statement}
 use Rattle.record.proofs.any_bad_edge.Tie as tie
 
 abbrev invariant-loop : tie.invariant-loop
-invariant-loop rec form e i₀ i = (i ≤ e) × (any_of (badEdge rec) (up_from i (e - i)) ≡ any_of (badEdge rec) (up_from 0 e))
+invariant-loop rec form e i₀ i = (i ≤ e) × (any_of (bad_edge rec) (up_from i (e - i)) ≡ any_of (bad_edge rec) (up_from 0 e))
 
 abbrev decreases-loop : tie.decreases-loop
 decreases-loop rec form e i₀ i = e - i
@@ -37,16 +37,16 @@ returns c =
     let at-edge-count : tie.After-edge-count invariant-loop decreases-loop = search in
     let start : tie.Start invariant-loop decreases-loop = search in
     sym
-    (any_found (badEdge start.args.rec.now) at-loop.loop.i at-edge-count.IsEdge-count.result
+    (any_found (bad_edge start.args.rec.now) at-loop.loop.i at-edge-count.IsEdge-count.result
     at-loop-test.loop-test.taken (sym at-bad-edge.bad-edge.ensures ∙ c.if1.true))
-    ∙ at-loop.loop.inv.1 ∙ ap (λ n. any_of (badEdge start.args.rec.now) (up_from 0 n))
+    ∙ at-loop.loop.inv.1 ∙ ap (λ n. any_of (bad_edge start.args.rec.now) (up_from 0 n))
     at-edge-count.IsEdge-count.ensures.0
     ∙ sym (any-bad-is start.args.rec.now)
 
 loop-again : tie.Need-loop-preserved invariant-loop decreases-loop
 loop-again c = (
   omega arith,
-  sym (any-turn (badEdge start.args.rec.now) at-loop.loop.i at-edge-count.IsEdge-count.result
+  sym (any-turn (bad_edge start.args.rec.now) at-loop.loop.i at-edge-count.IsEdge-count.result
       at-loop-test.loop-test.taken (sym at-bad-edge.bad-edge.ensures ∙ c.if1.false))
       ∙ at-loop.loop.inv.1,
 )
@@ -72,13 +72,13 @@ returns-2 c =
     let at-edge-count : tie.After-edge-count invariant-loop decreases-loop = search in
     let start : tie.Start invariant-loop decreases-loop = search in
     sym
-    (any_none (badEdge start.args.rec.now) at-loop.loop.i at-edge-count.IsEdge-count.result
+    (any_none (bad_edge start.args.rec.now) at-loop.loop.i at-edge-count.IsEdge-count.result
     c.loop-test.false) ∙ at-loop.loop.inv.1
-    ∙ ap (λ n. any_of (badEdge start.args.rec.now) (up_from 0 n)) at-edge-count.IsEdge-count.ensures.0
+    ∙ ap (λ n. any_of (bad_edge start.args.rec.now) (up_from 0 n)) at-edge-count.IsEdge-count.ensures.0
     ∙ sym (any-bad-is start.args.rec.now)
 
 loop-holds : tie.Need-loop-init invariant-loop decreases-loop
-loop-holds c = (omega arith, any-start (badEdge start.args.rec.now) c.IsEdge-count.result)
+loop-holds c = (omega arith, any-start (bad_edge start.args.rec.now) c.IsEdge-count.result)
   where
     start : tie.Start invariant-loop decreases-loop
     start = search

@@ -2,21 +2,21 @@
 use native.Mathlib.Omega.{arith}
 use mathlib.Core.Path.{◌∙◌}
 use Rattle.record.proofs.Fields.{header-inside, words_inside, header-same, bytes_read}
-use Rattle.form.specs.Coded.{formIs}
+use Rattle.form.specs.Coded.{form_is}
 use Rattle.form.proofs.FormLaws.{sizes}
 use borrow.Author.Rules.{rules}
 use Rattle.record.proofs.byte_count.Statement.{statement}
 use Rattle.record.proofs.byte_count.Tie as tie
 
 sub-u32-at : tie.Need-overflow-sub-u32-at
-sub-u32-at c = omega (arith, c.lengths-at.ensures, (sizes (formIs start.args.form)).header-least)
+sub-u32-at c = omega (arith, c.lengths-at.ensures, (sizes (form_is start.args.form)).header-least)
   where
     start : tie.Start
     start = search
 
 u32-at-requires : tie.Need-u32-at-requires
 u32-at-requires c κs =
-    omega (arith, header-inside start.pre, c.lengths-at.ensures, (sizes (formIs start.args.form)).header-least)
+    omega (arith, header-inside start.pre, c.lengths-at.ensures, (sizes (form_is start.args.form)).header-least)
   where
     start : tie.Start
     start = search

@@ -1,7 +1,7 @@
 -- `record::check_layout` meets its contract. Assumes nothing.
 use mathlib.Core.Path.{sym, ◌∙◌}
 use Rattle.kmer.proofs.SizeLaws.{refused-past, made-within, made-is}
-use Rattle.record.specs.Kinds.{takesOf}
+use Rattle.record.specs.Kinds.{takes_of}
 use Rattle.record.proofs.Tests.{
   headed,
   long-enough,
@@ -25,7 +25,7 @@ returns c =
     let at-other-length : tie.After-other-length = search in
     let start : tie.Start = search in
     refusal-1
-    (takesOf start.args.takes)
+    (takes_of start.args.takes)
     start.args.rec.now
     (sym at-other-length.other_length.ensures ∙ c.if1.true)
 
@@ -46,7 +46,7 @@ returns-2 c =
     let at-other-length : tie.After-other-length = search in
     let start : tie.Start = search in
     refusal-2
-    (takesOf start.args.takes)
+    (takes_of start.args.takes)
     start.args.rec.now
     (sym at-other-length.other_length.ensures ∙ at-if1.if1.left)
     (sym at-wrong-mark.wrong-mark.ensures ∙ c.if2.true)
@@ -67,7 +67,7 @@ returns-3 c =
     let at-other-length : tie.After-other-length = search in
     let start : tie.Start = search in
     refusal-3
-    (takesOf start.args.takes)
+    (takes_of start.args.takes)
     start.args.rec.now
     (sym at-other-length.other_length.ensures ∙ at-if1.if1.left)
     (sym at-wrong-mark.wrong-mark.ensures ∙ at-if2.if2.left)
@@ -96,7 +96,7 @@ returns-4 c =
     let at-other-length : tie.After-other-length = search in
     let start : tie.Start = search in
     refusal-3
-    (takesOf start.args.takes)
+    (takes_of start.args.takes)
     start.args.rec.now
     (sym at-other-length.other_length.ensures ∙ at-if1.if1.left)
     (sym at-wrong-mark.wrong-mark.ensures ∙ at-if2.if2.left)
@@ -130,7 +130,7 @@ returns-5 c =
     let at-other-length : tie.After-other-length = search in
     let start : tie.Start = search in
     refusal-4
-    (takesOf start.args.takes)
+    (takes_of start.args.takes)
     start.args.rec.now
     (sym at-other-length.other_length.ensures ∙ at-if1.if1.left)
     (sym at-wrong-mark.wrong-mark.ensures ∙ at-if2.if2.left)
@@ -178,7 +178,7 @@ returns-6 c =
     let at-other-length : tie.After-other-length = search in
     let start : tie.Start = search in
     refusal-5
-    (takesOf start.args.takes)
+    (takes_of start.args.takes)
     start.args.rec.now
     (sym at-other-length.other_length.ensures ∙ at-if1.if1.left)
     (sym at-wrong-mark.wrong-mark.ensures ∙ at-if2.if2.left)
@@ -203,7 +203,7 @@ returns-7 c =
     let at-other-length : tie.After-other-length = search in
     let start : tie.Start = search in
     accepted
-    (takesOf start.args.takes)
+    (takes_of start.args.takes)
     start.args.rec.now
     (sym at-other-length.other_length.ensures ∙ at-if1.if1.left)
     (sym at-wrong-mark.wrong-mark.ensures ∙ at-if2.if2.left)

@@ -1,9 +1,9 @@
 -- `record::offsets_disagree` meets its contract. Assumes nothing.
 use native.Mathlib.Omega.{arith}
 use mathlib.Core.Path.{◌∙◌, ap, sym}
-use Rattle.defs.specs.Forms.{formOf}
-use Rattle.defs.specs.Record.{verticesOf, edgesOf, bytes_at}
-use Rattle.form.specs.Coded.{formIs}
+use Rattle.defs.specs.Forms.{form_of}
+use Rattle.defs.specs.Record.{vertices_of, edges_of, bytes_at}
+use Rattle.form.specs.Coded.{form_is}
 use Rattle.form.proofs.FormLaws.{sizes, between}
 use Rattle.record.proofs.Fields.{
   header-same,
@@ -25,7 +25,7 @@ u32-at-requires c κs =
       arith,
       at-lengths-at.lengths-at.ensures,
       header-inside start.pre,
-      (sizes (formIs start.args.form)).header-least,
+      (sizes (form_is start.args.form)).header-least,
     )
   where
     at-lengths-at : tie.After-lengths-at
@@ -51,7 +51,7 @@ u32-at-requires-2 c κs =
       arith,
       at-lengths-at.lengths-at.ensures,
       header-inside start.pre,
-      (sizes (formIs start.args.form)).header-least,
+      (sizes (form_is start.args.form)).header-least,
     )
   where
     at-lengths-at : tie.After-lengths-at
@@ -79,7 +79,7 @@ returns-2 c =
     c.if2.true
 
 sub-u32-at-3 : tie.Need-overflow-sub-u32-at-3
-sub-u32-at-3 c = omega (arith, at-lengths-at.lengths-at.ensures, (sizes (formIs start.args.form)).header-least)
+sub-u32-at-3 c = omega (arith, at-lengths-at.lengths-at.ensures, (sizes (form_is start.args.form)).header-least)
   where
     at-lengths-at : tie.After-lengths-at
     at-lengths-at = search
@@ -93,7 +93,7 @@ u32-at-requires-3 c κs =
       arith,
       at-lengths-at.lengths-at.ensures,
       header-inside start.pre,
-      (sizes (formIs start.args.form)).header-least,
+      (sizes (form_is start.args.form)).header-least,
     )
   where
     at-lengths-at : tie.After-lengths-at
@@ -136,9 +136,9 @@ add-result c =
       at-vertex-count.vertex-count.ensures,
       at-edge-count.IsEdge-count.ensures,
       c.byte-count.ensures,
-      (between (formIs start.args.form) at-vertex-count.vertex-count.result
+      (between (form_is start.args.form) at-vertex-count.vertex-count.result
           at-edge-count.IsEdge-count.result 0).edges_most,
-      (between (formIs start.args.form) at-vertex-count.vertex-count.result
+      (between (form_is start.args.form) at-vertex-count.vertex-count.result
           at-edge-count.IsEdge-count.result 0).bytes_most,
     )
   where
@@ -183,7 +183,7 @@ returns-4 c =
     c.byte-count.ensures.0
 
 sub-u32-at : tie.Need-overflow-sub-u32-at
-sub-u32-at c = omega (arith, at-lengths-at.lengths-at.ensures, (sizes (formIs start.args.form)).header-least)
+sub-u32-at c = omega (arith, at-lengths-at.lengths-at.ensures, (sizes (form_is start.args.form)).header-least)
   where
     at-lengths-at : tie.After-lengths-at
     at-lengths-at = search
@@ -192,7 +192,7 @@ sub-u32-at c = omega (arith, at-lengths-at.lengths-at.ensures, (sizes (formIs st
     start = let c = at-lengths-at in search
 
 sub-u32-at-2 : tie.Need-overflow-sub-u32-at-2
-sub-u32-at-2 c = omega (arith, at-lengths-at.lengths-at.ensures, (sizes (formIs start.args.form)).header-least)
+sub-u32-at-2 c = omega (arith, at-lengths-at.lengths-at.ensures, (sizes (form_is start.args.form)).header-least)
   where
     at-lengths-at : tie.After-lengths-at
     at-lengths-at = search

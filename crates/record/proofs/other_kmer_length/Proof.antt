@@ -2,7 +2,7 @@
 use Prim.Native.Nat.{◌-◌, ◌≤◌}
 use mathlib.Core.Path.{◌≡◌, sym, ◌∙◌}
 use Rattle.defs.specs.Lists.{any_of, up_from}
-use Rattle.record.specs.Layout.{otherKmerLength}
+use Rattle.record.specs.Layout.{other_kmer_length}
 use Rattle.record.proofs.Fields.{length-inside}
 use Rattle.record.proofs.TurnLaws.{any-start, any-turn, any_found, any_none}
 use Rattle.record.proofs.Tests.{length-other, length-k}
@@ -12,7 +12,7 @@ use Rattle.record.proofs.other_kmer_length.Statement.{statement}
 use Rattle.record.proofs.other_kmer_length.Tie as tie
 
 abbrev invariant-loop : tie.invariant-loop
-invariant-loop rec form v size i₀ i = (i ≤ v) × (any_of (otherKmerLength rec) (up_from i (v - i)) ≡ any_of (otherKmerLength rec) (up_from 0 v))
+invariant-loop rec form v size i₀ i = (i ≤ v) × (any_of (other_kmer_length rec) (up_from i (v - i)) ≡ any_of (other_kmer_length rec) (up_from 0 v))
 
 abbrev decreases-loop : tie.decreases-loop
 decreases-loop rec form v size i₀ i = v - i
@@ -25,7 +25,7 @@ returns c =
     let at_value : tie.After-value invariant-loop decreases-loop = search in
     let start : tie.Start invariant-loop decreases-loop = search in
     sym
-    (any_found (otherKmerLength start.args.rec.now) at-loop.loop.i start.args.v
+    (any_found (other_kmer_length start.args.rec.now) at-loop.loop.i start.args.v
     at-loop-test.loop-test.taken
     (length-other start.args.rec.now at-loop.loop.i at-length-at.length_at.result
     at_value.value.result at-length-at.length_at.ensures.0 (at_value.value.ensures ∙ start.pre.0)
@@ -34,7 +34,7 @@ returns c =
 loop-again : tie.Need-loop-preserved invariant-loop decreases-loop
 loop-again c = (
   omega arith,
-  sym (any-turn (otherKmerLength start.args.rec.now) at-loop.loop.i start.args.v
+  sym (any-turn (other_kmer_length start.args.rec.now) at-loop.loop.i start.args.v
       at-loop-test.loop-test.taken
       (length-k start.args.rec.now at-loop.loop.i at-length-at.length_at.result at_value.value.result
       at-length-at.length_at.ensures.0 (at_value.value.ensures ∙ start.pre.0) c.if1.false))
@@ -60,11 +60,11 @@ returns-2 : tie.Need-returns-2 invariant-loop decreases-loop
 returns-2 c =
     let at-loop : tie.At-loop invariant-loop decreases-loop = search in
     let start : tie.Start invariant-loop decreases-loop = search in
-    sym (any_none (otherKmerLength start.args.rec.now) at-loop.loop.i start.args.v c.loop-test.false)
+    sym (any_none (other_kmer_length start.args.rec.now) at-loop.loop.i start.args.v c.loop-test.false)
     ∙ at-loop.loop.inv.1
 
 loop-holds : tie.Need-loop-init invariant-loop decreases-loop
-loop-holds c = (omega arith, any-start (otherKmerLength start.args.rec.now) start.args.v)
+loop-holds c = (omega arith, any-start (other_kmer_length start.args.rec.now) start.args.v)
   where
     start : tie.Start invariant-loop decreases-loop
     start = search

@@ -3,7 +3,7 @@ use native.Mathlib.Omega.{arith}
 use mathlib.Core.Path.{◌∙◌, sym, ap}
 use Rattle.record.proofs.Fields.{header-same, stated-read}
 use Rattle.record.proofs.Tests.{short, stated}
-use Rattle.form.specs.Coded.{formIs}
+use Rattle.form.specs.Coded.{form_is}
 use Rattle.form.proofs.FormLaws.{sizes}
 use borrow.Author.Rules.{rules}
 use Rattle.record.proofs.other_length.Statement.{statement}
@@ -28,7 +28,7 @@ returns c =
     short start.args.rec.now (at-lengths-at.lengths-at.ensures ∙ header-same _ _ start.pre) c.if1.true
 
 sub-u32-at : tie.Need-overflow-sub-u32-at
-sub-u32-at c = omega (arith, at-lengths-at.lengths-at.ensures, (sizes (formIs start.args.form)).header-least)
+sub-u32-at c = omega (arith, at-lengths-at.lengths-at.ensures, (sizes (form_is start.args.form)).header-least)
   where
     at-lengths-at : tie.After-lengths-at
     at-lengths-at = search
@@ -38,7 +38,7 @@ sub-u32-at c = omega (arith, at-lengths-at.lengths-at.ensures, (sizes (formIs st
 
 u32-at-requires : tie.Need-u32-at-requires
 u32-at-requires c κs =
-    omega (arith, at-lengths-at.lengths-at.ensures, (sizes (formIs start.args.form)).header-least, c.if1.false)
+    omega (arith, at-lengths-at.lengths-at.ensures, (sizes (form_is start.args.form)).header-least, c.if1.false)
   where
     at-lengths-at : tie.After-lengths-at
     at-lengths-at = search

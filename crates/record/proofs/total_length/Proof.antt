@@ -1,7 +1,7 @@
 -- `record::total_length` meets its contract. Assumes nothing.
 use Prim.Native.Nat.{◌+◌, ◌-◌, ◌*◌, ◌≤◌}
 use mathlib.Core.Path.{◌≡◌}
-use Rattle.defs.specs.Lists.{tab, tabFrom, sum}
+use Rattle.defs.specs.Lists.{tab, tab_from, sum}
 use Rattle.defs.specs.Record.{length_at}
 use Rattle.record.proofs.Fields.{length-inside}
 use Rattle.record.proofs.TurnLaws.{sum-start, sum-turn, sum-spent}
@@ -11,7 +11,7 @@ use Rattle.record.proofs.total_length.Tie as tie
 
 abbrev invariant-loop : tie.invariant-loop
 invariant-loop rec form v i₀ total₀ i total =
-    (i ≤ v) × (total + sum (tabFrom i (v - i) (length_at rec)) ≡ sum (tab v (length_at rec))) × (total ≤ 4294967295 * i)
+    (i ≤ v) × (total + sum (tab_from i (v - i) (length_at rec)) ≡ sum (tab v (length_at rec))) × (total ≤ 4294967295 * i)
 
 abbrev decreases-loop : tie.decreases-loop
 decreases-loop rec form v i₀ total₀ i total = v - i

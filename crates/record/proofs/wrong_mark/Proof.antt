@@ -2,7 +2,7 @@
 use native.Mathlib.Omega.{arith}
 use mathlib.Core.Path.{sym, ◌∙◌}
 use borrow.Author.Tests.{not-true, not-false}
-use Rattle.record.specs.Kinds.{takesOf}
+use Rattle.record.specs.Kinds.{takes_of}
 use Rattle.record.proofs.Fields.{header-long}
 use Rattle.record.proofs.Tests.{other-mark, other-kind, other-status, kmer-status, sequence-status}
 use borrow.Author.Rules.{rules}
@@ -14,7 +14,7 @@ returns c =
     let at-has-mark : tie.After-has-mark = search in
     let start : tie.Start = search in
     other-mark
-    (takesOf start.args.takes)
+    (takes_of start.args.takes)
     start.args.rec.now
     (sym at-has-mark.has-mark.ensures ∙ not-true at-has-mark.has-mark.result c.if1.true)
 
@@ -25,7 +25,7 @@ returns-2 c =
     let at-has-mark : tie.After-has-mark = search in
     let start : tie.Start = search in
     other-kind
-    (takesOf start.args.takes)
+    (takes_of start.args.takes)
     start.args.rec.now
     (sym at-has-mark.has-mark.ensures ∙ not-false at-has-mark.has-mark.result at-if1.if1.left)
     (sym at-takes-kind.takes-kind.ensures ∙ not-true at-takes-kind.takes-kind.result c.if2.true)
@@ -38,7 +38,7 @@ returns-3 c =
     let at-has-mark : tie.After-has-mark = search in
     let start : tie.Start = search in
     other-status
-    (takesOf start.args.takes)
+    (takes_of start.args.takes)
     start.args.rec.now
     (sym at-has-mark.has-mark.ensures ∙ not-false at-has-mark.has-mark.result at-if1.if1.left)
     (sym at-takes-kind.takes-kind.ensures ∙ not-false at-takes-kind.takes-kind.result at-if2.if2.left)
@@ -54,7 +54,7 @@ returns-4 c =
     let at-has-mark : tie.After-has-mark = search in
     let start : tie.Start = search in
     kmer-status
-    (takesOf start.args.takes)
+    (takes_of start.args.takes)
     start.args.rec.now
     (sym at-has-mark.has-mark.ensures ∙ not-false at-has-mark.has-mark.result at-if1.if1.left)
     (sym at-takes-kind.takes-kind.ensures ∙ not-false at-takes-kind.takes-kind.result at-if2.if2.left)
@@ -70,7 +70,7 @@ returns-5 c =
     let at-has-mark : tie.After-has-mark = search in
     let start : tie.Start = search in
     sequence-status
-    (takesOf start.args.takes)
+    (takes_of start.args.takes)
     start.args.rec.now
     (sym at-has-mark.has-mark.ensures ∙ not-false at-has-mark.has-mark.result at-if1.if1.left)
     (sym at-takes-kind.takes-kind.ensures ∙ not-false at-takes-kind.takes-kind.result at-if2.if2.left)

@@ -3,14 +3,14 @@ use native.Mathlib.Omega.{arith}
 use mathlib.Core.Path.{sym, ◌∙◌}
 use Prim.Native.Nat.{◌+◌, ◌*◌, ◌-◌}
 use borrow.Author.Tests.{eq-eqb, ne_eqb}
-use Rattle.index.specs.Index.{edgeEnd}
+use Rattle.index.specs.Index.{edge_end}
 use Rattle.refs.specs.Refs.{ref_at}
 use Rattle.refs.proofs.RefLaws.{SeekingReference, seeking-start, seeking-more, seeking-found, seeking-end}
 use Rattle.refs.proofs.any_ref.Statement.{statement}
 use Rattle.refs.proofs.any_ref.Tie as tie
 
 abbrev invariant-loop : tie.invariant-loop
-invariant-loop es m n heads nexts off v e₀ e = SeekingReference (edgeEnd off es) m v (ref_at es) e
+invariant-loop es m n heads nexts off v e₀ e = SeekingReference (edge_end off es) m v (ref_at es) e
 
 abbrev decreases-loop : tie.decreases-loop
 decreases-loop es m n heads nexts off v e₀ e = m - e

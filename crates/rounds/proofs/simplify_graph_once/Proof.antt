@@ -2,8 +2,8 @@
 use native.Mathlib.Omega.{arith}
 use mathlib.Core.Path.{refl, sym, ◌∙◌}
 use Rattle.defs.specs.Lists.{any_of}
-use Rattle.defs.specs.Simplify.{rewriteKindNumber}
-use Rattle.until.specs.Until.{isTransform}
+use Rattle.defs.specs.Simplify.{rewrite_kind_number}
+use Rattle.until.specs.Until.{is_transform}
 use Rattle.rounds.proofs.OnceLaws.{with-least, any-least, zip-ready, once}
 use Rattle.memory.proofs.RoomLaws.{held-vertices}
 use borrow.Author.Rules.{rules}
@@ -17,7 +17,7 @@ use Rattle.zip_linear_chains.proofs.zip_linear_chains.Reads as zip-linear-chains
 
 transform-until-complete-requires : tie.Need-transform-until-complete-requires
 transform-until-complete-requires c κs = (
-  unfold isTransform any_of rewriteKindNumber in refl,
+  unfold is_transform any_of rewrite_kind_number in refl,
   (start.pre.0, record { small = omega (arith, start.pre.1.0.small) }),
 )
   where
@@ -26,7 +26,7 @@ transform-until-complete-requires c κs = (
 
 transform-until-complete-requires-2 : tie.Need-transform-until-complete-requires-2
 transform-until-complete-requires-2 c κs = (
-  unfold isTransform any_of rewriteKindNumber in refl,
+  unfold is_transform any_of rewrite_kind_number in refl,
   (
     at-tuc.transform-until-complete.ensures.ready,
     record {
@@ -81,7 +81,7 @@ split-until-complete-requires c κs = (
 
 transform-until-complete-requires-3 : tie.Need-transform-until-complete-requires-3
 transform-until-complete-requires-3 c κs = (
-  unfold isTransform any_of rewriteKindNumber in refl,
+  unfold is_transform any_of rewrite_kind_number in refl,
   (
     with-least start.pre.0.least-is at_suc.split-until-complete.ensures.ready,
     record {

@@ -1,14 +1,14 @@
 -- `signature::put_edges` meets its contract. Assumes nothing.
 use native.Mathlib.Omega.{arith}
 use Prim.Native.Nat.{ℕ, ◌-◌}
-use Rattle.store.specs.Store.{edgeIn}
-use Rattle.signature.specs.Signature.{storedEdge}
+use Rattle.store.specs.Store.{edge_in}
+use Rattle.signature.specs.Signature.{stored_edge}
 use Rattle.signature.proofs.SignLaws.{Items, items-start, items-step, items-room, items-end}
 use Rattle.signature.proofs.put_edges.Statement.{statement}
 use Rattle.signature.proofs.put_edges.Tie as tie
 
 abbrev invariant-loop : tie.invariant-loop
-invariant-loop sig₀ old m es t₀ i₀ sig t i = Items m (λ (j : ℕ). storedEdge (edgeIn es j)) sig₀ old t₀ sig t i
+invariant-loop sig₀ old m es t₀ i₀ sig t i = Items m (λ (j : ℕ). stored_edge (edge_in es j)) sig₀ old t₀ sig t i
 
 abbrev decreases-loop : tie.decreases-loop
 decreases-loop sig₀ old m es t₀ i₀ sig t i = m - i

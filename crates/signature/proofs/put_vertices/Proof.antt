@@ -1,14 +1,14 @@
 -- `signature::put_vertices` meets its contract. Assumes nothing.
 use native.Mathlib.Omega.{arith}
 use Prim.Native.Nat.{ℕ, ◌-◌}
-use Rattle.store.specs.Store.{seqIn}
-use Rattle.signature.specs.Signature.{storedVertex}
+use Rattle.store.specs.Store.{seq_in}
+use Rattle.signature.specs.Signature.{stored_vertex}
 use Rattle.signature.proofs.SignLaws.{Items, items-start, items-step, items-room, items-end}
 use Rattle.signature.proofs.put_vertices.Statement.{statement}
 use Rattle.signature.proofs.put_vertices.Tie as tie
 
 abbrev invariant-loop : tie.invariant-loop
-invariant-loop sig₀ old n vs p t₀ v₀ sig t v = Items n (λ (u : ℕ). storedVertex (seqIn vs p u)) sig₀ old t₀ sig t v
+invariant-loop sig₀ old n vs p t₀ v₀ sig t v = Items n (λ (u : ℕ). stored_vertex (seq_in vs p u)) sig₀ old t₀ sig t v
 
 abbrev decreases-loop : tie.decreases-loop
 decreases-loop sig₀ old n vs p t₀ v₀ sig t v = n - v

@@ -3,15 +3,15 @@ use native.Mathlib.Omega.{arith}
 use mathlib.Core.Path.{◌≡◌, ◌∙◌, ap}
 use Prim.Native.Nat.{ℕ, ◌-◌, ◌≤◌}
 use borrow.Author.Rules.{rules}
-use Rattle.split_and_update.specs.Pushed.{leftNodes}
-use Rattle.split_and_update.specs.Ends.{plansOf, anyRef}
+use Rattle.split_and_update.specs.Pushed.{left_nodes}
+use Rattle.split_and_update.specs.Ends.{plans_of, any_ref}
 use Rattle.split_and_update.proofs.NodeLaws.{mids-enter}
 use Rattle.split_and_update.proofs.LoopLaws.{ref-start, ref-more, ref-skip}
 use Rattle.split_and_update.proofs.mids_ref.Statement.{statement}
 use Rattle.split_and_update.proofs.mids_ref.Tie as tie
 
 abbrev invariant-loop : tie.invariant-loop
-invariant-loop es m vs heads nodes c cut off any₀ i₀ any i = (i ≤ c) × (any ≡ anyRef off (plansOf m es heads (leftNodes vs cut nodes i)))
+invariant-loop es m vs heads nodes c cut off any₀ i₀ any i = (i ≤ c) × (any ≡ any_ref off (plans_of m es heads (left_nodes vs cut nodes i)))
 
 abbrev decreases-loop : tie.decreases-loop
 decreases-loop es m vs heads nodes c cut off any₀ i₀ any i = c - i
@@ -81,8 +81,8 @@ returns : tie.Need-returns invariant-loop decreases-loop
 returns c =
     let q : at-loop.loop.i ≡ start.args.c = omega arith in
     at-loop.loop.inv.1 ∙ ap
-    (λ (x : ℕ). anyRef start.args.off (plansOf start.args.m start.args.es.now start.args.heads.now
-    (leftNodes start.args.vs.now start.args.cut start.args.nodes.now x))) q
+    (λ (x : ℕ). any_ref start.args.off (plans_of start.args.m start.args.es.now start.args.heads.now
+    (left_nodes start.args.vs.now start.args.cut start.args.nodes.now x))) q
   where
     at-loop : tie.At-loop invariant-loop decreases-loop
     at-loop = search

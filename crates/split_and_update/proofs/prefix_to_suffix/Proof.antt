@@ -3,9 +3,9 @@ use native.Mathlib.Omega.{arith}
 use mathlib.Core.Path.{◌≡◌, ◌∙◌, ap}
 use Prim.Native.Nat.{ℕ, ◌-◌, ◌≤◌}
 use borrow.Author.Rules.{rules}
-use Rattle.defs.specs.Rewrites.{prefixToSuffixFrom}
-use Rattle.edge_data.specs.EdgeData.{carriedData}
-use Rattle.split_and_update.specs.Ends.{plansOf, goneNodes, nothing}
+use Rattle.defs.specs.Rewrites.{prefix_to_suffix_from}
+use Rattle.edge_data.specs.EdgeData.{carried_data}
+use Rattle.split_and_update.specs.Ends.{plans_of, gone_nodes, nothing}
 use Rattle.split_and_update.proofs.NodeLaws.{mids-enter}
 use Rattle.split_and_update.proofs.LoopLaws.{direct-start, direct-more, direct-skip}
 use Rattle.split_and_update.proofs.prefix_to_suffix.Statement.{statement}
@@ -13,7 +13,7 @@ use Rattle.split_and_update.proofs.prefix_to_suffix.Tie as tie
 
 abbrev invariant-loop : tie.invariant-loop
 invariant-loop es m vs heads nodes c cut all₀ i₀ all i =
-    (i ≤ c) × (carriedData all ≡ prefixToSuffixFrom nothing (plansOf m es heads (goneNodes vs cut nodes i)))
+    (i ≤ c) × (carried_data all ≡ prefix_to_suffix_from nothing (plans_of m es heads (gone_nodes vs cut nodes i)))
 
 abbrev decreases-loop : tie.decreases-loop
 decreases-loop es m vs heads nodes c cut all₀ i₀ all i = c - i
@@ -105,8 +105,8 @@ returns c =
     record {
       is = let q : at-loop.loop.i ≡ start.args.c = omega arith in
           at-loop.loop.inv.1 ∙ ap
-          (λ (x : ℕ). prefixToSuffixFrom nothing (plansOf start.args.m start.args.es.now start.args.heads.now
-          (goneNodes start.args.vs.now start.args.cut start.args.nodes.now x))) q;
+          (λ (x : ℕ). prefix_to_suffix_from nothing (plans_of start.args.m start.args.es.now start.args.heads.now
+          (gone_nodes start.args.vs.now start.args.cut start.args.nodes.now x))) q;
     }
   where
     at-loop : tie.At-loop invariant-loop decreases-loop

@@ -2,8 +2,8 @@
 use native.Mathlib.Omega.{arith}
 use mathlib.Core.Path.{◌≡◌, subst}
 use Prim.Native.Nat.{ℕ, ◌-◌, ◌≤◌}
-use Rattle.split_and_update.specs.Pushed.{EdgesPushed, leftNodes}
-use Rattle.split_and_update.specs.Ends.{midEdges, plansOf}
+use Rattle.split_and_update.specs.Pushed.{EdgesPushed, left_nodes}
+use Rattle.split_and_update.specs.Ends.{mid_edges, plans_of}
 use Rattle.split_and_update.proofs.NodeLaws.{mids-enter, mids-kept, node_counts}
 use Rattle.split_and_update.proofs.LoopLaws.{PushingMiddles, pushing-start, pushing-room, pushing-skip, pushing-more}
 use Rattle.split_and_update.proofs.push_mid_edges.Statement.{statement}
@@ -96,9 +96,9 @@ returns c =
     let q : at-loop.loop.i ≡ start.args.c = omega arith in
     record {
       is = subst (λ (z : ℕ). EdgesPushed start.args.k start.args.es.now
-          (midEdges start.args.off start.args.u start.args.first
-          (plansOf start.args.m start.args.es.now start.args.heads.now
-          (leftNodes start.args.vs.now start.args.cut start.args.nodes.now z))) at-loop.loop.at
+          (mid_edges start.args.off start.args.u start.args.first
+          (plans_of start.args.m start.args.es.now start.args.heads.now
+          (left_nodes start.args.vs.now start.args.cut start.args.nodes.now z))) at-loop.loop.at
           at-loop.loop.es) q at-loop.loop.inv.1.edges;
     }
   where

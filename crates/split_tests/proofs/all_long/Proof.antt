@@ -6,13 +6,13 @@ use Prim.Native.Nat.{ℕ, ◌-◌, ◌≤◌, ◌<◌}
 use lib.ListN.{get_or}
 use borrow.Author.Count.{below_none, below_more}
 use borrow.Author.Tests.{eq-eqb, ne_eqb}
-use Rattle.diamond.proofs.TestLaws.{allOf-yes, allOf-no}
-use Rattle.split_tests.specs.SplitTests.{isLong}
+use Rattle.diamond.proofs.TestLaws.{all_of-yes, all_of-no}
+use Rattle.split_tests.specs.SplitTests.{is_long}
 use Rattle.split_tests.proofs.all_long.Statement.{statement}
 use Rattle.split_tests.proofs.all_long.Tie as tie
 
 abbrev invariant-loop : tie.invariant-loop
-invariant-loop vs n nodes c s i₀ i = (i ≤ c) × ((j : ℕ) → j < i → isLong vs s (get_or nodes j 0) ≡ true)
+invariant-loop vs n nodes c s i₀ i = (i ≤ c) × ((j : ℕ) → j < i → is_long vs s (get_or nodes j 0) ≡ true)
 
 abbrev decreases-loop : tie.decreases-loop
 decreases-loop vs n nodes c s i₀ i = c - i
@@ -31,7 +31,7 @@ returns c =
     let at-vertex-len : tie.After-vertex-len invariant-loop decreases-loop = search in
     let at-loop-test : tie.In-loop invariant-loop decreases-loop = search in
     sym
-    (allOf-no _ _ _ _ at-loop-test.loop-test.taken
+    (all_of-no _ _ _ _ at-loop-test.loop-test.taken
     (ne_eqb _ _ (λ q. c.if1.true (at-vertex-len.vertex-len.ensures ∙ q))))
 
 loop-again : tie.Need-loop-preserved invariant-loop decreases-loop
@@ -47,7 +47,7 @@ loop-again c = (
     at-loop = let c = at-vertex-len in search
 
 returns-2 : tie.Need-returns-2 invariant-loop decreases-loop
-returns-2 c = sym (allOf-yes _ _ _ (λ k h. at-loop.loop.inv.1 k (omega arith)))
+returns-2 c = sym (all_of-yes _ _ _ (λ k h. at-loop.loop.inv.1 k (omega arith)))
   where
     at-loop : tie.At-loop invariant-loop decreases-loop
     at-loop = search

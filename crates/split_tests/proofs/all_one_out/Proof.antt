@@ -6,13 +6,13 @@ use Prim.Native.Nat.{ℕ, ◌-◌, ◌≤◌, ◌<◌}
 use lib.ListN.{get_or}
 use borrow.Author.Count.{below_none, below_more}
 use borrow.Author.Tests.{not-true, not-false}
-use Rattle.diamond.proofs.TestLaws.{allOf-yes, allOf-no}
-use Rattle.split_tests.specs.SplitTests.{oneOut}
+use Rattle.diamond.proofs.TestLaws.{all_of-yes, all_of-no}
+use Rattle.split_tests.specs.SplitTests.{one_out}
 use Rattle.split_tests.proofs.all_one_out.Statement.{statement}
 use Rattle.split_tests.proofs.all_one_out.Tie as tie
 
 abbrev invariant-loop : tie.invariant-loop
-invariant-loop es m n heads nexts nodes c i₀ i = (i ≤ c) × ((j : ℕ) → j < i → oneOut m es (get_or nodes j 0) ≡ true)
+invariant-loop es m n heads nexts nodes c i₀ i = (i ≤ c) × ((j : ℕ) → j < i → one_out m es (get_or nodes j 0) ≡ true)
 
 abbrev decreases-loop : tie.decreases-loop
 decreases-loop es m n heads nexts nodes c i₀ i = c - i
@@ -37,7 +37,7 @@ returns c =
     let at-has-one : tie.After-has-one invariant-loop decreases-loop = search in
     let at-loop-test : tie.In-loop invariant-loop decreases-loop = search in
     sym
-    (allOf-no _ _ _ _ at-loop-test.loop-test.taken (sym at-has-one.Has-one.ensures ∙ not-true _ c.if1.true))
+    (all_of-no _ _ _ _ at-loop-test.loop-test.taken (sym at-has-one.Has-one.ensures ∙ not-true _ c.if1.true))
 
 loop-again : tie.Need-loop-preserved invariant-loop decreases-loop
 loop-again c =
@@ -50,7 +50,7 @@ loop-again c =
     at-loop = let c = at-has-one in search
 
 returns-2 : tie.Need-returns-2 invariant-loop decreases-loop
-returns-2 c = sym (allOf-yes _ _ _ (λ k h. at-loop.loop.inv.1 k (omega arith)))
+returns-2 c = sym (all_of-yes _ _ _ (λ k h. at-loop.loop.inv.1 k (omega arith)))
   where
     at-loop : tie.At-loop invariant-loop decreases-loop
     at-loop = search

@@ -4,7 +4,7 @@ use mathlib.Core.Path.{◌≡◌, refl, ◌∙◌}
 use Prim.Native.Nat.{◌-◌}
 use borrow.Author.Tests.{not-true, not-false}
 use lib.ListN.{length}
-use Rattle.memory.specs.Memory.{vertexRoom}
+use Rattle.memory.specs.Memory.{vertex_room}
 use Rattle.memory.proofs.RoomLaws.{held-vertices}
 use Rattle.splits.proofs.SplitLaws.{
   none-marked,
@@ -28,7 +28,7 @@ invariant-loop es₀ vs₀ p heads₀ nexts₀ nodes₀ map₀ tried₀ w₀ es 
     ((length nodes ≡ length nodes₀) × ((length map ≡ length map₀) × (length tried ≡ length tried₀)))))))
 
 abbrev decreases-loop : tie.decreases-loop
-decreases-loop es₀ vs₀ p heads₀ nexts₀ nodes₀ map₀ tried₀ w₀ es vs heads nexts nodes map tried w = vertexRoom heads - w.held.n
+decreases-loop es₀ vs₀ p heads₀ nexts₀ nodes₀ map₀ tried₀ w₀ es vs heads nexts nodes map tried w = vertex_room heads - w.held.n
 
 clear-marks-requires : tie.Need-clear-marks-requires invariant-loop decreases-loop
 clear-marks-requires c κs = (omega arith, omega (arith, held-vertices start.pre.0.holds, start.pre.1.1))

@@ -2,8 +2,8 @@
 use native.Mathlib.Omega.{arith}
 use mathlib.Core.Path.{ap, ◌∙◌}
 use borrow.Author.Rules.{rules}
-use Rattle.defs.specs.SeqGraph.{joinedData}
-use Rattle.edge_data.specs.EdgeData.{carriedData}
+use Rattle.defs.specs.SeqGraph.{joined_data}
+use Rattle.edge_data.specs.EdgeData.{carried_data}
 use Rattle.edge_data.specs.declared.Carried.{Carried}
 use Rattle.store.proofs.EdgeLaws.{packed-hit, packed-miss}
 use Rattle.store.proofs.add_or_update_edge.Statement.{statement}
@@ -14,7 +14,7 @@ returns c = (
   omega arith,
   packed-hit _ _ _ _ _ d _ start.pre.room start.pre.is _ _ at_joined.joined.result (omega arith)
       at-edge-from.edge-from.ensures at-edge-to.edge_to.ensures
-      (at_joined.joined.ensures ∙ ap (λ (x : Carried). joinedData (carriedData x) (carriedData d)) at_carried.carried.ensures)
+      (at_joined.joined.ensures ∙ ap (λ (x : Carried). joined_data (carried_data x) (carried_data d)) at_carried.carried.ensures)
       at-put-edge.put-edge.ensures,
 )
   where

@@ -2,13 +2,13 @@
 use native.Mathlib.Omega.{arith}
 use lib.ListN.{length-set}
 use mathlib.Core.Path.{refl}
-use Rattle.store.specs.Store.{putVertex}
+use Rattle.store.specs.Store.{put_vertex}
 use borrow.Author.Rules.{rules}
 use Rattle.store.proofs.put_vertex.Statement.{statement}
 use Rattle.store.proofs.put_vertex.Tie as tie
 
 returns : tie.Need-returns
-unfolding putVertex
+unfolding put_vertex
 returns c = refl
 
 pub put-vertex-spec : {M : Type 1} → statement M

@@ -67,7 +67,7 @@ abbrev vals : Tallies → List Val
 vals = LL.vals T.the_type T'.the_laws
 
 module _ {M : Type 1} {𝓤 : Ura M} (𝓛 : Logic 𝓤) (at_mem : Memory → SProp 𝓤) (run : Routine → Fun 𝓤)
-    (κ : Lft) (q : Share) (b o : ℕ) (γ : GName) (h : Tallies) (c n w : ℕ) (c-fits : c < 2 ^ 32) (n-fits : n < 2 ^ 32) (w_Fits : w < 2 ^ 32) where
+    (κ : Lft) (q : Share) (b o : ℕ) (γ : GName) (h : Tallies) (c n w : ℕ) (c-fits : c < 2 ^ 32) (n-fits : n < 2 ^ 32) (w_fits : w < 2 ^ 32) where
   open 𝓛 use {H, A}
 
   abbrev x : Arg
@@ -87,7 +87,7 @@ module _ {M : Type 1} {𝓤 : Ura M} (𝓛 : Logic 𝓤) (at_mem : Memory → SP
       vunit tt (r, (tt, (tt, (tt, tt)))) (tt, (tt, (tt, (tt, tt))))) $
       says ! e $ nothing ! $ move ! (3 ∷ 0 ∷ []) $ join ! $
       frame ! $ feq_i ! (List Val) (vptr b o ∷ []) (vptr b o ∷ []) refl $ fjoin3 ! $ nothing ! $
-      owned ! u32 (Is u32) (uint_Makes 𝓛 w32) w _ (refl, w_Fits) $ fjoin ! $ owned ! u32 (Is u32) (uint_Makes 𝓛 w32) n _ (refl, n-fits) $
+      owned ! u32 (Is u32) (uint_Makes 𝓛 w32) w _ (refl, w_fits) $ fjoin ! $ owned ! u32 (Is u32) (uint_Makes 𝓛 w32) n _ (refl, n-fits) $
       fjoin ! $
       owned ! u32 (Is u32) (uint_Makes 𝓛 w32) c _ (refl, c-fits) $ fjoin ! $ move ! (1 ∷ 0 ∷ []) $ fjoin ! $
       feq_i ! (List Val) (vunit ∷ []) (vunit ∷ []) refl $ move ! (1 ∷ 0 ∷ []) $ done !
@@ -97,7 +97,7 @@ module _ {M : Type 1} {𝓤 : Ura M} (𝓛 : Logic 𝓤) (at_mem : Memory → SP
 
   goes : Is T.the_row h (vals h) → ent 𝓤 (sem 𝓛 ftrue) ((RaisedMeets 𝓛 at_mem run).pre to-raised)
   goes is =
-      qed 𝓛 (‵ ftrue ∷ []) ∵ owned ! u32 (Is u32) (uint_Makes 𝓛 w32) w _ (refl, w_Fits) $ fjoin ! $
+      qed 𝓛 (‵ ftrue ∷ []) ∵ owned ! u32 (Is u32) (uint_Makes 𝓛 w32) w _ (refl, w_fits) $ fjoin ! $
       owned ! u32 (Is u32) (uint_Makes 𝓛 w32) n _ (refl, n-fits) $ fjoin ! $
       owned ! u32 (Is u32) (uint_Makes 𝓛 w32) c _ (refl, c-fits) $ fjoin ! $
       owned ! T.the_row (Is T.the_row) (LL.makes T.the_type T'.the_plain 𝓛) h _ is $ fjoin ! $ nothing ! $ join ! $ frame ! $ done !
@@ -114,7 +114,7 @@ module _ {M : Type 1} {𝓤 : Ura M} (𝓛 : Logic 𝓤) (at_mem : Memory → SP
         code.function (vptr b o ∷ vint w32 c ∷ vint w32 n ∷ vint w32 w ∷ []) _ $
         alloc1 ! (λ l₀. alloc1 ! (λ l₁. alloc1 ! (λ l₂. alloc1 ! (λ l₃. alloc1 ! (λ l₄. alloc1 ! (λ l₅. alloc1 ! (λ l₆. alloc0 ! $ params1 ! $
         pass1 ! (init ! 10 refl (tt, tt)) $ pass1 ! (init ! 8 refl (tt, record { fits = c-fits })) $
-        pass1 ! (init ! 6 refl (tt, record { fits = n-fits })) $ pass1 ! (init ! 4 refl (tt, record { fits = w_Fits })) $ pass0 ! $
+        pass1 ! (init ! 6 refl (tt, record { fits = n-fits })) $ pass1 ! (init ! 4 refl (tt, record { fits = w_fits })) $ pass0 ! $
         -- the borrow is opened
         move ! (15 ∷ []) $ fsplit ! $ fsplit3 ! $ drop ! $ move ! (17 ∷ []) $ split ! $ move ! (2 ∷ 3 ∷ 0 ∷ []) $
         opens ! tt T.the_row {h = h} b o (λ vs. spelt ! T.the_row (Is T.the_row) (shows 𝓛 T.the_row) vals

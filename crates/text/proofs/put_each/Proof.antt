@@ -2,7 +2,7 @@
 use native.Mathlib.Omega.{arith}
 use Prim.Native.Nat.{ℕ, ◌*◌, ◌-◌}
 use lib.ListN.{length, get_or}
-use Rattle.text.specs.Printed.{printedByte}
+use Rattle.text.specs.Printed.{printed_byte}
 use Rattle.text.proofs.TextLaws.{
   Lines,
   lines_start,
@@ -17,7 +17,7 @@ use Rattle.text.proofs.put_each.Statement.{statement}
 use Rattle.text.proofs.put_each.Tie as tie
 
 abbrev invariant-loop : tie.invariant-loop
-invariant-loop text₀ at s to₀ i₀ text to i = Lines (length s) (λ (k : ℕ). 4 * k) (λ (k : ℕ). printedByte (get_or s k 0)) text₀ at text to i
+invariant-loop text₀ at s to₀ i₀ text to i = Lines (length s) (λ (k : ℕ). 4 * k) (λ (k : ℕ). printed_byte (get_or s k 0)) text₀ at text to i
 
 abbrev decreases-loop : tie.decreases-loop
 decreases-loop text₀ at s to₀ i₀ text to i = length s - i

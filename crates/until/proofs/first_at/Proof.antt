@@ -5,9 +5,9 @@ use Prim.Native.Nat.{◌-◌}
 use lib.ListN.{length}
 use Rattle.memory.specs.Memory.{graph_of}
 use Rattle.memory.proofs.RoomLaws.{held-vertices}
-use Rattle.until.specs.Until.{rewriteOf}
+use Rattle.until.specs.Until.{rewrite_of}
 use Rattle.until.proofs.UntilLaws.{
-  kindWithNumber,
+  kind_with_number,
   kind-number,
   left-of-kind,
   ScanningVertices,
@@ -23,7 +23,7 @@ use Rattle.until.proofs.first_at.Tie as tie
 
 abbrev invariant-loop : tie.invariant-loop
 invariant-loop kind least held es₀ vs₀ p₀ heads nexts nodes₀ map₀ n v₀ es vs p nodes map v =
-    ScanningVertices (rewriteOf (kindWithNumber kind) least (graph_of held es₀ vs₀ p₀)) n es₀ vs₀ p₀ nodes₀ map₀ es vs p nodes map v
+    ScanningVertices (rewrite_of (kind_with_number kind) least (graph_of held es₀ vs₀ p₀)) n es₀ vs₀ p₀ nodes₀ map₀ es vs p nodes map v
 
 abbrev decreases-loop : tie.decreases-loop
 decreases-loop kind least held es₀ vs₀ p₀ heads nexts nodes₀ map₀ n v₀ es vs p nodes map v = n - v
@@ -32,7 +32,7 @@ try-rewrite-requires : tie.Need-try-rewrite-requires invariant-loop decreases-lo
 try-rewrite-requires c κs = (
   start.pre.0,
   (
-    scan-ready (kindWithNumber start.args.kind) start.args.least at-loop.loop.inv start.pre.1,
+    scan-ready (kind_with_number start.args.kind) start.args.least at-loop.loop.inv start.pre.1,
     at-loop-test.loop-test.taken,
   ),
 )
@@ -80,8 +80,8 @@ returns : tie.Need-returns invariant-loop decreases-loop
 returns c =
     left-of-kind _
     (scanning-found at-loop.loop.inv at-loop-test.loop-test.taken
-    (scan-left (kindWithNumber start.args.kind) start.args.least at-loop.loop.inv
-    (at-try-rewrite.try-rewrite.ensures (kindWithNumber start.args.kind) (kind-number _ start.pre.0)))
+    (scan-left (kind_with_number start.args.kind) start.args.least at-loop.loop.inv
+    (at-try-rewrite.try-rewrite.ensures (kind_with_number start.args.kind) (kind-number _ start.pre.0)))
     c.if1.true)
   where
     at-try-rewrite : tie.After-try-rewrite invariant-loop decreases-loop
@@ -117,8 +117,8 @@ loop-again c =
     scanning-more
     at-loop.loop.inv
     at-loop-test.loop-test.taken
-    (scan-left (kindWithNumber start.args.kind) start.args.least at-loop.loop.inv
-    (at-try-rewrite.try-rewrite.ensures (kindWithNumber start.args.kind) (kind-number _ start.pre.0)))
+    (scan-left (kind_with_number start.args.kind) start.args.least at-loop.loop.inv
+    (at-try-rewrite.try-rewrite.ensures (kind_with_number start.args.kind) (kind-number _ start.pre.0)))
     c.if1.false
     at-try-rewrite.try-rewrite.kept.1.1.1.1.1.1.1.1.0
     at-try-rewrite.try-rewrite.kept.1.1.1.1.1.1.1.1.1.0

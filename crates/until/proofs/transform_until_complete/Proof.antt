@@ -5,9 +5,9 @@ use borrow.Author.Tests.{not-true, not-false}
 use lib.ListN.{length}
 use Rattle.memory.specs.Memory.{graph_of}
 use Rattle.until.proofs.UntilLaws.{
-  kindWithNumber,
+  kind_with_number,
   kind-number,
-  measureOf,
+  measure_of,
   Transforming,
   doing-start,
   doing_end,
@@ -21,14 +21,14 @@ use Rattle.until.proofs.transform_until_complete.Tie as tie
 
 abbrev invariant-loop : tie.invariant-loop
 invariant-loop kind least es₀ vs₀ p₀ heads₀ nexts₀ nodes₀ map₀ w₀ es vs p heads nexts nodes map w =
-    Transforming (kindWithNumber kind) least w₀ es₀ vs₀ p₀ heads₀ w es vs p heads nexts nodes map
+    Transforming (kind_with_number kind) least w₀ es₀ vs₀ p₀ heads₀ w es vs p heads nexts nodes map
     ×
     ((length es ≡ length es₀) × ((length vs ≡ length vs₀) × ((length p ≡ length p₀) × ((length heads ≡ length heads₀) ×
     ((length nexts ≡ length nexts₀) × ((length nodes ≡ length nodes₀) × (length map ≡ length map₀)))))))
 
 abbrev decreases-loop : tie.decreases-loop
 decreases-loop kind least es₀ vs₀ p₀ heads₀ nexts₀ nodes₀ map₀ w₀ es vs p heads nexts nodes map w =
-    measureOf (kindWithNumber kind) (graph_of w.held es vs p)
+    measure_of (kind_with_number kind) (graph_of w.held es vs p)
 
 same_length : tie.Need-same-length invariant-loop decreases-loop
 same_length c =
@@ -74,7 +74,7 @@ returns c =
     let start : tie.Start invariant-loop decreases-loop = search in
     doing_end
     at-loop.loop.inv.0
-    (at-first-at.first-at.ensures (kindWithNumber start.args.kind) (kind-number _ start.pre.0))
+    (at-first-at.first-at.ensures (kind_with_number start.args.kind) (kind-number _ start.pre.0))
     start.args.kind refl
     (not-true _ c.if1.true)
     at-first-at.first-at.kept.1.1.1.1.1.1.1.1.0
@@ -84,7 +84,7 @@ build-index-requires : tie.Need-build-index-requires invariant-loop decreases-lo
 build-index-requires c κs =
     doing-indexable
     at-loop.loop.inv.0
-    (at-first-at.first-at.ensures (kindWithNumber start.args.kind) (kind-number _ start.pre.0))
+    (at-first-at.first-at.ensures (kind_with_number start.args.kind) (kind-number _ start.pre.0))
     (not-false _ at-if1.if1.left)
     at-first-at.first-at.kept.1.1.1.0
   where
@@ -121,18 +121,18 @@ add-t37 c =
     omega (
       arith,
       doing-countable (at-loop-2 c).loop.invariant.0
-          ((at-first-at c).first-at.ensures (kindWithNumber (start c).args.kind) (kind-number _ (start c).requires.0))
+          ((at-first-at c).first-at.ensures (kind_with_number (start c).args.kind) (kind-number _ (start c).requires.0))
           (not-false _ (at-if1 c).if1.false) (start c).requires.1.1,
     )
 
 loop-less : tie.Need-loop-smaller invariant-loop decreases-loop
-loop-less c = doing-less (at-loop-2 c).loop.invariant.0 ((at-first-at c).first-at.ensures (kindWithNumber (start c).args.kind)
+loop-less c = doing-less (at-loop-2 c).loop.invariant.0 ((at-first-at c).first-at.ensures (kind_with_number (start c).args.kind)
     (kind-number _ (start c).requires.0)) (not-false _ (at-if1 c).if1.false)
 
 loop-again : tie.Need-loop-preserved invariant-loop decreases-loop
 loop-again c = (
   doing-more (at-loop-2 c).loop.invariant.0
-      ((at-first-at c).first-at.ensures (kindWithNumber (start c).args.kind) (kind-number _ (start c).requires.0))
+      ((at-first-at c).first-at.ensures (kind_with_number (start c).args.kind) (kind-number _ (start c).requires.0))
       (not-false _ (at-if1 c).if1.false) (at-build-index c).build-index.ensures
       (at-first-at c).first-at.auto.1.1.1.0 (at-first-at c).first-at.auto.1.1.1.1.0
       (at-first-at c).first-at.auto.1.1.1.1.1.0 (at-build-index c).build-index.auto.1.1.1.0

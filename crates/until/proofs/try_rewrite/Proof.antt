@@ -1,5 +1,5 @@
 -- `until::try_rewrite` meets its contract. Assumes nothing.
-use Rattle.defs.specs.Simplify.{diamond, tails, merge, rewriteKindNumber}
+use Rattle.defs.specs.Simplify.{diamond, tails, merge, rewrite_kind_number}
 use Rattle.until.proofs.UntilLaws.{one_of_three, left-as-kind}
 use borrow.Author.Rules.{rules}
 use Rattle.until.proofs.try_rewrite.Statement.{statement}
@@ -16,7 +16,7 @@ try-merge-common-suffices-requires c κs =
     (start.pre.1.0.room, (start.pre.1.0.holds, (start.pre.1.0.indexed, start.pre.1.1)))
 
 returns : tie.Need-returns
-unfolding rewriteKindNumber
+unfolding rewrite_kind_number
 returns c = left-as-kind _ diamond at-match.match.keys1 at-tmd.try-merge-diamond.ensures
   where
     at-tmd : tie.After-try-merge-diamond
@@ -26,7 +26,7 @@ returns c = left-as-kind _ diamond at-match.match.keys1 at-tmd.try-merge-diamond
     at-match = let c = at-tmd in search
 
 returns-2 : tie.Need-returns-2
-unfolding rewriteKindNumber
+unfolding rewrite_kind_number
 returns-2 c = left-as-kind _ tails at-match.match.keys2 at-try-merge-tails.try-merge-tails.ensures
   where
     at-try-merge-tails : tie.After-try-merge-tails
@@ -36,7 +36,7 @@ returns-2 c = left-as-kind _ tails at-match.match.keys2 at-try-merge-tails.try-m
     at-match = let c = at-try-merge-tails in search
 
 returns-3 : tie.Need-returns-3
-unfolding rewriteKindNumber
+unfolding rewrite_kind_number
 returns-3 c = left-as-kind _ merge at-match.match.keys3 at-tmcs.try-merge-common-suffices.ensures
   where
     at-tmcs : tie.After-try-merge-common-suffices
@@ -46,7 +46,7 @@ returns-3 c = left-as-kind _ merge at-match.match.keys3 at-tmcs.try-merge-common
     at-match = let c = at-tmcs in search
 
 returns-4 : tie.Need-returns-4
-unfolding rewriteKindNumber
+unfolding rewrite_kind_number
 returns-4 c =
     absurd (one_of_three _ start.pre.0 at-match.match.rest.0.0.1 at-match.match.rest.0.1 at-match.match.rest.1)
   where

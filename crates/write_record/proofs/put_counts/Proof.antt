@@ -4,7 +4,7 @@ use mathlib.Core.Path.{ap, ◌∙◌}
 use Prim.Native.Nat.{ℕ}
 use lib.Seq.{sets}
 use Rattle.defs.specs.Record.{le16}
-use Rattle.form.specs.Coded.{formIs}
+use Rattle.form.specs.Coded.{form_is}
 use Rattle.form.proofs.FormLaws.{sizes, between}
 use Rattle.write_record.proofs.WriteLaws.{counts-put}
 use borrow.Author.Rules.{rules}
@@ -12,14 +12,14 @@ use Rattle.write_record.proofs.put_counts.Statement.{statement}
 use Rattle.write_record.proofs.put_counts.Tie as tie
 
 cast-put-word : tie.Need-overflow-cast-put-word
-cast-put-word c = omega (arith, start.pre.1.n-fits, (sizes (formIs start.args.form)).limit-most)
+cast-put-word c = omega (arith, start.pre.1.n-fits, (sizes (form_is start.args.form)).limit-most)
   where
     start : tie.Start
     start = search
 
 put-word-requires : tie.Need-put-word-requires
 put-word-requires c κs = (
-  omega (arith, start.pre.0, (sizes (formIs start.args.form)).header-holds, at-put-u16.put-u16.kept),
+  omega (arith, start.pre.0, (sizes (form_is start.args.form)).header-holds, at-put-u16.put-u16.kept),
   start.pre.1.n-fits,
 )
   where
@@ -30,7 +30,7 @@ put-word-requires c κs = (
     start = let c = at-put-u16 in search
 
 add-put-word : tie.Need-overflow-add-put-word
-add-put-word c = omega (arith, at-word-size.word_size.ensures, (sizes (formIs start.args.form)).word-most)
+add-put-word c = omega (arith, at-word-size.word_size.ensures, (sizes (form_is start.args.form)).word-most)
   where
     at-word-size : tie.After-word-size
     at-word-size = search
@@ -39,7 +39,7 @@ add-put-word c = omega (arith, at-word-size.word_size.ensures, (sizes (formIs st
     start = let c = at-word-size in search
 
 cast-put-word-2 : tie.Need-overflow-cast-put-word-2
-cast-put-word-2 c = omega (arith, start.pre.1.m-fits, (sizes (formIs start.args.form)).limit-most)
+cast-put-word-2 c = omega (arith, start.pre.1.m-fits, (sizes (form_is start.args.form)).limit-most)
   where
     start : tie.Start
     start = search
@@ -50,7 +50,7 @@ put-word-requires-2 c κs = (
     arith,
     start.pre.0,
     at-word-size.word_size.ensures,
-    (sizes (formIs start.args.form)).header-holds,
+    (sizes (form_is start.args.form)).header-holds,
     at-put-u16.put-u16.kept,
     at-put-word.put_word.kept,
   ),
@@ -70,7 +70,7 @@ put-word-requires-2 c κs = (
     start = let c = at-word-size in search
 
 mul-put-u32 : tie.Need-overflow-mul-put-u32
-mul-put-u32 c = omega (arith, at-word-size.word_size.ensures, (sizes (formIs start.args.form)).word-most)
+mul-put-u32 c = omega (arith, at-word-size.word_size.ensures, (sizes (form_is start.args.form)).word-most)
   where
     at-word-size : tie.After-word-size
     at-word-size = let c : tie.After-value = search in search
@@ -79,7 +79,7 @@ mul-put-u32 c = omega (arith, at-word-size.word_size.ensures, (sizes (formIs sta
     start = let c = at-word-size in search
 
 add-put-u32 : tie.Need-overflow-add-put-u32
-add-put-u32 c = omega (arith, at-word-size.word_size.ensures, (sizes (formIs start.args.form)).word-most)
+add-put-u32 c = omega (arith, at-word-size.word_size.ensures, (sizes (form_is start.args.form)).word-most)
   where
     at-word-size : tie.After-word-size
     at-word-size = let c : tie.After-value = search in search
@@ -92,7 +92,7 @@ cast-put-u32 c =
     omega (
       arith,
       start.pre.1.whole-fits,
-      (between (formIs start.args.form) start.args.n start.args.m start.args.b).whole_is,
+      (between (form_is start.args.form) start.args.n start.args.m start.args.b).whole_is,
     )
   where
     start : tie.Start
@@ -104,7 +104,7 @@ put-u32-requires c κs =
       arith,
       start.pre.0,
       at-word-size.word_size.ensures,
-      (sizes (formIs start.args.form)).header-holds,
+      (sizes (form_is start.args.form)).header-holds,
       at-put-u16.put-u16.kept,
       at-put-word.put_word.kept,
       at-put-word2.put-word2.kept,
@@ -147,7 +147,7 @@ returns c =
     at-put-u32.put-u32.ensures
 
 put-u16-requires : tie.Need-put-u16-requires
-put-u16-requires c κs = omega (arith, start.pre.0, (sizes (formIs start.args.form)).header-least)
+put-u16-requires c κs = omega (arith, start.pre.0, (sizes (form_is start.args.form)).header-least)
   where
     start : tie.Start
     start = search

@@ -4,11 +4,11 @@ use mathlib.Core.Path.{◌∙◌}
 use Prim.Native.Nat.{◌+◌, ◌*◌}
 use lib.ListN.{length-set}
 use Rattle.defs.specs.Lists.{bit}
-use Rattle.defs.specs.Record.{flagOf}
+use Rattle.defs.specs.Record.{flag_of}
 use Rattle.laws.proofs.ListLaws.{bit-small}
-use Rattle.form.specs.Coded.{formIs}
+use Rattle.form.specs.Coded.{form_is}
 use Rattle.form.proofs.FormLaws.{sizes}
-use Rattle.store.specs.Store.{edgeIn}
+use Rattle.store.specs.Store.{edge_in}
 use Rattle.write_record.proofs.WriteLaws.{edge-put}
 use borrow.Author.Rules.{rules}
 use Rattle.write_record.proofs.put_edge.Statement.{statement}
@@ -16,7 +16,7 @@ use Rattle.write_record.proofs.put_edge.Tie as tie
 
 put-word-requires : tie.Need-put-word-requires
 put-word-requires c κs = (
-  omega (arith, start.pre.room, (sizes (formIs start.args.form)).edge-holds),
+  omega (arith, start.pre.room, (sizes (form_is start.args.form)).edge-holds),
   omega (arith, start.pre.from, c.edge-from.ensures),
 )
   where
@@ -25,7 +25,7 @@ put-word-requires c κs = (
 
 add-put-word : tie.Need-overflow-add-put-word
 add-put-word c =
-    omega (arith, start.pre.room, at-word-size.word_size.ensures, (sizes (formIs start.args.form)).edge-holds)
+    omega (arith, start.pre.room, at-word-size.word_size.ensures, (sizes (form_is start.args.form)).edge-holds)
   where
     at-word-size : tie.After-word-size
     at-word-size = search
@@ -39,7 +39,7 @@ put-word-requires-2 c κs = (
     arith,
     start.pre.room,
     at-word-size.word_size.ensures,
-    (sizes (formIs start.args.form)).edge-holds,
+    (sizes (form_is start.args.form)).edge-holds,
     at-put-word.put_word.kept,
   ),
   omega (arith, start.pre.to, c.edge_to.ensures),
@@ -55,7 +55,7 @@ put-word-requires-2 c κs = (
     start = let c = at-word-size in search
 
 mul-put-u32 : tie.Need-overflow-mul-put-u32
-mul-put-u32 c = omega (arith, at-word-size.word_size.ensures, (sizes (formIs start.args.form)).word-most)
+mul-put-u32 c = omega (arith, at-word-size.word_size.ensures, (sizes (form_is start.args.form)).word-most)
   where
     at-word-size : tie.After-word-size
     at-word-size = search
@@ -65,7 +65,7 @@ mul-put-u32 c = omega (arith, at-word-size.word_size.ensures, (sizes (formIs sta
 
 add-put-u32 : tie.Need-overflow-add-put-u32
 add-put-u32 c =
-    omega (arith, start.pre.room, at-word-size.word_size.ensures, (sizes (formIs start.args.form)).edge-holds)
+    omega (arith, start.pre.room, at-word-size.word_size.ensures, (sizes (form_is start.args.form)).edge-holds)
   where
     at-word-size : tie.After-word-size
     at-word-size = search
@@ -79,7 +79,7 @@ put-u32-requires c κs =
       arith,
       start.pre.room,
       at-word-size.word_size.ensures,
-      (sizes (formIs start.args.form)).edge-holds,
+      (sizes (form_is start.args.form)).edge-holds,
       at-put-word.put_word.kept,
       at-put-word2.put-word2.kept,
     )
@@ -97,7 +97,7 @@ put-u32-requires c κs =
     start = let c = at-word-size in search
 
 mul-out : tie.Need-overflow-mul-out
-mul-out c = omega (arith, at-word-size.word_size.ensures, (sizes (formIs start.args.form)).word-most)
+mul-out c = omega (arith, at-word-size.word_size.ensures, (sizes (form_is start.args.form)).word-most)
   where
     at-word-size : tie.After-word-size
     at-word-size = let c : tie.After-out2 = search in search
@@ -107,7 +107,7 @@ mul-out c = omega (arith, at-word-size.word_size.ensures, (sizes (formIs start.a
 
 add-out : tie.Need-overflow-add-out
 add-out c =
-    omega (arith, start.pre.room, at-word-size.word_size.ensures, (sizes (formIs start.args.form)).edge-holds)
+    omega (arith, start.pre.room, at-word-size.word_size.ensures, (sizes (form_is start.args.form)).edge-holds)
   where
     at-word-size : tie.After-word-size
     at-word-size = let c : tie.After-out2 = search in search
@@ -117,7 +117,7 @@ add-out c =
 
 add-out-2 : tie.Need-overflow-add-out-2
 add-out-2 c =
-    omega (arith, start.pre.room, at-word-size.word_size.ensures, (sizes (formIs start.args.form)).edge-holds)
+    omega (arith, start.pre.room, at-word-size.word_size.ensures, (sizes (form_is start.args.form)).edge-holds)
   where
     at-word-size : tie.After-word-size
     at-word-size = let c : tie.After-out2 = search in search
@@ -131,7 +131,7 @@ slice-write-out c =
       arith,
       start.pre.room,
       at-word-size.word_size.ensures,
-      (sizes (formIs start.args.form)).edge-holds,
+      (sizes (form_is start.args.form)).edge-holds,
       at-put-word.put_word.kept,
       at-put-word2.put-word2.kept,
       at-put-u32.put-u32.kept,
@@ -167,13 +167,13 @@ same_length c =
     at-put-word = let c = at-put-word2 in search
 
 returns : tie.Need-returns
-unfolding flagOf
+unfolding flag_of
 returns c =
     edge-put _
     start.args.at
     start.args.out.now
     at-word-size.word_size.ensures
-    (edgeIn start.args.es.now start.args.i)
+    (edge_in start.args.es.now start.args.i)
     at-edge-from.edge-from.ensures
     at-edge-to.edge_to.ensures
     at-edge-support.edge-support.ensures

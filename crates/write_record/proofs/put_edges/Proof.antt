@@ -1,11 +1,11 @@
 -- `write_record::put_edges` meets its contract. Assumes nothing.
 use native.Mathlib.Omega.{arith}
 use Prim.Native.Nat.{ℕ, ◌-◌}
-use Rattle.defs.specs.Record.{edges_at, encodeEdge}
+use Rattle.defs.specs.Record.{edges_at, encode_edge}
 use mathlib.Core.Path.{◌∙◌}
-use Rattle.form.specs.Coded.{formIs}
+use Rattle.form.specs.Coded.{form_is}
 use Rattle.form.proofs.FormLaws.{edge-place}
-use Rattle.store.specs.Store.{edgeIn}
+use Rattle.store.specs.Store.{edge_in}
 use Rattle.tabs.proofs.SumTabs.{fields, fields-none, fields-more}
 use Rattle.write_record.proofs.WriteLaws.{
   Growing,
@@ -20,7 +20,7 @@ use Rattle.write_record.proofs.put_edges.Tie as tie
 
 abbrev invariant-loop : tie.invariant-loop
 invariant-loop out₀ form n es m i₀ out i =
-    Growing m (fields (λ (k : ℕ). encodeEdge (formIs form) (edgeIn es k))) out₀ (edges_at (formIs form) n) out i
+    Growing m (fields (λ (k : ℕ). encode_edge (form_is form) (edge_in es k))) out₀ (edges_at (form_is form) n) out i
 
 abbrev decreases-loop : tie.decreases-loop
 decreases-loop out₀ form n es m i₀ out i = m - i
@@ -34,7 +34,7 @@ put-edge-requires c κs =
         start.pre.room,
         growing-len at-loop.loop.inv,
         c.bytes-at.ensures,
-        edge-place start.args.n start.args.m at-loop.loop.i (formIs start.args.form)
+        edge-place start.args.n start.args.m at-loop.loop.i (form_is start.args.form)
             at-loop-test.loop-test.taken,
       );
       from = (start.pre.fits.at _ at-loop-test.loop-test.taken).0;
@@ -60,16 +60,16 @@ loop-again c =
     growing-more _ _
     at-loop.loop.inv
     at-loop-test.loop-test.taken
-    (fields-more (λ (k : ℕ). encodeEdge (formIs start.args.form) (edgeIn start.args.es.now k))
+    (fields-more (λ (k : ℕ). encode_edge (form_is start.args.form) (edge_in start.args.es.now k))
     at-loop.loop.i)
-    (at-bytes-at.bytes-at.ensures ∙ edge-at-place (formIs start.args.form) start.args.n start.args.es.now
+    (at-bytes-at.bytes-at.ensures ∙ edge-at-place (form_is start.args.form) start.args.n start.args.es.now
     at-loop.loop.i)
     at-put-edge.put-edge.ensures
 
 loop-holds : tie.Need-loop-init invariant-loop decreases-loop
 loop-holds c =
     let start : tie.Start invariant-loop decreases-loop = search in
-    growing-start (fields-none (λ (k : ℕ). encodeEdge (formIs start.args.form) (edgeIn start.args.es.now k)))
+    growing-start (fields-none (λ (k : ℕ). encode_edge (form_is start.args.form) (edge_in start.args.es.now k)))
 
 bytes-at-requires : tie.Need-bytes-at-requires invariant-loop decreases-loop
 bytes-at-requires c κs = (omega (arith, start.pre.few), omega (arith, start.pre.few-edges))

@@ -1,7 +1,7 @@
 -- `write_record::put_header` meets its contract. Assumes nothing.
 use native.Mathlib.Omega.{arith}
 use mathlib.Core.Path.{refl}
-use Rattle.form.specs.Coded.{formIs}
+use Rattle.form.specs.Coded.{form_is}
 use Rattle.form.proofs.FormLaws.{sizes, between}
 use Rattle.write_record.proofs.WriteLaws.{header-put}
 use borrow.Author.Rules.{rules}
@@ -22,7 +22,7 @@ edges-at-requires c κs =
     omega (
       arith,
       start.pre.1.1.whole-fits,
-      between (formIs start.args.form) start.args.n start.args.m start.args.b,
+      between (form_is start.args.form) start.args.n start.args.m start.args.b,
     )
   where
     start : tie.Start
@@ -33,12 +33,12 @@ bytes-at-requires c κs = (
   omega (
     arith,
     start.pre.1.1.whole-fits,
-    between (formIs start.args.form) start.args.n start.args.m start.args.b,
+    between (form_is start.args.form) start.args.n start.args.m start.args.b,
   ),
   omega (
     arith,
     start.pre.1.1.whole-fits,
-    between (formIs start.args.form) start.args.n start.args.m start.args.b,
+    between (form_is start.args.form) start.args.n start.args.m start.args.b,
   ),
 )
   where
@@ -50,7 +50,7 @@ add-whole c =
     omega (
       arith,
       start.pre.1.1.whole-fits,
-      between (formIs start.args.form) start.args.n start.args.m start.args.b,
+      between (form_is start.args.form) start.args.n start.args.m start.args.b,
       c.bytes-at.ensures,
     )
   where
@@ -62,7 +62,7 @@ cast-put-offsets c =
     omega (
       arith,
       start.pre.1.1.whole-fits,
-      between (formIs start.args.form) start.args.n start.args.m start.args.b,
+      between (form_is start.args.form) start.args.n start.args.m start.args.b,
       at-edges-at.edges-at.ensures,
     )
   where
@@ -77,7 +77,7 @@ cast-put-offsets-2 c =
     omega (
       arith,
       start.pre.1.1.whole-fits,
-      between (formIs start.args.form) start.args.n start.args.m start.args.b,
+      between (form_is start.args.form) start.args.n start.args.m start.args.b,
       at-bytes-at.bytes-at.ensures,
     )
   where
@@ -92,7 +92,7 @@ cast-put-offsets-3 c =
     omega (
       arith,
       start.pre.1.1.whole-fits,
-      between (formIs start.args.form) start.args.n start.args.m start.args.b,
+      between (form_is start.args.form) start.args.n start.args.m start.args.b,
       at-bytes-at.bytes-at.ensures,
     )
   where
@@ -127,7 +127,7 @@ returns c =
     at-bytes-at.bytes-at.ensures
     (omega (
       arith,
-      (between (formIs start.args.form) start.args.n start.args.m start.args.b).whole_is,
+      (between (form_is start.args.form) start.args.n start.args.m start.args.b).whole_is,
       at-bytes-at.bytes-at.ensures,
     ))
     at-put-kind.put-kind.ensures
@@ -154,7 +154,7 @@ returns c =
 
 put-kind-requires : tie.Need-put-kind-requires
 put-kind-requires c κs =
-    (omega (arith, start.pre.0, (sizes (formIs start.args.form)).header-least), start.pre.1.0)
+    (omega (arith, start.pre.0, (sizes (form_is start.args.form)).header-least), start.pre.1.0)
   where
     start : tie.Start
     start = search

@@ -3,11 +3,11 @@ use native.Mathlib.Omega.{arith}
 use Prim.Native.Nat.{ℕ, ◌-◌}
 use mathlib.Core.Path.{sym, ap, ◌∙◌}
 use mathlib.Core.List.{◌++◌}
-use Rattle.defs.specs.Forms.{lengthsAt}
+use Rattle.defs.specs.Forms.{lengths_at}
 use Rattle.defs.specs.Record.{word_bytes}
-use Rattle.form.specs.Coded.{formIs}
+use Rattle.form.specs.Coded.{form_is}
 use Rattle.form.proofs.FormLaws.{length-place}
-use Rattle.write_record.specs.Written.{lengthBytes}
+use Rattle.write_record.specs.Written.{length_bytes}
 use Rattle.tabs.proofs.SumTabs.{fields, fields-none, fields-more}
 use Rattle.write_record.proofs.WriteLaws.{
   Growing,
@@ -21,7 +21,7 @@ use Rattle.write_record.proofs.put_lengths.Statement.{statement}
 use Rattle.write_record.proofs.put_lengths.Tie as tie
 
 abbrev invariant-loop : tie.invariant-loop
-invariant-loop out₀ form vs n i₀ out i = Growing n (fields (lengthBytes (formIs form) vs)) out₀ (lengthsAt (formIs form)) out i
+invariant-loop out₀ form vs n i₀ out i = Growing n (fields (length_bytes (form_is form) vs)) out₀ (lengths_at (form_is form)) out i
 
 abbrev decreases-loop : tie.decreases-loop
 decreases-loop out₀ form vs n i₀ out i = n - i
@@ -37,17 +37,17 @@ loop-again c =
     growing-more _ _
     at-loop.loop.inv
     at-loop-test.loop-test.taken
-    (fields-more (lengthBytes (formIs start.args.form) start.args.vs.now) at-loop.loop.i
-    ∙ ap (λ (x : ℕ). fields (lengthBytes (formIs start.args.form) start.args.vs.now) at-loop.loop.i ++
-    word_bytes (formIs start.args.form) x) (sym at-len-number.len-number.ensures))
-    (at-edges-at.edges-at.ensures ∙ length-at-place (formIs start.args.form) start.args.vs.now
+    (fields-more (length_bytes (form_is start.args.form) start.args.vs.now) at-loop.loop.i
+    ∙ ap (λ (x : ℕ). fields (length_bytes (form_is start.args.form) start.args.vs.now) at-loop.loop.i ++
+    word_bytes (form_is start.args.form) x) (sym at-len-number.len-number.ensures))
+    (at-edges-at.edges-at.ensures ∙ length-at-place (form_is start.args.form) start.args.vs.now
     at-loop.loop.i)
     at-put-word.put_word.ensures
 
 loop-holds : tie.Need-loop-init invariant-loop decreases-loop
 loop-holds c =
     let start : tie.Start invariant-loop decreases-loop = search in
-    growing-start (fields-none (lengthBytes (formIs start.args.form) start.args.vs.now))
+    growing-start (fields-none (length_bytes (form_is start.args.form) start.args.vs.now))
 
 put-word-requires : tie.Need-put-word-requires invariant-loop decreases-loop
 put-word-requires c κs = (
@@ -56,7 +56,7 @@ put-word-requires c κs = (
     start.pre.room,
     growing-len at-loop.loop.inv,
     at-edges-at.edges-at.ensures,
-    length-place start.args.n 0 at-loop.loop.i (formIs start.args.form) at-loop-test.loop-test.taken,
+    length-place start.args.n 0 at-loop.loop.i (form_is start.args.form) at-loop-test.loop-test.taken,
   ),
   omega (arith, c.len-number.ensures, start.pre.fits at-loop.loop.i at-loop-test.loop-test.taken),
 )

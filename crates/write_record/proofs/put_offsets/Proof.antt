@@ -1,6 +1,6 @@
 -- `write_record::put_offsets` meets its contract. Assumes nothing.
 use native.Mathlib.Omega.{arith}
-use Rattle.form.specs.Coded.{formIs}
+use Rattle.form.specs.Coded.{form_is}
 use Rattle.form.proofs.FormLaws.{sizes}
 use Rattle.write_record.proofs.WriteLaws.{offsets-put}
 use borrow.Author.Rules.{rules}
@@ -13,7 +13,7 @@ put-u32-requires-2 c κs =
       arith,
       start.pre,
       at-lengths-at.lengths-at.ensures,
-      (sizes (formIs start.args.form)).header-least,
+      (sizes (form_is start.args.form)).header-least,
       at-put-u32.put-u32.kept,
     )
   where
@@ -27,7 +27,7 @@ put-u32-requires-2 c κs =
     start = let c = at-lengths-at in search
 
 sub-put-u32-3 : tie.Need-overflow-sub-put-u32-3
-sub-put-u32-3 c = omega (arith, at-lengths-at.lengths-at.ensures, (sizes (formIs start.args.form)).header-least)
+sub-put-u32-3 c = omega (arith, at-lengths-at.lengths-at.ensures, (sizes (form_is start.args.form)).header-least)
   where
     at-lengths-at : tie.After-lengths-at
     at-lengths-at = search
@@ -41,7 +41,7 @@ put-u32-requires-3 c κs =
       arith,
       start.pre,
       at-lengths-at.lengths-at.ensures,
-      (sizes (formIs start.args.form)).header-least,
+      (sizes (form_is start.args.form)).header-least,
       at-put-u32.put-u32.kept,
       at-put-u322.put-u322.kept,
     )
@@ -59,7 +59,7 @@ put-u32-requires-3 c κs =
     start = let c = at-lengths-at in search
 
 sub-put-u32-4 : tie.Need-overflow-sub-put-u32-4
-sub-put-u32-4 c = omega (arith, at-lengths-at.lengths-at.ensures, (sizes (formIs start.args.form)).header-least)
+sub-put-u32-4 c = omega (arith, at-lengths-at.lengths-at.ensures, (sizes (form_is start.args.form)).header-least)
   where
     at-lengths-at : tie.After-lengths-at
     at-lengths-at = let c : tie.After-put-u32 = search in search
@@ -73,7 +73,7 @@ put-u32-requires-4 c κs =
       arith,
       start.pre,
       at-lengths-at.lengths-at.ensures,
-      (sizes (formIs start.args.form)).header-least,
+      (sizes (form_is start.args.form)).header-least,
       at-put-u32.put-u32.kept,
       at-put-u322.put-u322.kept,
       at-put-u323.put-u323.kept,
@@ -114,7 +114,7 @@ returns c =
     at-put-u324.put-u324.ensures
 
 sub-put-u32 : tie.Need-overflow-sub-put-u32
-sub-put-u32 c = omega (arith, at-lengths-at.lengths-at.ensures, (sizes (formIs start.args.form)).header-least)
+sub-put-u32 c = omega (arith, at-lengths-at.lengths-at.ensures, (sizes (form_is start.args.form)).header-least)
   where
     at-lengths-at : tie.After-lengths-at
     at-lengths-at = search
@@ -123,7 +123,7 @@ sub-put-u32 c = omega (arith, at-lengths-at.lengths-at.ensures, (sizes (formIs s
     start = let c = at-lengths-at in search
 
 cast-put-u32 : tie.Need-overflow-cast-put-u32
-cast-put-u32 c = omega (arith, at-lengths-at.lengths-at.ensures, (sizes (formIs start.args.form)).header-most)
+cast-put-u32 c = omega (arith, at-lengths-at.lengths-at.ensures, (sizes (form_is start.args.form)).header-most)
   where
     at-lengths-at : tie.After-lengths-at
     at-lengths-at = search
@@ -133,7 +133,7 @@ cast-put-u32 c = omega (arith, at-lengths-at.lengths-at.ensures, (sizes (formIs 
 
 put-u32-requires : tie.Need-put-u32-requires
 put-u32-requires c κs =
-    omega (arith, start.pre, at-lengths-at.lengths-at.ensures, (sizes (formIs start.args.form)).header-least)
+    omega (arith, start.pre, at-lengths-at.lengths-at.ensures, (sizes (form_is start.args.form)).header-least)
   where
     at-lengths-at : tie.After-lengths-at
     at-lengths-at = search
@@ -142,7 +142,7 @@ put-u32-requires c κs =
     start = let c = at-lengths-at in search
 
 sub-put-u32-2 : tie.Need-overflow-sub-put-u32-2
-sub-put-u32-2 c = omega (arith, at-lengths-at.lengths-at.ensures, (sizes (formIs start.args.form)).header-least)
+sub-put-u32-2 c = omega (arith, at-lengths-at.lengths-at.ensures, (sizes (form_is start.args.form)).header-least)
   where
     at-lengths-at : tie.After-lengths-at
     at-lengths-at = search

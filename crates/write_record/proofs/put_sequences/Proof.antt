@@ -3,9 +3,9 @@ use native.Mathlib.Omega.{arith}
 use Prim.Native.Nat.{◌+◌, ◌-◌}
 use mathlib.Core.Path.{◌≡◌, sym, ◌∙◌}
 use mathlib.Core.List.{◌++◌}
-use Rattle.store.specs.Store.{part, seqIn}
-use Rattle.pool.specs.Pool.{bytesIn}
-use Rattle.pool.proofs.PoolLaws.{bytesIn-none, bytesIn-more, bytes_below}
+use Rattle.store.specs.Store.{part, seq_in}
+use Rattle.pool.specs.Pool.{bytes_in}
+use Rattle.pool.proofs.PoolLaws.{bytes_in-none, bytes_in-more, bytes_below}
 use Rattle.tabs.proofs.SumTabs.{fields, fields-none, fields-more}
 use Rattle.write_record.proofs.WriteLaws.{
   Growing,
@@ -19,15 +19,15 @@ use Rattle.write_record.proofs.put_sequences.Statement.{statement}
 use Rattle.write_record.proofs.put_sequences.Tie as tie
 
 abbrev invariant-loop : tie.invariant-loop
-invariant-loop out₀ at vs n p to₀ v₀ out to v = (to ≡ at + bytesIn v vs) × Growing n (fields (seqIn vs p)) out₀ at out v
+invariant-loop out₀ at vs n p to₀ v₀ out to v = (to ≡ at + bytes_in v vs) × Growing n (fields (seq_in vs p)) out₀ at out v
 
 abbrev decreases-loop : tie.decreases-loop
 decreases-loop out₀ at vs n p to₀ v₀ out to v = n - v
 
 loop-holds : tie.Need-loop-init invariant-loop decreases-loop
 loop-holds c = (
-  omega (arith, bytesIn-none start.args.vs.now),
-  growing-start (fields-none (seqIn start.args.vs.now start.args.p.now)),
+  omega (arith, bytes_in-none start.args.vs.now),
+  growing-start (fields-none (seq_in start.args.vs.now start.args.p.now)),
 )
   where
     start : tie.Start invariant-loop decreases-loop
@@ -74,10 +74,10 @@ add-to c =
 
 loop-again : tie.Need-loop-preserved invariant-loop decreases-loop
 loop-again c = (
-  omega (arith, at-loop.loop.inv.0, bytesIn-more at-loop.loop.v start.args.vs.now),
+  omega (arith, at-loop.loop.inv.0, bytes_in-more at-loop.loop.v start.args.vs.now),
   growing-more _ _ at-loop.loop.inv.1 at-loop-test.loop-test.taken
-      (fields-more (seqIn start.args.vs.now start.args.p.now) at-loop.loop.v
-      ∙ (λ i. fields (seqIn start.args.vs.now start.args.p.now) at-loop.loop.v
+      (fields-more (seq_in start.args.vs.now start.args.p.now) at-loop.loop.v
+      ∙ (λ i. fields (seq_in start.args.vs.now start.args.p.now) at-loop.loop.v
       ++ part start.args.p.now (sym at-start-number.start-number.ensures i)
       (sym at-len-number.len-number.ensures i)))
       (omega (

@@ -1,8 +1,8 @@
 -- `write_record::record_length` meets its contract. Assumes nothing.
 use native.Mathlib.Omega.{arith}
-use Rattle.form.specs.Coded.{formIs}
+use Rattle.form.specs.Coded.{form_is}
 use Rattle.form.proofs.FormLaws.{between}
-use Rattle.pool.specs.Pool.{bytesIn}
+use Rattle.pool.specs.Pool.{bytes_in}
 use Rattle.write_record.proofs.record_length.Statement.{statement}
 use Rattle.write_record.proofs.record_length.Tie as tie
 
@@ -11,14 +11,14 @@ bytes-at-requires c κs = (
   omega (
     arith,
     start.pre.small,
-    between (formIs start.args.form) start.args.held.n start.args.held.m
-        (bytesIn start.args.held.n start.args.vs.now),
+    between (form_is start.args.form) start.args.held.n start.args.held.m
+        (bytes_in start.args.held.n start.args.vs.now),
   ),
   omega (
     arith,
     start.pre.small,
-    between (formIs start.args.form) start.args.held.n start.args.held.m
-        (bytesIn start.args.held.n start.args.vs.now),
+    between (form_is start.args.form) start.args.held.n start.args.held.m
+        (bytes_in start.args.held.n start.args.vs.now),
   ),
 )
   where
@@ -31,8 +31,8 @@ sequence-bytes-requires c κs = (
   omega (
     arith,
     start.pre.small,
-    between (formIs start.args.form) start.args.held.n start.args.held.m
-        (bytesIn start.args.held.n start.args.vs.now),
+    between (form_is start.args.form) start.args.held.n start.args.held.m
+        (bytes_in start.args.held.n start.args.vs.now),
   ),
 )
   where
@@ -46,8 +46,8 @@ add-result c =
       start.pre.small,
       at-bytes-at.bytes-at.ensures,
       c.sequence-bytes.ensures,
-      between (formIs start.args.form) start.args.held.n start.args.held.m
-          (bytesIn start.args.held.n start.args.vs.now),
+      between (form_is start.args.form) start.args.held.n start.args.held.m
+          (bytes_in start.args.held.n start.args.vs.now),
     )
   where
     at-bytes-at : tie.After-bytes-at
@@ -62,8 +62,8 @@ returns c =
       arith,
       at-bytes-at.bytes-at.ensures,
       c.sequence-bytes.ensures,
-      between (formIs start.args.form) start.args.held.n start.args.held.m
-          (bytesIn start.args.held.n start.args.vs.now),
+      between (form_is start.args.form) start.args.held.n start.args.held.m
+          (bytes_in start.args.held.n start.args.vs.now),
     )
   where
     at-bytes-at : tie.After-bytes-at

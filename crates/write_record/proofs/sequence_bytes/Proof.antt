@@ -2,19 +2,19 @@
 use native.Mathlib.Omega.{arith}
 use Prim.Native.Nat.{ℕ, ◌-◌, ◌≤◌}
 use mathlib.Core.Path.{◌≡◌, sym, ap, ◌∙◌}
-use Rattle.pool.specs.Pool.{bytesIn}
-use Rattle.pool.proofs.PoolLaws.{bytesIn-none, bytesIn-more, bytes_below}
+use Rattle.pool.specs.Pool.{bytes_in}
+use Rattle.pool.proofs.PoolLaws.{bytes_in-none, bytes_in-more, bytes_below}
 use Rattle.write_record.proofs.sequence_bytes.Statement.{statement}
 use Rattle.write_record.proofs.sequence_bytes.Tie as tie
 
 abbrev invariant-loop : tie.invariant-loop
-invariant-loop vs n total₀ v₀ total v = (v ≤ n) × (total ≡ bytesIn v vs)
+invariant-loop vs n total₀ v₀ total v = (v ≤ n) × (total ≡ bytes_in v vs)
 
 abbrev decreases-loop : tie.decreases-loop
 decreases-loop vs n total₀ v₀ total v = n - v
 
 loop-holds : tie.Need-loop-init invariant-loop decreases-loop
-loop-holds c = (omega arith, sym (bytesIn-none start.args.vs.now))
+loop-holds c = (omega arith, sym (bytes_in-none start.args.vs.now))
   where
     start : tie.Start invariant-loop decreases-loop
     start = search
@@ -34,7 +34,7 @@ add_total c =
     start = let c = at-loop in search
 
 loop-again : tie.Need-loop-preserved invariant-loop decreases-loop
-loop-again c = (omega arith, omega (arith, bytesIn-more at-loop.loop.v start.args.vs.now))
+loop-again c = (omega arith, omega (arith, bytes_in-more at-loop.loop.v start.args.vs.now))
   where
     at-loop : tie.At-loop invariant-loop decreases-loop
     at-loop = search
@@ -44,7 +44,7 @@ loop-again c = (omega arith, omega (arith, bytesIn-more at-loop.loop.v start.arg
 
 returns : tie.Need-returns invariant-loop decreases-loop
 returns c =
-    at-loop.loop.inv.1 ∙ ap (λ (x : ℕ). bytesIn x start.args.vs.now) (omega (arith, at-loop.loop.inv.0))
+    at-loop.loop.inv.1 ∙ ap (λ (x : ℕ). bytes_in x start.args.vs.now) (omega (arith, at-loop.loop.inv.0))
   where
     at-loop : tie.At-loop invariant-loop decreases-loop
     at-loop = search

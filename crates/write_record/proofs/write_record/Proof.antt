@@ -1,10 +1,10 @@
 -- `write_record::write_record` meets its contract. Assumes nothing.
 use native.Mathlib.Omega.{arith}
 use mathlib.Core.Path.{refl}
-use Rattle.form.specs.Coded.{formIs, wordLimit}
+use Rattle.form.specs.Coded.{form_is, word_limit}
 use Rattle.form.proofs.FormLaws.{between}
 use Rattle.compact.proofs.CompactLaws.{ends-weaker}
-use Rattle.pool.specs.Pool.{bytesIn}
+use Rattle.pool.specs.Pool.{bytes_in}
 use Rattle.write_record.proofs.WriteLaws.{written}
 use borrow.Author.Rules.{rules}
 use Rattle.write_record.proofs.write_record.Statement.{statement}
@@ -16,8 +16,8 @@ sequence-bytes-requires c κs = (
   omega (
     arith,
     start.pre.measured.small,
-    between (formIs start.args.form) start.args.held.n start.args.held.m
-        (bytesIn start.args.held.n start.args.vs.now),
+    between (form_is start.args.form) start.args.held.n start.args.held.m
+        (bytes_in start.args.held.n start.args.vs.now),
   ),
 )
   where
@@ -29,8 +29,8 @@ put-header-requires c κs = (
   omega (
     arith,
     start.pre.room,
-    between (formIs start.args.form) start.args.held.n start.args.held.m
-        (bytesIn start.args.held.n start.args.vs.now),
+    between (form_is start.args.form) start.args.held.n start.args.held.m
+        (bytes_in start.args.held.n start.args.vs.now),
   ),
   (
     start.pre.status-fits,
@@ -41,9 +41,9 @@ put-header-requires c κs = (
         arith,
         start.pre.measured.small,
         at-sequence-bytes.sequence-bytes.ensures,
-        between (formIs start.args.form) start.args.held.n start.args.held.m
-            (bytesIn start.args.held.n start.args.vs.now),
-        between (formIs start.args.form) start.args.held.n start.args.held.m
+        between (form_is start.args.form) start.args.held.n start.args.held.m
+            (bytes_in start.args.held.n start.args.vs.now),
+        between (form_is start.args.form) start.args.held.n start.args.held.m
             at-sequence-bytes.sequence-bytes.result,
       );
     },
@@ -63,15 +63,15 @@ put-lengths-requires c κs =
       few = omega (
         arith,
         start.pre.measured.small,
-        between (formIs start.args.form) start.args.held.n start.args.held.m
-            (bytesIn start.args.held.n start.args.vs.now),
+        between (form_is start.args.form) start.args.held.n start.args.held.m
+            (bytes_in start.args.held.n start.args.vs.now),
       );
       room = omega (
         arith,
         start.pre.room,
         at-put-header.put-header.kept,
-        between (formIs start.args.form) start.args.held.n start.args.held.m
-            (bytesIn start.args.held.n start.args.vs.now),
+        between (form_is start.args.form) start.args.held.n start.args.held.m
+            (bytes_in start.args.held.n start.args.vs.now),
       );
       fits = start.pre.lengths-fit;
     }
@@ -89,24 +89,24 @@ put-edges-requires c κs =
       few = omega (
         arith,
         start.pre.measured.small,
-        between (formIs start.args.form) start.args.held.n start.args.held.m
-            (bytesIn start.args.held.n start.args.vs.now),
+        between (form_is start.args.form) start.args.held.n start.args.held.m
+            (bytes_in start.args.held.n start.args.vs.now),
       );
       few-edges = omega (
         arith,
         start.pre.measured.small,
-        between (formIs start.args.form) start.args.held.n start.args.held.m
-            (bytesIn start.args.held.n start.args.vs.now),
+        between (form_is start.args.form) start.args.held.n start.args.held.m
+            (bytes_in start.args.held.n start.args.vs.now),
       );
       room = omega (
         arith,
         start.pre.room,
         at-put-header.put-header.kept,
         at-put-lengths.put-lengths.kept,
-        between (formIs start.args.form) start.args.held.n start.args.held.m
-            (bytesIn start.args.held.n start.args.vs.now),
+        between (form_is start.args.form) start.args.held.n start.args.held.m
+            (bytes_in start.args.held.n start.args.vs.now),
       );
-      fits = ends-weaker (wordLimit (formIs start.args.form)) (omega (arith, start.pre.n-fits)) start.pre.ends;
+      fits = ends-weaker (word_limit (form_is start.args.form)) (omega (arith, start.pre.n-fits)) start.pre.ends;
     }
   where
     at-put-lengths : tie.After-put-lengths
@@ -123,14 +123,14 @@ bytes-at-requires c κs = (
   omega (
     arith,
     start.pre.measured.small,
-    between (formIs start.args.form) start.args.held.n start.args.held.m
-        (bytesIn start.args.held.n start.args.vs.now),
+    between (form_is start.args.form) start.args.held.n start.args.held.m
+        (bytes_in start.args.held.n start.args.vs.now),
   ),
   omega (
     arith,
     start.pre.measured.small,
-    between (formIs start.args.form) start.args.held.n start.args.held.m
-        (bytesIn start.args.held.n start.args.vs.now),
+    between (form_is start.args.form) start.args.held.n start.args.held.m
+        (bytes_in start.args.held.n start.args.vs.now),
   ),
 )
   where
@@ -149,8 +149,8 @@ put-sequences-requires c κs =
         at-put-lengths.put-lengths.kept,
         at-put-edges.put-edges.kept,
         at-bytes-at.bytes-at.ensures,
-        between (formIs start.args.form) start.args.held.n start.args.held.m
-            (bytesIn start.args.held.n start.args.vs.now),
+        between (form_is start.args.form) start.args.held.n start.args.held.m
+            (bytes_in start.args.held.n start.args.vs.now),
       );
     }
   where
@@ -176,8 +176,8 @@ add-result c =
       start.pre.measured.small,
       at-bytes-at.bytes-at.ensures,
       at-sequence-bytes.sequence-bytes.ensures,
-      between (formIs start.args.form) start.args.held.n start.args.held.m
-          (bytesIn start.args.held.n start.args.vs.now),
+      between (form_is start.args.form) start.args.held.n start.args.held.m
+          (bytes_in start.args.held.n start.args.vs.now),
     )
   where
     at-bytes-at : tie.After-bytes-at
