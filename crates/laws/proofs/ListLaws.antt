@@ -85,7 +85,7 @@ module _ {A : Type 0} (p : A → Bool) where
   unfolding keep_if
   keep_if-no x xs t = rw t
 
-  pub mem-keep_if : {l : List A} {x : A} → Memᴰ x l → p x ≡ true → Memᴰ x (keep_if p l)
+  pub mem-keep_if : {x : A} {l : List A} → Memᴰ x l → p x ≡ true → Memᴰ x (keep_if p l)
   mem-keep_if (Memᴰ.head {x = y} {xs = ys} e) t = rw (keep_if-yes y ys (ap p (sym e) ∙ t)) (Memᴰ.head e)
   mem-keep_if (Memᴰ.tail {x = y} {xs = ys} m) t =
       by_test (p y) (λ py. rw (keep_if-yes y ys py) (Memᴰ.tail (mem-keep_if m t))) (λ py. rw (keep_if-no y ys py) (mem-keep_if m t))
@@ -136,7 +136,7 @@ module _ {A : Type 0} (p q : A → Bool) where
       (keep_if-same l (λ y k. h y (Memᴰ.tail k)) i)
 
 -- members by index
-pub mem-at : {A : Type 0} (d : A) {l : List A} {x : A} → Memᴰ x l → (i : ℕ) × (i < length l) × (get_or l i d ≡ x)
+pub mem-at : {A : Type 0} (d : A) {x : A} {l : List A} → Memᴰ x l → (i : ℕ) × (i < length l) × (get_or l i d ≡ x)
 mem-at d (Memᴰ.head e) = (0, omega arith, sym e)
 mem-at d (Memᴰ.tail m) = let r = mem-at d m in (suc r.0, omega (arith, r.1), r.2)
 
