@@ -5,7 +5,7 @@ use memory::Held;
 use record::{Layout, Takes};
 
 // What was made of a record: a graph, which the slices hold, or the number of the refusal.
-#[derive(Drop)]
+#[derive(Clone, Copy)]
 pub enum Read {
     Graph(Held),
     Refused(u32),

@@ -12,15 +12,15 @@ use form::Form;
 use memory::Held;
 
 // What a call sends: 0 and the length of what it wrote, or the number of the refusal and 0. Of calls without more fields it is the answer.
+#[derive(Clone, Copy)]
 #[repr(C)]
-#[derive(Drop)]
 pub struct Answer {
     pub number: u32,
     pub length: u32,
 }
 
+#[derive(Clone, Copy)]
 #[repr(C)]
-#[derive(Drop)]
 pub struct SimplifyAnswer {
     pub number: u32,
     pub length: u32,
@@ -29,8 +29,8 @@ pub struct SimplifyAnswer {
     pub end: u32,
 }
 
+#[derive(Clone, Copy)]
 #[repr(C)]
-#[derive(Drop)]
 pub struct CleanupAnswer {
     pub number: u32,
     pub length: u32,
@@ -38,7 +38,7 @@ pub struct CleanupAnswer {
 }
 
 // A cleanup's answer, and the rewrites, which are counted and not answered.
-#[derive(Drop)]
+#[derive(Clone, Copy)]
 pub struct CountedCleanup {
     pub answer: CleanupAnswer,
     pub rewrites: u32,

@@ -13,14 +13,14 @@ use memory::{Held, Work};
 use refs::OptionVertex;
 
 // How a cleanup ended, as the Rust's enum has it.
-#[derive(Drop)]
+#[derive(Clone, Copy)]
 pub enum SeqGraphCleanupStatus {
     AssembledSomeVariation,
     JustAssembledReference,
 }
 
 // The cleaned graph, its status, and the rewrites made.
-#[derive(Drop)]
+#[derive(Clone, Copy)]
 pub struct CleanedUp {
     pub held: Held,
     pub status: SeqGraphCleanupStatus,

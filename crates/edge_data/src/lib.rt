@@ -1,12 +1,13 @@
 // What an edge carries: its support, which stops at 2^32 - 1, and its flag, 1 for a reference edge and 2 more for a capped one. Only
 // the functions here take a flag apart or put one together, and only `joined` adds supports.
+#![tactic(auto)]
 ghost use Rattle.std.specs.Prelude.{◌≡◌, ◌||◌, ◌+◌, ◌*◌};
 ghost use Rattle.defs.specs.Lists.{bit};
 ghost use Rattle.defs.specs.SeqGraph.{saturating_add, joined_data};
 ghost use Rattle.defs.specs.Record.{flag_is_ref, flag_is_capped};
 ghost use Rattle.edge_data.specs.EdgeData.{carried_data};
 
-#[derive(Drop)]
+#[derive(Clone, Copy)]
 pub struct Carried {
     pub support: u32,
     pub flag: u32,

@@ -1,5 +1,6 @@
 // The two forms of a record, SGR1 and SGR2: which one a record has, how long a word is, and where each part stands. Places are made here alone, so
 // that everything above is one text for both.
+#![tactic(auto)]
 ghost use Rattle.std.specs.Prelude.{◌≡◌, ◌+◌, ◌<◌, ◌≤◌, length, take};
 ghost use Rattle.std.proofs.lemmas.List.Edits.{sets};
 ghost use Rattle.defs.specs.Lists.{same_list};
@@ -7,7 +8,7 @@ ghost use Rattle.defs.specs.Forms.{form_of, word_size, lengths_at, limits};
 ghost use Rattle.defs.specs.Record.{word_bytes, word_at, edges_at, bytes_at};
 ghost use Rattle.form.specs.Coded.{form_is, word_limit};
 
-#[derive(Drop)]
+#[derive(Clone, Copy)]
 pub enum Form {
     Sgr1,
     Sgr2,

@@ -145,12 +145,12 @@ module _ {f : ℕ → ℕ} {m n : ℕ} {head next : ℕ → ℕ} {v : ℕ} (I : 
   testing-more {e} W h q = let N = I.nexts e h in record {
     high = N.high;
     hit = λ b. N.hit b ∙ W.hit h;
-    left = W.left ∙ ap (all_of p) (at-step f m n head next v e I h (W.hit h)) ∙ rw q;
+    left = W.left ∙ ap (all_of p) (at-step f m n head next v e I h (W.hit h)) ∙ rw (q, all_of);
   }
 
   pub testing-fails : {e : ℕ} → Testing f m v p e → e < m → p e ≡ false → false ≡ all_of p (incident_edges f m v)
   unfolding all_of
-  testing-fails {e} W h q = sym (W.left ∙ ap (all_of p) (at-step f m n head next v e I h (W.hit h)) ∙ rw q)
+  testing-fails {e} W h q = sym (W.left ∙ ap (all_of p) (at-step f m n head next v e I h (W.hit h)) ∙ rw (q, all_of))
 
   pub testing-end : {e : ℕ} → Testing f m v p e → m ≤ e → true ≡ all_of p (incident_edges f m v)
   unfolding all_of

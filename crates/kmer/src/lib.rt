@@ -1,4 +1,5 @@
 // A k-mer size is its own kind of number, as `KmerSize` of `bio_ids.rs` is.
+#![tactic(auto)]
 ghost use Rattle.std.specs.Prelude.{◌≡◌};
 ghost use Rattle.kmer.specs.Size.{size_of};
 
@@ -8,10 +9,10 @@ pub const LEAST_SIZE: u16 = 2;
 pub const MOST_SIZE: u16 = 128;
 
 // A k-mer size, 2 to 128. Its number is private here, and `kmer_size` alone makes one, behind the check.
-#[derive(Drop)]
+#[derive(Clone, Copy)]
 pub struct KmerSize(u16);
 
-#[derive(Drop)]
+#[derive(Clone, Copy)]
 pub enum MadeSize {
     Size(KmerSize),
     Refused,

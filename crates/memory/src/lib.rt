@@ -2,7 +2,7 @@
 use kmer::KmerSize;
 
 // What stands beside the slices: the k-mer size, the numbers of vertices and edges, and how many bytes of the pool are in use.
-#[derive(Drop)]
+#[derive(Clone, Copy)]
 pub struct Held {
     pub k: KmerSize,
     pub n: usize,
@@ -11,14 +11,14 @@ pub struct Held {
 }
 
 // A rewrite that was tried at a vertex: whether it was done, and the graph then.
-#[derive(Drop)]
+#[derive(Clone, Copy)]
 pub struct Tried {
     pub done: bool,
     pub held: Held,
 }
 
 // A graph and the number of rewrites made so far.
-#[derive(Drop)]
+#[derive(Clone, Copy)]
 pub struct Work {
     pub held: Held,
     pub rewrites: u32,

@@ -20,7 +20,7 @@ use spell::OptionBytes;
 use tallies::LAST_CALLER;
 
 // A path has its start vertex here, and its edges in a list beside it.
-#[derive(Drop)]
+#[derive(Clone, Copy)]
 pub enum ReadingCall {
     CleanNonRefPaths,
     ReferencePathBytes,

@@ -1,4 +1,5 @@
 // The graph record: its fields, and the refusals 1 to 5, which lie in its layout. Each function goes by the record's form.
+#![tactic(auto)]
 ghost use Rattle.std.specs.Prelude.{◌≡◌, ◌<◌, ◌≤◌, length, take};
 ghost use Rattle.defs.specs.Lists.{any_of, up_from, tab, sum, same_list};
 ghost use Rattle.defs.specs.Forms.{mark, form_of};
@@ -14,7 +15,7 @@ use form::Form;
 use kmer::{KmerSize, MadeSize};
 
 // Which kinds a call takes.
-#[derive(Drop)]
+#[derive(Clone, Copy)]
 pub enum Takes {
     KmerOnly,
     SequenceOnly,
@@ -22,7 +23,7 @@ pub enum Takes {
 }
 
 // What the check of a record's layout gives: the k-mer size, which the check has made, or the number of the refusal, 1 to 5.
-#[derive(Drop)]
+#[derive(Clone, Copy)]
 pub enum Layout {
     Formed(KmerSize),
     Refused(u32),

@@ -13,7 +13,7 @@ use refs::OptionVertex;
 use spell::OptionBytes;
 
 // The path's vertices, by their number, or no path.
-#[derive(Drop)]
+#[derive(Clone, Copy)]
 pub enum OptionPath {
     Some(usize),
     None,

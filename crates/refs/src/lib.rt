@@ -5,7 +5,7 @@ ghost use Rattle.index.specs.Index.{Indexed, edge_end, incident_edges};
 ghost use Rattle.refs.specs.Refs.{ref_at, RefNode, RefSource, RefSink, FirstSource, FirstSink};
 
 // A vertex, or none: the Rust's `Option<usize>`.
-#[derive(Drop)]
+#[derive(Clone, Copy)]
 pub enum OptionVertex {
     Some(usize),
     None,

@@ -1,7 +1,7 @@
 // The numbers of a stored case, and what an answer must have in common with them.
 
 // Result fields behind the length that a call does not have are 0. The rewrites are those that the tally counts.
-#[derive(Drop)]
+#[derive(Clone, Copy)]
 pub struct Got {
     pub number: u32,
     pub length: u32,

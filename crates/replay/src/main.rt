@@ -7,7 +7,7 @@ mod table;
 use libc::STDOUT_FILENO;
 use run::{Outcome, replay};
 
-#[derive(Drop)]
+#[derive(Clone, Copy)]
 pub struct Counts {
     pub cases: u32,
     pub refused: u32,

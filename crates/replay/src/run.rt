@@ -4,7 +4,7 @@ use crate::table::same_table;
 use calls::{Answer, CountedCleanup, SimplifyAnswer};
 
 // What a case came to; End: there was none.
-#[derive(Drop)]
+#[derive(Clone, Copy)]
 pub enum Outcome {
     Answered,
     Refused,

@@ -12,14 +12,14 @@ use accept::Read;
 use cleanup_steps::SeqGraphCleanupStatus;
 use memory::Held;
 
-#[derive(Drop)]
+#[derive(Clone, Copy)]
 pub enum RewritingCall {
     SimplifyGraph,
     CleanupSeqGraph,
 }
 
 // What became of a graph: it is rewritten, and the slices hold it; and what the call counted. A number that a call does not have is 0.
-#[derive(Drop)]
+#[derive(Clone, Copy)]
 pub struct Rewritten {
     pub held: Held,
     pub status: u32,

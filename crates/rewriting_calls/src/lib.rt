@@ -18,7 +18,7 @@ use rewriting::RewritingCall;
 use tallies::LAST_CALLER;
 
 // What a call answers. Of a refused call only what was sent counts.
-#[derive(Drop)]
+#[derive(Clone, Copy)]
 pub struct RewritingAnswer {
     pub sent: Answer,
     pub status: u32,

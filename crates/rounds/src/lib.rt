@@ -9,7 +9,7 @@ use memory::{Held, Work};
 pub const MIN_TAIL_SUFFIX_LEN: usize = 10;
 
 // The simplified graph, the rewrites made, the rounds begun, and the end: 1 quiet, 2 repeated, 3 full.
-#[derive(Drop)]
+#[derive(Clone, Copy)]
 pub struct Simplified {
     pub held: Held,
     pub rewrites: u32,

@@ -9,7 +9,7 @@ ghost use Rattle.signature.specs.Signature.{SignatureWritable, Signature};
 use memory::Held;
 
 // How far the signature is written, and whether all of it is as the previous one.
-#[derive(Drop)]
+#[derive(Clone, Copy)]
 pub struct Signed {
     pub at: usize,
     pub same: bool,

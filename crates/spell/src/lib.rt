@@ -1,11 +1,12 @@
 // The bytes that a list of vertices spells: their sequences, whole, joined in order.
+#![tactic(auto)]
 ghost use Rattle.std.specs.Prelude.{◌≡◌, ℕ, ◌+◌, ◌*◌, ◌<◌, ◌≤◌, length, get_or, drop};
 ghost use Rattle.std.proofs.Math.Seq.{paste};
 ghost use Rattle.spell.specs.Spell.{BytesFit, Puttable, SequencePut, spelled_in, Listed, BytesWritten, Answered};
 ghost use Rattle.store.specs.Store.{nodes_length};
 
 // The bytes that were asked for, by their number, or none: the Rust's `Option<Vec<u8>>`, whose bytes go to a lent slice.
-#[derive(Drop)]
+#[derive(Clone, Copy)]
 pub enum OptionBytes {
     Some(usize),
     None,

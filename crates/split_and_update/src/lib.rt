@@ -13,7 +13,7 @@ use edge_data::Carried;
 use memory::Held;
 
 // Where the new vertices stand: the prefix, the suffix, the first of what remains of the middles.
-#[derive(Drop)]
+#[derive(Clone, Copy)]
 pub struct Places {
     pub top: u32,
     pub bottom: u32,
@@ -27,7 +27,7 @@ pub struct Places {
 }
 
 // The numbers of the suffix and of the first middle among the new vertices, and of all vertices.
-#[derive(Drop)]
+#[derive(Clone, Copy)]
 pub struct Added {
     pub suffix: usize,
     pub middles: usize,

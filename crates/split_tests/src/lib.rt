@@ -7,7 +7,7 @@ ghost use Rattle.index.specs.Index.{Indexed};
 ghost use Rattle.split_tests.specs.SplitTests.{one_out, is_long, SplitTestable, Eliminates, Splits};
 
 // The suffix that the predecessors of a vertex are split by, as its length, or none.
-#[derive(Drop)]
+#[derive(Clone, Copy)]
 pub enum OptionSuffix {
     Some(usize),
     None,

@@ -1,18 +1,19 @@
 // A tally for each of sixteen callers, in a table that a tallied call is lent. All that changes the table is `count_call`, which is `raised`
 // through a reference.
+#![tactic(auto)]
 ghost use Rattle.tallies.specs.Raises.{counted, TalliesCall, Raises};
 
 // Calls answered, calls refused, rewrites made in the answered calls.
+#[derive(Clone, Copy)]
 #[repr(C)]
-#[derive(Drop)]
 pub struct Tally {
     pub answered: u32,
     pub refused: u32,
     pub rewrites: u32,
 }
 
+#[derive(Clone, Copy)]
 #[repr(C)]
-#[derive(Drop)]
 pub struct Tallies {
     pub callers: [Tally; 16],
 }

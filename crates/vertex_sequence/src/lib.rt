@@ -22,8 +22,8 @@ use memory::Held;
 use record::{Layout, Takes};
 
 // Where a vertex's sequence stands in the record, and how long it is.
+#[derive(Clone, Copy)]
 #[repr(C)]
-#[derive(Drop)]
 pub struct SequencePlace {
     pub offset: u32,
     pub length: u32,

@@ -57,7 +57,7 @@ fn hand_over(froms: &mut [u32], rest: &[u32], last: usize, s: u32)
 }
 
 // The chains so far: where the next sequence is written, how many vertices go, and how many chains there are.
-#[derive(Drop)]
+#[derive(Clone, Copy)]
 pub struct Absorbed {
     pub at: usize,
     pub gone: usize,

@@ -1,0 +1,11 @@
+-- `form::word_size` meets its contract.
+use borrow.Author.Rules.{rules}
+use native.Mathlib.Omega.{arith}
+use Rattle.form.proofs.FormLaws.{word-1, word-2}
+use Rattle.form.proofs.word_size.Goals as goal
+
+pub returns-in-Sgr1 : goal.returns-in-Sgr1
+returns-in-Sgr1 c = omega (arith, word-1 _ c.in-Sgr1.is)
+
+pub returns-in-Sgr2 : goal.returns-in-Sgr2
+returns-in-Sgr2 c = omega (arith, word-2 _ c.in-Sgr2.is)

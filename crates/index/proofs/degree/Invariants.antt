@@ -1,0 +1,12 @@
+-- What each turn of the loop keeps.
+use native.Mathlib.Omega.{arith}
+use Prim.Native.Nat.{◌+◌, ◌*◌, ◌-◌}
+use Rattle.index.specs.Index.{edge_end}
+use Rattle.index.proofs.AdjLaws.{ListWalked, walked_start, walked_more, walked_end}
+use Rattle.index.proofs.degree.Given as goal
+
+abbrev pub invariant-loop-e : goal.invariant-loop-e
+invariant-loop-e l = ListWalked (edge_end l.off l.es) l.m l.v l.d l.e
+
+abbrev pub decreases-loop-e : goal.decreases-loop-e
+decreases-loop-e l = l.m - l.e

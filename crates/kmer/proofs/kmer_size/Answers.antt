@@ -1,0 +1,16 @@
+-- `kmer::kmer_size` meets its contract.
+use borrow.Author.Tests.{lt-ltb, le-ltb}
+use Rattle.kmer.specs.Size.{size_of, k_past_limit}
+use Rattle.kmer.proofs.kmer_size.Goals as goal
+
+pub returns-then-n-lt-LEAST_SIZE : goal.returns-then-n-lt-LEAST_SIZE
+unfolding size_of k_past_limit
+returns-then-n-lt-LEAST_SIZE c = simp (lt-ltb _ _ c.if-n-lt-LEAST_SIZE.true)
+
+pub returns-then-n-gt-MOST_SIZE : goal.returns-then-n-gt-MOST_SIZE
+unfolding size_of k_past_limit
+returns-then-n-gt-MOST_SIZE c = simp (le-ltb _ _ c.if-n-lt-LEAST_SIZE.false, lt-ltb _ _ c.if-n-gt-MOST_SIZE.true)
+
+pub returns : goal.returns
+unfolding size_of k_past_limit
+returns c = simp (le-ltb _ _ c.if-n-lt-LEAST_SIZE.false, le-ltb _ _ c.if-n-gt-MOST_SIZE.false)
