@@ -14,24 +14,24 @@ pub bad_edge-requires : goal.bad_edge-requires
 bad_edge-requires c =
     edge-inside
     c.requires
-    c.IsEdge-count.ensures.0
-    c.IsEdge-count.ensures.1
+    c.edge_count-e.ensures.0
+    c.edge_count-e.ensures.1
     c.loop-i.i
     c.loop-i-test.true
 
 pub returns-then-bad_edge : goal.returns-then-bad_edge
 returns-then-bad_edge c =
     sym
-    (any_found (bad_edge c.args.rec.now) c.loop-i.i c.IsEdge-count.result
+    (any_found (bad_edge c.args.rec.now) c.loop-i.i c.edge_count-e.result
     c.loop-i-test.true (sym c.bad_edge.ensures ∙ c.if-bad_edge.true))
     ∙ c.loop-i.invariant.1 ∙ ap (λ n. any_of (bad_edge c.args.rec.now) (up_from 0 n))
-    c.IsEdge-count.ensures.0
+    c.edge_count-e.ensures.0
     ∙ sym (any-bad-is c.args.rec.now)
 
 pub loop-i-preserved : goal.loop-i-preserved
 loop-i-preserved c = (
   omega arith,
-  sym (any-turn (bad_edge c.args.rec.now) c.loop-i.i c.IsEdge-count.result
+  sym (any-turn (bad_edge c.args.rec.now) c.loop-i.i c.edge_count-e.result
       c.loop-i-test.true (sym c.bad_edge.ensures ∙ c.if-bad_edge.false))
       ∙ c.loop-i.invariant.1,
 )
@@ -39,7 +39,7 @@ loop-i-preserved c = (
 pub returns : goal.returns
 returns c =
     sym
-    (any_none (bad_edge c.args.rec.now) c.loop-i.i c.IsEdge-count.result
+    (any_none (bad_edge c.args.rec.now) c.loop-i.i c.edge_count-e.result
     c.loop-i-test.false) ∙ c.loop-i.invariant.1
-    ∙ ap (λ n. any_of (bad_edge c.args.rec.now) (up_from 0 n)) c.IsEdge-count.ensures.0
+    ∙ ap (λ n. any_of (bad_edge c.args.rec.now) (up_from 0 n)) c.edge_count-e.ensures.0
     ∙ sym (any-bad-is c.args.rec.now)

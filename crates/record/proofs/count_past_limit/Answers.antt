@@ -34,7 +34,7 @@ returns-then-most_edges-edge_count c =
     (omega (
       arith,
       c.most_edges.ensures,
-      c.IsEdge-count.ensures.0,
+      c.edge_count.ensures.0,
       ap (λ f. (limits f).edges) c.requires.is,
       c.if-most_edges-edge_count.true,
     ))
@@ -56,7 +56,7 @@ returns-then-rec-eq1 c =
     (omega (
       arith,
       c.most_edges.ensures,
-      c.IsEdge-count.ensures.0,
+      c.edge_count.ensures.0,
       ap (λ f. (limits f).edges) c.requires.is,
       c.if-most_edges-edge_count.false,
     )) c.if-rec-eq1.true
@@ -75,7 +75,7 @@ returns c =
     (omega (
       arith,
       c.most_edges.ensures,
-      c.IsEdge-count.ensures.0,
+      c.edge_count.ensures.0,
       ap (λ f. (limits f).edges) c.requires.is,
       c.if-most_edges-edge_count.false,
     ))

@@ -9,6 +9,9 @@ use Rattle.record.proofs.Tests.{mark-1, mark-2}
 use borrow.Author.Rules.{rules}
 use Rattle.record.proofs.has_mark.Goals as goal
 
+pub begins_with-requires : goal.begins_with-requires
+begins_with-requires c = (omega (arith, header-long c.requires), search rules)
+
 pub returns-in-Sgr1 : goal.returns-in-Sgr1
 returns-in-Sgr1 c =
     mark-1

@@ -85,7 +85,7 @@ returns-then-u32_at-bytes c =
     c.if-u32_at-edges_at.false
     (c.u32_at-3.ensures ∙ bytes-offset-read _ _ c.requires.is c.lengths_at-header.ensures)
     (bytes-at-read _ _ c.requires.is c.bytes_at-bytes.ensures c.vertex_count-vertices.ensures.0
-    c.IsEdge-count.ensures.0)
+    c.edge_count.ensures.0)
     c.if-u32_at-bytes.true
 
 pub returns : goal.returns
@@ -100,6 +100,6 @@ returns c =
     c.if-u32_at-edges_at.false
     (c.u32_at-3.ensures ∙ bytes-offset-read _ _ c.requires.is c.lengths_at-header.ensures)
     (bytes-at-read _ _ c.requires.is c.bytes_at-bytes.ensures c.vertex_count-vertices.ensures.0
-    c.IsEdge-count.ensures.0)
+    c.edge_count.ensures.0)
     c.if-u32_at-bytes.false
     c.byte_count.ensures.0

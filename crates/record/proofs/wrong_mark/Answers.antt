@@ -13,7 +13,7 @@ returns-then-not-has_mark c =
     other-mark
     (takes_of c.args.takes)
     c.args.rec.now
-    (sym c.has_mark.ensures ∙ not-true c.has_mark.result c.if-not-has_mark.true)
+    (sym c.has_mark.ensures ∙ c.if-not-has_mark.true)
 
 pub bounds-rec-4 : goal.bounds-rec-4
 bounds-rec-4 c = omega (arith, header-long c.requires)
@@ -23,8 +23,8 @@ returns-then-not-takes_kind c =
     other-kind
     (takes_of c.args.takes)
     c.args.rec.now
-    (sym c.has_mark.ensures ∙ not-false c.has_mark.result c.if-not-has_mark.false)
-    (sym c.takes_kind.ensures ∙ not-true c.takes_kind.result c.if-not-takes_kind.true)
+    (sym c.has_mark.ensures ∙ c.if-not-has_mark.false)
+    (sym c.takes_kind.ensures ∙ c.if-not-takes_kind.true)
 
 pub bounds-rec-5 : goal.bounds-rec-5
 bounds-rec-5 c = omega (arith, header-long c.requires)
@@ -34,8 +34,8 @@ returns-then-rec-gt2 c =
     other-status
     (takes_of c.args.takes)
     c.args.rec.now
-    (sym c.has_mark.ensures ∙ not-false c.has_mark.result c.if-not-has_mark.false)
-    (sym c.takes_kind.ensures ∙ not-false c.takes_kind.result c.if-not-takes_kind.false)
+    (sym c.has_mark.ensures ∙ c.if-not-has_mark.false)
+    (sym c.takes_kind.ensures ∙ c.if-not-takes_kind.false)
     c.if-rec-gt2.true
 
 pub bounds-rec-4-2 : goal.bounds-rec-4-2
@@ -49,8 +49,8 @@ returns-then-rec-eq0 c =
     kmer-status
     (takes_of c.args.takes)
     c.args.rec.now
-    (sym c.has_mark.ensures ∙ not-false c.has_mark.result c.if-not-has_mark.false)
-    (sym c.takes_kind.ensures ∙ not-false c.takes_kind.result c.if-not-takes_kind.false)
+    (sym c.has_mark.ensures ∙ c.if-not-has_mark.false)
+    (sym c.takes_kind.ensures ∙ c.if-not-takes_kind.false)
     c.if-rec-gt2.false
     c.if-rec-eq0.true
 
@@ -59,7 +59,7 @@ returns c =
     sequence-status
     (takes_of c.args.takes)
     c.args.rec.now
-    (sym c.has_mark.ensures ∙ not-false c.has_mark.result c.if-not-has_mark.false)
-    (sym c.takes_kind.ensures ∙ not-false c.takes_kind.result c.if-not-takes_kind.false)
+    (sym c.has_mark.ensures ∙ c.if-not-has_mark.false)
+    (sym c.takes_kind.ensures ∙ c.if-not-takes_kind.false)
     c.if-rec-gt2.false
     c.if-rec-eq0.false
