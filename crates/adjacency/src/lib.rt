@@ -1,1 +1,0 @@
-// The followers of a vertex along the index: laws, and no function.

@@ -1,4 +1,0 @@
-pub mod ReadingLaws
-pub mod ComparingLaws
-pub mod StringLaws
-pub mod OrderLaws

@@ -1,9 +1,0 @@
-pub mod Lists
-pub mod Once
-pub mod EndToEndPaths
-pub mod PathCounts
-pub mod Ranks
-pub mod ByteOrder
-pub mod Haplotypes
-pub mod Listing
-pub mod Sizes

@@ -1,1 +1,0 @@
-// The end-to-end paths of a graph, their number and their strings: laws, and no function.

@@ -1,3 +1,0 @@
-pub mod ResponseLaws
-pub mod CauseLaws
-pub mod CallerLaws

@@ -1,1 +1,0 @@
-// What a call responds by its list of causes: laws, and no function.
