@@ -1,5 +1,6 @@
 // Vertices that go: the numbers of the others close up, in place (`compact_vertices_and_remap_edges`).
 #![tactic(auto)]
+
 ghost use Rattle.std.specs.Prelude.{◌≡◌, ℕ, ◌+◌, ◌*◌, ◌<◌, ◌≤◌, length, get_or};
 ghost use Rattle.store.specs.Store.{nums_in, EndsBelow, Numbered};
 ghost use Rattle.compact.specs.Compact.{BothSet, Cleared, Marked, Renumbered, VertsClosed, EdgesClosed, Compactable, Compacted, Below, Removed};

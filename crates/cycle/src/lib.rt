@@ -1,6 +1,7 @@
 // A cycle, a self edge included: vertices that no edge enters are peeled off, with the edges that leave them. What cannot be peeled
 // has a cycle. The queue holds the vertices peeled and to be peeled; `degrees` counts the edges that still enter each vertex.
 #![tactic(auto)]
+
 ghost use Rattle.std.specs.Prelude.{◌+◌, ◌<◌, ◌≤◌, length};
 ghost use Rattle.index.specs.Index.{Indexed};
 ghost use Rattle.cycle.specs.Peel.{Peelable, DegreesCounted, Sourced, Peeling, HasCycle};

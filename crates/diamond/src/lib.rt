@@ -1,6 +1,7 @@
 // When the followers of a vertex are the middles of a diamond, or tails. Each test follows the lists of the index.
 // `off` 0 is the end that an edge leaves, 1 the end that it enters.
 #![tactic(auto)]
+
 ghost use Rattle.std.specs.Prelude.{◌≡◌, ◌+◌, ◌*◌, ◌<◌, ◌≤◌, length, eqb};
 ghost use Rattle.defs.specs.Lists.{all_of};
 ghost use Rattle.store.specs.Store.{nums_in};

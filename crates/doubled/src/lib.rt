@@ -1,4 +1,6 @@
 // Two edges with the same ends: marks along the adjacency lists, so that each edge is looked at once.
+#![tactic(auto)]
+
 ghost use Rattle.std.specs.Prelude.{◌≡◌, ◌<◌};
 ghost use Rattle.defs.specs.Refusals.{doubled_edge};
 ghost use Rattle.store.specs.Store.{edges_in};

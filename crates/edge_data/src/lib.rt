@@ -1,6 +1,7 @@
 // What an edge carries: its support, which stops at 2^32 - 1, and its flag, 1 for a reference edge and 2 more for a capped one. Only
 // the functions here take a flag apart or put one together, and only `joined` adds supports.
 #![tactic(auto)]
+
 ghost use Rattle.std.specs.Prelude.{◌≡◌, ◌||◌, ◌+◌, ◌*◌};
 ghost use Rattle.defs.specs.Lists.{bit};
 ghost use Rattle.defs.specs.SeqGraph.{saturating_add, joined_data};

@@ -1,6 +1,7 @@
 // The two forms of a record, SGR1 and SGR2: which one a record has, how long a word is, and where each part stands. Places are made here alone, so
 // that everything above is one text for both.
 #![tactic(auto)]
+
 ghost use Rattle.std.specs.Prelude.{◌≡◌, ◌+◌, ◌<◌, ◌≤◌, length, take};
 ghost use Rattle.std.proofs.lemmas.List.Edits.{sets};
 ghost use Rattle.defs.specs.Lists.{same_list};

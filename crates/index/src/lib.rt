@@ -3,6 +3,7 @@
 // Only this crate writes them; whoever follows a vertex's list reads them where they stand.
 // `off` 0 is the end that an edge leaves, 1 the end that it enters.
 #![tactic(auto)]
+
 ghost use Rattle.std.specs.Prelude.{◌≡◌, ℕ, ◌+◌, ◌*◌, ◌<◌, ◌≤◌, length, get_or, eqb, ltb};
 ghost use Rattle.index.specs.Index.{Indexable, Indexed, Collected, edge_end, incident_edges};
 

@@ -1,5 +1,6 @@
 // A k-mer size is its own kind of number, as `KmerSize` of `bio_ids.rs` is.
 #![tactic(auto)]
+
 ghost use Rattle.std.specs.Prelude.{◌≡◌};
 ghost use Rattle.kmer.specs.Size.{size_of};
 

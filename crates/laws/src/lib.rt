@@ -1,1 +1,2 @@
 // Laws of the definitions alone: proofs/.
+#![tactic(auto)]

@@ -1,5 +1,7 @@
 // The graph of an accepted record, read into the slices. The sequences stay where they stand: the record itself is the pool. Where a graph is
 // rewritten they are copied to a pool of its own.
+#![tactic(auto)]
+
 ghost use Rattle.std.specs.Prelude.{◌≡◌, ◌+◌, ◌*◌, ◌≤◌, ◌<◌, length};
 ghost use Rattle.defs.specs.Forms.{form_of};
 ghost use Rattle.defs.specs.Record.{k_of, edges_of, vertices_of, bytes_at};

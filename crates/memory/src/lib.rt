@@ -1,5 +1,6 @@
 // A graph held in slices, and the room that its rewrites need.
 #![tactic(auto)]
+
 use kmer::KmerSize;
 
 // What stands beside the slices: the k-mer size, the numbers of vertices and edges, and how many bytes of the pool are in use.

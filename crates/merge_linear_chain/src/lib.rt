@@ -1,6 +1,7 @@
 // One linear chain of vertices becomes one vertex (`merge_linear_chain`): it joins one row of vertices between two given ones, which a
 // checker of logs needs. Simplification joins all chains at once (crate `zip_linear_chains`) and takes only `write_chain` from here.
 #![tactic(auto)]
+
 ghost use Rattle.std.specs.Prelude.{◌+◌, ◌*◌, ◌<◌};
 ghost use Rattle.index.specs.Index.{Indexed};
 ghost use Rattle.memory.specs.Memory.{Room, Holds};

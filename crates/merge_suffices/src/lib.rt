@@ -1,4 +1,6 @@
 // Predecessors of equal bytes join with the vertex that follows them all (`try_merge_common_suffices`).
+#![tactic(auto)]
+
 ghost use Rattle.std.specs.Prelude.{◌≡◌, ◌∷◌, ◌+◌, ◌*◌, ◌<◌, ◌≤◌, length, get_or};
 ghost use Rattle.defs.specs.Lists.{all_of, same_list};
 ghost use Rattle.defs.specs.Rewrites.{try_merge_common_suffices};

@@ -1,5 +1,6 @@
 // The bytes of the sequences: comparing and copying within the pool, and packing it.
 #![tactic(auto)]
+
 ghost use Rattle.std.specs.Prelude.{◌≡◌, ℕ, ◌+◌, ◌*◌, ◌<◌, ◌≤◌, length, get_or};
 ghost use Rattle.defs.specs.Lists.{same_list};
 ghost use Rattle.store.specs.Store.{part};

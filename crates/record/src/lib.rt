@@ -1,5 +1,6 @@
 // The graph record: its fields, and the refusals 1 to 5, which lie in its layout. Each function goes by the record's form.
 #![tactic(auto)]
+
 ghost use Rattle.std.specs.Prelude.{◌≡◌, ◌<◌, ◌≤◌, length, take};
 ghost use Rattle.defs.specs.Lists.{any_of, up_from, tab, sum, same_list};
 ghost use Rattle.defs.specs.Forms.{mark, form_of};

@@ -1,5 +1,6 @@
 // A new vertex takes over the edges of an old one, joined where one is there already. A mark for each vertex says where its edge stands.
 #![tactic(auto)]
+
 ghost use Rattle.std.specs.Prelude.{◌≡◌, ◌+◌, ◌*◌, ◌-◌, ◌<◌};
 ghost use Rattle.redirect.specs.Redirect.{new_from, new_to, place, OneReady, OneDone, Redirectable, Redirected};
 

@@ -1,5 +1,6 @@
 // Reference edges, nodes, sources and sinks.
 #![tactic(auto)]
+
 ghost use Rattle.std.specs.Prelude.{◌≡◌, ℕ, ◌+◌, ◌*◌, ◌<◌, ◌≤◌, length};
 ghost use Rattle.defs.specs.Lists.{any_of};
 ghost use Rattle.index.specs.Index.{Indexed, edge_end, incident_edges};

@@ -1,5 +1,6 @@
 // How many bytes the sequences of some vertices share, at their start and at their end. The count stops at the first vertex that differs.
 #![tactic(auto)]
+
 ghost use Rattle.std.specs.Prelude.{◌≡◌, ◌&&◌, ℕ, ◌+◌, ◌-◌, ◌<◌, ◌≤◌, eqb, ltb, length, get_or};
 ghost use Rattle.shared.specs.Shared.{Parts, len_at, Prefix, Suffix};
 

@@ -1,5 +1,6 @@
 // The bytes that a list of vertices spells: their sequences, whole, joined in order.
 #![tactic(auto)]
+
 ghost use Rattle.std.specs.Prelude.{◌≡◌, ℕ, ◌+◌, ◌*◌, ◌<◌, ◌≤◌, length, get_or, drop};
 ghost use Rattle.std.proofs.Math.Seq.{paste};
 ghost use Rattle.spell.specs.Spell.{BytesFit, Puttable, SequencePut, spelled_in, Listed, BytesWritten, Answered};

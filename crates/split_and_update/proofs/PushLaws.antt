@@ -41,21 +41,20 @@ pushed_then {k} {es = es} {x = x} {y = y} A B = record {
   is = B.is ∙ ap (λ (l : List Edge). l ++ y) A.is ∙ append_assoc (edges_in k es) x y;
 }
 
-pub pushed-not : {k : ℕ} {es : List ℕ} (t : Bool) (a b s f : ℕ) → not t ≡ true → EdgesPushed k es (edge_if t a b s f) k es
+pub pushed-not : {k : ℕ} {es : List ℕ} (t : Bool) (a b s f : ℕ) → t ≡ false → EdgesPushed k es (edge_if t a b s f) k es
 unfolding only_if
-pushed-not {k} {es} t a b s f h = rw (not-true t h) (pushed_none k es)
+pushed-not {k} {es} t a b s f h = rw h (pushed_none k es)
 
-pub pushed-yes : {k : ℕ} {es es' : List ℕ} (t : Bool) (a b s f : ℕ) → not t ≡ false → 4 * (k + bit t) ≤ length es → es'
+pub pushed-yes : {k : ℕ} {es es' : List ℕ} (t : Bool) (a b s f : ℕ) → t ≡ true → 4 * (k + bit t) ≤ length es → es'
     ≡ put_edge es k a b s f → EdgesPushed k es (edge_if t a b s f) (k + 1) es'
 unfolding only_if bit
 pushed-yes {k} {es} {es'} t a b s f h r q =
-    let e = not-false t h in
-    let r' : 4 * (k + 1) ≤ length es = rw e at r in
-    rw e (pushed-one a b s f (omega arith) q)
+    let r' : 4 * (k + 1) ≤ length es = rw h at r in
+    rw h (pushed-one a b s f (omega arith) q)
 
-pub room-yes : (k : ℕ) (es : List ℕ) (t : Bool) → not t ≡ false → 4 * (k + bit t) ≤ length es → 4 * k + 4 ≤ length es
+pub room-yes : (k : ℕ) (es : List ℕ) (t : Bool) → t ≡ true → 4 * (k + bit t) ≤ length es → 4 * k + 4 ≤ length es
 unfolding bit
-room-yes k es t h r = let r' : 4 * (k + 1) ≤ length es = rw (not-false t h) at r in omega arith
+room-yes k es t h r = let r' : 4 * (k + 1) ≤ length es = rw h at r in omega arith
 
 -- ---- vertices
 

@@ -1,6 +1,7 @@
 // Middles between a top and a bottom, or tails below a top, become a shared prefix, a shared suffix and what remains of each
 // (`split_and_update`). New vertices and edges stand behind the old ones; then the middles go.
 #![tactic(auto)]
+
 ghost use Rattle.std.specs.Prelude.{◌≡◌, cond, ◌&&◌, ◌+◌, ◌*◌, ◌-◌, ◌<◌, ◌≤◌, eqb, length};
 ghost use Rattle.defs.specs.Lists.{bit};
 ghost use Rattle.defs.specs.SeqGraph.{joined_data};

@@ -1,5 +1,6 @@
 // When the predecessors of a vertex are split by the suffix that they share. Each test follows the lists of the index.
 #![tactic(auto)]
+
 ghost use Rattle.std.specs.Prelude.{◌≡◌, ◌+◌, ◌*◌, ◌<◌, ◌≤◌, length};
 ghost use Rattle.defs.specs.Lists.{all_of};
 ghost use Rattle.store.specs.Store.{nums_in};

@@ -2,6 +2,7 @@
 // pool and how long it is. The pool: the sequences' bytes. Only the functions here read and write an edge's or a vertex's numbers where
 // they stand; other crates call them, and name the places only in contracts.
 #![tactic(auto)]
+
 ghost use Rattle.std.specs.Prelude.{◌≡◌, ℕ, ◌+◌, ◌*◌, ◌<◌, ◌≤◌, length, get_or, set};
 ghost use Rattle.defs.specs.SeqGraph.{Edge, has_ends, add_or_update_edge};
 ghost use Rattle.edge_data.specs.EdgeData.{carried_data};

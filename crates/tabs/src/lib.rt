@@ -1,1 +1,2 @@
 // Laws of lists by index alone: proofs/.
+#![tactic(auto)]

@@ -1,6 +1,7 @@
 // A tally for each of sixteen callers, in a table that a tallied call is lent. All that changes the table is `count_call`, which is `raised`
 // through a reference.
 #![tactic(auto)]
+
 ghost use Rattle.tallies.specs.Raises.{counted, TalliesCall, Raises};
 
 // Calls answered, calls refused, rewrites made in the answered calls.

@@ -74,12 +74,11 @@ returns-then-count_past_limit c =
     (sym c.count_past_limit.ensures ∙ c.if-count_past_limit.true))
 
 pub layout_disagrees-requires : goal.layout_disagrees-requires
-layout_disagrees-requires c =
-    (
-      made-is _ (sym c.kmer_size_of.ensures ∙ c.in-Size.is),
-      headed c.args.rec.now c.form_of-form.ensures
-          (sym c.other_length.ensures ∙ c.if-other_length.false),
-    )
+layout_disagrees-requires c = (
+  made-is _ (sym c.kmer_size_of.ensures ∙ c.in-Size.is),
+  headed c.args.rec.now c.form_of-form.ensures
+      (sym c.other_length.ensures ∙ c.if-other_length.false),
+)
 
 pub returns-then-layout_disagrees : goal.returns-then-layout_disagrees
 returns-then-layout_disagrees c =

@@ -33,17 +33,16 @@ pub bounds-rec-4 : goal.bounds-rec-4
 bounds-rec-4 c = omega (arith, header-long c.requires.1)
 
 pub other_kmer_length-requires : goal.other_kmer_length-requires
-other_kmer_length-requires c =
-    (
-      c.requires.0,
-      record {
-        headed = c.requires.1;
-        few = c.vertex_count-v.ensures.1;
-        inside = lengths-inside c.args.rec.now
-            (sym c.offsets_disagree.ensures ∙ c.if-offsets_disagree.false)
-            c.vertex_count-v.ensures.0;
-      },
-    )
+other_kmer_length-requires c = (
+  c.requires.0,
+  record {
+    headed = c.requires.1;
+    few = c.vertex_count-v.ensures.1;
+    inside = lengths-inside c.args.rec.now
+        (sym c.offsets_disagree.ensures ∙ c.if-offsets_disagree.false)
+        c.vertex_count-v.ensures.0;
+  },
+)
 
 pub returns-then-rec-eq0 : goal.returns-then-rec-eq0
 returns-then-rec-eq0 c =

@@ -13,7 +13,7 @@ use Rattle.split_tests.proofs.all_one_out.Goals as goal
 pub returns-then-not-has_one : goal.returns-then-not-has_one
 returns-then-not-has_one c =
     sym
-    (all_of-no _ _ _ _ c.loop-i-test.true (sym c.Has-one.ensures ∙ c.if-not-has_one.true))
+    (all_of-no _ _ _ _ c.loop-i-test.true (sym c.has_one.ensures ∙ c.if-not-has_one.true))
 
 pub returns : goal.returns
 returns c = sym (all_of-yes _ _ _ (λ k h. c.loop-i.invariant.1 k (omega arith)))
