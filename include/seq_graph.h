@@ -1,5 +1,5 @@
 /*
- * The sequence graph's calls, from libsg.a (`rt staticlib sg` writes target/staticlib/libsg.a).
+ * The sequence graph's calls, from libsg.a (`tools/staticlib.sh` writes target/staticlib/libsg.a).
  *
  * A record is read from `record` and `length`. It has one of two forms, SGR1 or SGR2, named by its first four bytes; SGR2 has wider
  * fields and larger limits (docs/FORMAT.md has both, byte by byte). Every call takes both, and the record that a call writes has the form

@@ -15,6 +15,6 @@ for tool in cargo python3 rt; do
         exit 3
     fi
 done
-rt staticlib sg
+tools/staticlib.sh
 cargo build --quiet --release --offline --manifest-path oracle/Cargo.toml
 bench/records.py | "${CARGO_TARGET_DIR:-oracle/target}/release/bench" "$@"

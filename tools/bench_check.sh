@@ -3,7 +3,7 @@
 set -euo pipefail
 cd "$(dirname "$0")/.."
 
-rt staticlib sg >&2
+tools/staticlib.sh >&2
 mkdir -p target/bench
 gcc -std=c11 -O2 -Wall -Wextra -Werror -o target/bench/check bench/check.c target/staticlib/libsg.a
 target/bench/check

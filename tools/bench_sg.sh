@@ -21,7 +21,7 @@ for tool in cargo python3 rt; do
 done
 
 # What rt says is only told if it does not pass.
-if ! said=$(rt staticlib sg 2>&1); then
+if ! said=$(tools/staticlib.sh 2>&1); then
     echo "$said" >&2
     exit 1
 fi

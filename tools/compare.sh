@@ -23,7 +23,7 @@ for tool in cargo python3 ${calls:+rt}; do
 done
 
 if [ -n "$calls" ] && [ -z "${SG_BUILT:-}" ]; then
-    rt staticlib sg
+    tools/staticlib.sh
 fi
 cargo build --quiet --release --offline --manifest-path oracle/Cargo.toml
 echo "calls of our library:" ${calls:-none}

@@ -3,7 +3,7 @@
 
     tools/compare_bytes.py
 
-It needs target/bin/sgshow (`rt check sgshow` makes it), cargo and the Rust's sources.
+It needs target/bin/sgshow (tools/program.sh sgshow makes it), cargo and the Rust's sources.
 """
 import os
 import subprocess

@@ -5,7 +5,7 @@
                               docs/WORKING.md and the table in README.md are those of crates.txt
     tools/crates.py fix       write the lists, the drawing and the table as they have to be
     tools/crates.py draw      print the drawing
-    tools/crates.py count     print how many crates the library stands on, itself included: what `rt staticlib sg` proves
+    tools/crates.py below     print the crates that the library stands on, the lowest first, itself last: what tools/staticlib.sh proves
 
 A crate names another in `use` and `ghost use`, in a path of its code, or in a file of specs/ or proofs/; and who makes a struct or an
 enum, or takes an enum apart, needs the crates of the types that it holds, which the check has to name. In crates.txt a line
@@ -44,13 +44,17 @@ def read_list():
             elif ":" in text:
                 left, _, what = text.partition("#")
                 name, deps = left.split(":")
-                crates[name.strip()] = Line(name.strip(), deps.split(), what.strip(), floor, group)
+                name = name.split()[0]
+                crates[name] = Line(name, deps.split(), what.strip(), floor, group)
     return crates, floors
 
 
 def owners(text):
     """Type to crate, for the types that a Rattle file brings in."""
-    return {name: crate for crate, name in re.findall(r"(?m)^use (\w+)::(\w+);", text)}
+    found = {name: crate for crate, name in re.findall(r"(?m)^use (\w+)::(\w+);", text)}
+    for crate, names in re.findall(r"(?m)^use (\w+)::\{([^}]*)\};", text):
+        found.update((name.strip(), crate) for name in names.split(",") if name.strip())
+    return found
 
 
 def held_types():
@@ -87,7 +91,7 @@ def named_by(crate, crates):
                 found.update(HELD.get((owner.get(made, crate), made), ()))
         else:
             text = re.sub(r"(?m)(^|(?<=\s))--.*$", "", text)
-        found.update(re.findall(r"Rattle·(\w+)", text))
+        found.update(re.findall(r"Rattle\.(\w+)", text))
     found.discard(crate)
     return sorted(found & KIT) + [c for c in crates if c in found]
 
@@ -147,10 +151,11 @@ def fix(crates, floors):
     lines = []
     with open(LIST, encoding="utf-8") as f:
         for text in f.read().split("\n"):
-            name = text.split(":")[0]
+            head = text.split(":")[0]
+            name = head.split()[0] if head.split() else ""
             if name in crates and not text.startswith("#"):
                 deps = " ".join(named_by(name, crates))
-                text = "%s:%s  # %s" % (name, " " + deps if deps else "", crates[name].what)
+                text = "%s:%s  # %s" % (head, " " + deps if deps else "", crates[name].what)
             lines.append(text)
     with open(LIST, "w", encoding="utf-8") as f:
         f.write("\n".join(lines))
@@ -188,8 +193,9 @@ def main(verb):
         fix(crates, floors)
     elif verb == "draw":
         print(drawing(crates, floors), end="")
-    elif verb == "count":
-        print(len(below(crates, "sg")))
+    elif verb == "below":
+        found = below(crates, "sg_c")
+        print("\n".join(name for name in crates if name in found))
     else:
         sys.exit(__doc__)
 

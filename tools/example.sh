@@ -7,25 +7,21 @@
 set -euo pipefail
 cd "$(dirname "$0")/.."
 
-# Says which crate is proved, of how many; all that rt prints goes to the log.
-follow() { # COUNT
-    local line n=0
-    while IFS= read -r line; do
-        printf '%s\n' "$line" >>"$log"
-        if [[ $line =~ ^rt:\ ([a-z_]+)\ proved\ \((.*)\)$ ]]; then
-            n=$((n + 1))
-            printf 'proved %d of %d: %s (%s)\n' "$n" "$1" "${BASH_REMATCH[1]}" "${BASH_REMATCH[2]}" >&2
-        fi
-    done
-}
-
-# rt check proves several crates at a time, and more than there are cores: while it waits for the longest of a batch, the others have
-# the cores. What is proved rt staticlib does not prove again.
+# Proves the crates that the library stands on, the lowest first, telling which is proved, of how many; all that rt prints goes to the log.
 build() {
-    log=target/example.log
+    local log=target/example.log n=0 all name
     mkdir -p target
     : >"$log"
-    if ! { RT_JOBS=${RT_JOBS:-4} rt check sg 2>&1 | follow "$(tools/crates.py count)" && rt staticlib sg >>"$log" 2>&1; }; then
+    all=$(tools/crates.py below)
+    for name in $all; do
+        if ! (cd "crates/$name" && rt check) >>"$log" 2>&1; then
+            tail -20 "$log" >&2
+            exit 1
+        fi
+        n=$((n + 1))
+        printf 'proved %d of %d: %s\n' "$n" "$(wc -w <<<"$all")" "$name" >&2
+    done
+    if ! tools/staticlib.sh >>"$log" 2>&1; then
         tail -20 "$log" >&2
         exit 1
     fi

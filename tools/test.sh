@@ -6,9 +6,6 @@
 set -uo pipefail
 cd "$(dirname "$0")/.." || exit 1
 
-# More checks at once than cores: rt waits for the longest of a batch, and meanwhile the others have the cores. A check takes up to 1 GB.
-export RT_JOBS=${RT_JOBS:-4}
-
 # Runs a step and tells how long it took; if it does not pass, nothing more is run.
 step() { # NAME COMMAND..
     local name=$1 began=$SECONDS
@@ -20,14 +17,17 @@ step() { # NAME COMMAND..
     echo "$name: passed ($((SECONDS - began)) s)"
 }
 
-# rt ci, line by line as it comes, without its last line, which goes to the file $verdict.
+# rt ci, line by line as it comes, without its last line, which goes to the file $verdict. It does not pass where an edit is bad, which rt ci
+# lets pass.
 verdict=$(mktemp)
-trap 'rm -f "$verdict"' EXIT
+bad=$(mktemp)
+trap 'rm -f "$verdict" "$bad"' EXIT
 hold_back_last() {
     local line last
     IFS= read -r last || return 0
     while IFS= read -r line; do
         printf '%s\n' "$last"
+        [[ $last == 'rt: ok'* && $last =~ ,\ [1-9][0-9]*\ bad ]] && printf '%s\n' "$last" >"$bad"
         last=$line
     done
     printf '%s\n' "$last" >"$verdict"
@@ -35,6 +35,10 @@ hold_back_last() {
 prove() {
     rt ci | hold_back_last
     local status=$?
+    if [ -s "$bad" ]; then
+        echo 'rt ci found bad edits'
+        return 1
+    fi
     grep -Eqx '[0-9]+ passed, 0 failed' "$verdict" && return $status
     echo "rt ci ended with: $(cat "$verdict")"
     return 1
@@ -49,13 +53,17 @@ compare() {
     SG_BUILT=1 tools/compare.sh short && tools/compare_bytes.py && tools/make_vectors.py target/vectors && diff -r target/vectors crates/replay/data
 }
 
+test_sgshow() {
+    tools/program.sh sgshow && tools/test_sgshow.py
+}
+
 pinned=$(sed -n 's/^Kit: `\(.*\)`.*/\1/p' README.md)
 kit=$(rt version)
 [ "$kit" = "$pinned" ] || echo "note: this kit is '$kit'; the repository was proved with '$pinned'"
 
 step 'rt ci' prove
 step 'the library from C and Rust' tools/test_library.sh
-step sgshow tools/test_sgshow.py
+step sgshow test_sgshow
 step 'the command sg' tools/test_sg.py
 step 'what moved' tools/test_moved.py
 step layout tools/test_layout.py

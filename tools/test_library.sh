@@ -4,7 +4,7 @@
 set -eu
 cd "$(dirname "$0")/.."
 
-rt staticlib sg
+tools/staticlib.sh
 made=target/tests
 mkdir -p "$made"
 

@@ -3,7 +3,7 @@
 
     tools/test_sg.py [NAME..]
 
-runs the checks of tests/sg, or those of the names. It takes target/staticlib/libsg.a as it is (`rt staticlib sg`). Where cargo is
+runs the checks of tests/sg, or those of the names. It takes target/staticlib/libsg.a as it is (`tools/staticlib.sh`). Where cargo is
 not present, that is told and nothing is run.
 """
 import os

@@ -3,7 +3,7 @@
 
     tools/test_sgshow.py [PROGRAM [FOLDER]]
 
-PROGRAM is target/bin/sgshow (`rt check sgshow` makes it), FOLDER tests/sgshow: each NAME.in there is read, and NAME.out must be written.
+PROGRAM is target/bin/sgshow (tools/program.sh sgshow makes it), FOLDER tests/sgshow: each NAME.in there is read, and NAME.out must be written.
 """
 import os
 import resource

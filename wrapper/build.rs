@@ -1,4 +1,4 @@
-//! Links libsg.a: from `SG_LIBRARY`, or from where `rt staticlib sg` writes it.
+//! Links libsg.a: from `SG_LIBRARY`, or from where `tools/staticlib.sh` writes it.
 use std::env;
 use std::path::PathBuf;
 

@@ -1,5 +1,6 @@
-// The library for C: each public call under its C name, with the promise of the call itself and of the table of tallies. All but
-// `sg_vertex_sequence` are their core, which does the work, and then `tallies::count_call`. include/seq_graph.h declares them.
+// Each public call under its C name, with the promise of the call itself and of the table of tallies. All but `sg_vertex_sequence` are their
+// core, which does the work, and then `tallies::count_call`. `sg_c` exports them to C.
+#![tactic(auto)]
 ghost use Rattle.vertex_sequence.specs.Handed.{Placed};
 ghost use Rattle.sg.specs.OnTable.{ConvertsOn, SimplifiesOn, CleansOn, CleansPathsOn, TellsReferenceOn, TellsPathOn};
 
@@ -7,15 +8,13 @@ use calls::{Answer, CleanupAnswer, SimplifyAnswer};
 use tallies::Tallies;
 use vertex_sequence::SequencePlace;
 
-#[unsafe(no_mangle)]
-pub extern "C" fn sg_vertex_sequence(rec: &[u8], vertex: u32, number: &mut u32) -> SequencePlace
+pub fn sg_vertex_sequence(rec: &[u8], vertex: u32, number: &mut u32) -> SequencePlace
     ensures { Placed rec.now vertex number.new result }
 {
     vertex_sequence::vertex_sequence_place(rec, vertex, number)
 }
 
-#[unsafe(no_mangle)]
-pub extern "C" fn sg_from_assembly_graph(
+pub fn sg_from_assembly_graph(
     rec: &[u8],
     out: &mut [u8],
     caller: u32,
@@ -28,8 +27,7 @@ pub extern "C" fn sg_from_assembly_graph(
     r
 }
 
-#[unsafe(no_mangle)]
-pub extern "C" fn sg_simplify_graph(
+pub fn sg_simplify_graph(
     rec: &[u8],
     out: &mut [u8],
     caller: u32,
@@ -43,8 +41,7 @@ pub extern "C" fn sg_simplify_graph(
 }
 
 // The rewrites are counted and not answered.
-#[unsafe(no_mangle)]
-pub extern "C" fn sg_cleanup_seq_graph(
+pub fn sg_cleanup_seq_graph(
     rec: &[u8],
     out: &mut [u8],
     caller: u32,
@@ -57,8 +54,7 @@ pub extern "C" fn sg_cleanup_seq_graph(
     r.answer
 }
 
-#[unsafe(no_mangle)]
-pub extern "C" fn sg_clean_non_ref_paths(
+pub fn sg_clean_non_ref_paths(
     rec: &[u8],
     out: &mut [u8],
     caller: u32,
@@ -71,8 +67,7 @@ pub extern "C" fn sg_clean_non_ref_paths(
     r
 }
 
-#[unsafe(no_mangle)]
-pub extern "C" fn sg_reference_path_bytes(
+pub fn sg_reference_path_bytes(
     rec: &[u8],
     out: &mut [u8],
     caller: u32,
@@ -85,8 +80,7 @@ pub extern "C" fn sg_reference_path_bytes(
     r
 }
 
-#[unsafe(no_mangle)]
-pub extern "C" fn sg_path_bases_bytes(
+pub fn sg_path_bases_bytes(
     rec: &[u8],
     start: u32,
     edges: &[u32],

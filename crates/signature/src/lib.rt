@@ -1,4 +1,6 @@
 // The signature of a graph (`graph_topology_signature`): written over the previous one, with which it is compared on the way.
+#![tactic(auto)]
+
 ghost use Rattle.std.specs.Prelude.{◌≡◌, [], ◌∷◌, ℕ, ◌+◌, ◌*◌, ◌<◌, ◌≤◌, length, get_or};
 ghost use Rattle.defs.specs.Lists.{bit};
 ghost use Rattle.defs.specs.Record.{flag_is_ref};

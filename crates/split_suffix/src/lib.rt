@@ -1,4 +1,6 @@
 // The predecessors of a vertex are split by the suffix that they share, each into a suffix vertex and a prefix vertex (`try_split_common_suffix`).
+#![tactic(auto)]
+
 ghost use Rattle.std.specs.Prelude.{◌≡◌, ◌+◌, ◌*◌, ◌-◌, ◌<◌, get_or};
 ghost use Rattle.index.specs.Index.{Indexed};
 ghost use Rattle.memory.specs.Memory.{Room, Holds};

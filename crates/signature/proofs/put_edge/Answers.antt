@@ -1,0 +1,17 @@
+-- `signature::put_edge` meets its contract.
+use native.Mathlib.Omega.{arith}
+use mathlib.Core.Path.{◌∙◌}
+use Rattle.signature.proofs.SignLaws.{room-less, room-behind, over-then, edge-over}
+use Rattle.signature.proofs.put_edge.Goals as goal
+
+pub returns : goal.returns
+returns c =
+    edge-over
+    c.args.es.now
+    c.args.i
+    c.edge_from-from.ensures
+    c.end_and_flag-end.ensures
+    c.edge_support-support.ensures
+    c.put-a.ensures
+    c.put-b.ensures
+    c.put.ensures

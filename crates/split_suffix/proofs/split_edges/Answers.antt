@@ -1,0 +1,29 @@
+-- `split_suffix::split_edges` meets its contract.
+use native.Mathlib.Omega.{arith}
+use Prim.Native.Nat.{◌*◌}
+use Rattle.split_suffix.proofs.EdgeLoops.{block-link, block-redirectable, block-done}
+use borrow.Author.Rules.{rules}
+use Rattle.split_suffix.proofs.split_edges.Goals as goal
+
+pub link_suffix-j-requires : goal.link_suffix-j-requires
+link_suffix-j-requires c = block-link c.requires
+
+pub redirect_edges-requires : goal.redirect_edges-requires
+redirect_edges-requires c =
+    block-redirectable
+    c.requires
+    c.edge_support-s.ensures
+    c.edge_flag-f.ensures
+    c.link_suffix-j.ensures
+    c.entry_of-into.ensures
+    c.link_suffix-j.auto.es
+
+pub returns : goal.returns
+returns c =
+    block-done
+    c.requires
+    c.edge_support-s.ensures
+    c.edge_flag-f.ensures
+    c.link_suffix-j.ensures
+    c.entry_of-into.ensures
+    c.redirect_edges.ensures
