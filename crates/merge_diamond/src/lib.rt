@@ -1,5 +1,7 @@
 // Diamonds and tails (`try_merge_diamond`, `try_merge_tails`): tried at a vertex, and done where the followers share enough.
 // `nodes` and `map` are lent for the work; heads and nexts are the index of the graph given.
+#![tactic(auto)]
+
 ghost use Rattle.std.specs.Prelude.{◌≡◌, map, ◌+◌, ◌*◌, ◌<◌, length};
 ghost use Rattle.defs.specs.Lists.{head_or};
 ghost use Rattle.defs.specs.Rewrites.{try_merge_diamond, try_merge_tails};

@@ -1,5 +1,7 @@
 // Every linear chain becomes one vertex, all of them in one pass (`zip_linear_chains`). The chains are followed by the index of the graph
 // as it is given, so no edge moves before the last chain is found: `froms` holds for each vertex the one that its outgoing edges will leave.
+#![tactic(auto)]
+
 ghost use Rattle.std.specs.Prelude.{◌≡◌, ◌+◌, ◌*◌, ◌<◌, ◌≤◌, length, get_or, set};
 ghost use Rattle.store.specs.Store.{EndsBelow};
 ghost use Rattle.index.specs.Index.{Indexed};

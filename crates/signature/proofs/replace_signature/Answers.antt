@@ -17,19 +17,19 @@ put_edges-s-requires c =
 pub returns-then-at-old : goal.returns-then-at-old
 returns-then-at-old c =
     signed-other
-    (start e).pre
-    (at-put e).put.ensures
-    (at-put2 e).put2.ensures
-    (at-put-vertices e).put-vertices.ensures
+    c.requires
+    c.put-first.ensures
+    c.put-counts.ensures
+    c.put_vertices-vertices.ensures
     c.put_edges-s.ensures
     c.if-at-old.true
 
 pub returns : goal.returns
 returns c =
     signed_same
-    (start e).pre
-    (at-put e).put.ensures
-    (at-put2 e).put2.ensures
-    (at-put-vertices e).put-vertices.ensures
+    c.requires
+    c.put-first.ensures
+    c.put-counts.ensures
+    c.put_vertices-vertices.ensures
     c.put_edges-s.ensures
     c.if-at-old.false
