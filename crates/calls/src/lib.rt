@@ -1,5 +1,7 @@
 // What the public calls have in common: their result structs, and what is sent: the number of a refusal, or the record of a graph where it
 // fits.
+#![tactic(auto)]
+
 ghost use Rattle.std.specs.Prelude.{length};
 ghost use Rattle.defs.specs.Record.{sequence_graph, encode};
 ghost use Rattle.form.specs.Coded.{form_is};

@@ -1,4 +1,6 @@
 // What no walk along the edges reaches goes (`remove_vertices_not_connected_to_ref`, `remove_paths_not_connected_to_ref`).
+#![tactic(auto)]
+
 ghost use Rattle.std.specs.Prelude.{◌+◌, ◌<◌, ◌≤◌, length};
 ghost use Rattle.defs.specs.SeqGraph.{Graph};
 ghost use Rattle.defs.specs.Cleanup.{remove_vertices_not_connected_to_ref, remove_paths_not_connected_to_ref};

@@ -1,4 +1,6 @@
 // A single vertex gains an empty second one.
+#![tactic(auto)]
+
 ghost use Rattle.std.specs.Prelude.{◌≤◌, length};
 ghost use Rattle.dummy_vertex.specs.Dummy.{DummyAdded};
 

@@ -1,4 +1,6 @@
 // Lone vertices go (`remove_singleton_orphan_vertices`), and so do vertices that are marked.
+#![tactic(auto)]
+
 ghost use Rattle.std.specs.Prelude.{◌+◌, ◌<◌, ◌≤◌, length};
 ghost use Rattle.defs.specs.SeqGraph.{Graph, compact_vertices};
 ghost use Rattle.defs.specs.Cleanup.{remove_singleton_orphan_vertices};

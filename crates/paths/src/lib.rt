@@ -1,4 +1,6 @@
 // Paths: whether a list of edges is one, and the bytes that it spells (`path_bases_bytes`).
+#![tactic(auto)]
+
 ghost use Rattle.std.specs.Prelude.{◌≡◌, ◌&&◌, ℕ, ◌+◌, ◌*◌, ◌<◌, ◌≤◌, length, get_or, eqb};
 ghost use Rattle.defs.specs.Lists.{any_of};
 ghost use Rattle.defs.specs.SeqGraph.{has_ends};

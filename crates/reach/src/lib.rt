@@ -1,5 +1,7 @@
 // Walks along the edges: the vertices that are reached from one get a mark. The queue holds those found, each once, in the order in which
 // they were found; the vertices before `h` have been left along all their edges.
+#![tactic(auto)]
+
 ghost use Rattle.std.specs.Prelude.{◌≡◌, ◌+◌, ◌*◌, ◌<◌, ◌≤◌, length};
 ghost use Rattle.index.specs.Index.{Indexed};
 ghost use Rattle.reach.specs.Reach.{takes_end, passable, Walkable, QueueFound, Pushed, VertexLeft, Reached};

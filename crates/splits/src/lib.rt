@@ -1,4 +1,6 @@
 // Splits: each vertex is tried once in a round; the marks of tried vertices follow their vertices through a rewrite.
+#![tactic(auto)]
+
 ghost use Rattle.std.specs.Prelude.{◌≡◌, ℕ, ◌+◌, ◌*◌, ◌<◌, ◌≤◌, length, get_or};
 ghost use Rattle.memory.specs.Memory.{graph_of, vertex_room, Ready, Counted};
 ghost use Rattle.splits.specs.Splits.{Movable, MarksMoved, Remarked, SplitFirst, SplitAll};

@@ -1,4 +1,6 @@
 // A rewrite at the first vertex that allows it, and until no vertex allows it.
+#![tactic(auto)]
+
 ghost use Rattle.std.specs.Prelude.{◌≡◌, true, ℕ, ◌+◌, ◌*◌, ◌<◌, ◌≤◌, length};
 ghost use Rattle.defs.specs.SeqGraph.{node_count};
 ghost use Rattle.defs.specs.Simplify.{RewriteKind, rewrite_kind_number, first_at};

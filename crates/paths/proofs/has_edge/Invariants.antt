@@ -1,0 +1,14 @@
+-- What each turn of the loop keeps.
+use native.Mathlib.Omega.{arith}
+use mathlib.Core.Path.{◌∙◌}
+use Prim.Native.Nat.{◌*◌, ◌-◌}
+use Rattle.index.specs.Index.{edge_end}
+use Rattle.refs.proofs.RefLaws.{SeekingReference, seeking-start, seeking-more, seeking-found, seeking-end}
+use Rattle.paths.proofs.StepLaws.{enters_at, any-ends, out-index, enters-yes, enters-no}
+use Rattle.paths.proofs.has_edge.Given as goal
+
+abbrev pub invariant-loop-e : goal.invariant-loop-e
+invariant-loop-e l = SeekingReference (edge_end 0 l.es) l.m l.u (enters_at l.es l.v) l.e
+
+abbrev pub decreases-loop-e : goal.decreases-loop-e
+decreases-loop-e l = l.m - l.e
