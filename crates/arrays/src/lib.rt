@@ -1,6 +1,7 @@
 // How long the arrays are that a call has on its stack, by the class of its record, and that this is enough: sizes and laws, no function. A record
 // is small if it is short, or if its counts are; the vast arrays are enough for every record. Each class has its own function, so that a record takes
 // the stack of its own class alone. No record that begins otherwise than SGR2 takes more than the large arrays, whatever its counts say.
+#![tactic(auto)]
 
 // Of a record this short every array of the small class is long enough, whatever its counts say: 32 bytes at least are its head, two at least stand for
 // each vertex and nine for each edge.

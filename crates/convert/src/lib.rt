@@ -1,5 +1,7 @@
 // The conversion of a k-mer graph (`from_assembly_graph`): a vertex without incoming edges keeps its k-mer, another its last byte; the
 // edges are sorted by the k-mer of from, then of to.
+#![tactic(auto)]
+
 ghost use Rattle.std.specs.Prelude.{◌≡◌, ℕ, ◌+◌, ◌*◌, ◌<◌, ◌≤◌, length, get_or};
 ghost use Rattle.index.specs.Index.{Indexed};
 ghost use Rattle.defs.specs.Lists.{tab};

@@ -1,5 +1,7 @@
 // Edges that are not reference edges and lead to the reference source, or away from the reference sink, go; then the orphans
 // (`clean_non_ref_paths`).
+#![tactic(auto)]
+
 ghost use Rattle.std.specs.Prelude.{◌≡◌, ◌+◌, ◌*◌, ◌<◌, ◌≤◌, length, get_or};
 ghost use Rattle.defs.specs.SeqGraph.{Graph};
 ghost use Rattle.defs.specs.Cleanup.{without_non_ref_edges, clean_non_ref_paths, remove_singleton_orphan_vertices};

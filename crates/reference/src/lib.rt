@@ -1,5 +1,7 @@
 // The reference path: from the reference source along the first reference edge, or the first edge where none is one, to the reference
 // sink; and the bytes that it spells (`reference_path_bytes`).
+#![tactic(auto)]
+
 ghost use Rattle.std.specs.Prelude.{◌≡◌, ℕ, ◌+◌, ◌*◌, ◌<◌, ◌≤◌, length, get_or};
 ghost use Rattle.defs.specs.Paths.{reference_path_bytes};
 ghost use Rattle.index.specs.Index.{Indexed};
