@@ -1,4 +1,6 @@
 // Whether the k-mers of each edge follow one another, which conversion asks: refusal 15. The record's bytes are compared where they stand.
+#![tactic(auto)]
+
 ghost use Rattle.std.specs.Prelude.{◌≡◌, ◌<◌};
 ghost use Rattle.defs.specs.Forms.{form_of};
 ghost use Rattle.defs.specs.Record.{edges_of, bytes_at, vertices_of, edge_at, decode};

@@ -1,4 +1,6 @@
 // A vertex's sequence, as the part of the record's bytes that holds it.
+#![tactic(auto)]
+
 ghost use Rattle.std.specs.Prelude.{◌≡◌, ◌<◌};
 ghost use Rattle.defs.specs.Record.{vertices_of, sequence_start};
 ghost use Rattle.record.specs.Layout.{WellFormed};

@@ -82,7 +82,7 @@ fn is_letter(b: u8) -> bool
     ensures { result ≡ is_letter b }
 {
     match b {
-        b'_a'..=b'_z' | b'a'..=b'z' => true,
+        b'A'..=b'Z' | b'a'..=b'z' => true,
         _ => false,
     }
 }

@@ -9,4 +9,5 @@ use Rattle.sg.proofs.sg_clean_non_ref_paths.Goals as goal
 pub returns : goal.returns
 returns c =
     call-meets answer-kind CleansPaths CleansPathsOn (λ rec out c d out' h h' p R. (p, cleans-paths-raises p R))
-    c.args.rec.now c.args.out.now c.args.caller c.clean_non_ref_paths-r.result c.clean_non_ref_paths-r.new.out c.args.table.now c.count_call.new.table c.clean_non_ref_paths-r.ensures c.count_call.ensures
+    c.args.rec.now c.args.out.now c.args.caller c.clean_non_ref_paths-r.result c.clean_non_ref_paths-r.new.out
+    c.args.table.now c.count_call.new.table c.clean_non_ref_paths-r.ensures c.count_call.ensures

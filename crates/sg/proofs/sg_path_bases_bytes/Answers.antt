@@ -10,6 +10,7 @@ use Rattle.sg.proofs.sg_path_bases_bytes.Goals as goal
 
 pub returns : goal.returns
 returns c =
-    call-meets answer-kind (λ rec start edges out c. TellsBytes rec (path_bases_bytes_response rec start edges (length out) c) out) TellsPathOn 
+    call-meets answer-kind (λ rec start edges out c. TellsBytes rec (path_bases_bytes_response rec start edges (length out) c) out) TellsPathOn
     (λ rec start edges out c d out' h h' p R. (p, path-raises rec start edges p R))
-    c.args.rec.now c.args.start c.args.edges.now c.args.out.now c.args.caller c.path_bases_bytes-r.result c.path_bases_bytes-r.new.out c.args.table.now c.count_call.new.table c.path_bases_bytes-r.ensures c.count_call.ensures
+    c.args.rec.now c.args.start c.args.edges.now c.args.out.now c.args.caller c.path_bases_bytes-r.result c.path_bases_bytes-r.new.out
+    c.args.table.now c.count_call.new.table c.path_bases_bytes-r.ensures c.count_call.ensures

@@ -10,6 +10,7 @@ use Rattle.sg.proofs.sg_reference_path_bytes.Goals as goal
 
 pub returns : goal.returns
 returns c =
-    call-meets answer-kind (λ rec out c. TellsBytes rec (reference_path_bytes_response rec (length out) c) out) TellsReferenceOn 
+    call-meets answer-kind (λ rec out c. TellsBytes rec (reference_path_bytes_response rec (length out) c) out) TellsReferenceOn
     (λ rec out c d out' h h' p R. (p, reference-raises rec p R))
-    c.args.rec.now c.args.out.now c.args.caller c.reference_path_bytes-r.result c.reference_path_bytes-r.new.out c.args.table.now c.count_call.new.table c.reference_path_bytes-r.ensures c.count_call.ensures
+    c.args.rec.now c.args.out.now c.args.caller c.reference_path_bytes-r.result c.reference_path_bytes-r.new.out
+    c.args.table.now c.count_call.new.table c.reference_path_bytes-r.ensures c.count_call.ensures

@@ -9,4 +9,5 @@ use Rattle.sg.proofs.sg_simplify_graph.Goals as goal
 pub returns : goal.returns
 returns c =
     call-meets simplify-answer-kind Simplifies SimplifiesOn (λ rec out c d out' h h' p R. (p, simplifies-raises p R))
-    c.args.rec.now c.args.out.now c.args.caller c.simplify_graph-r.result c.simplify_graph-r.new.out c.args.table.now c.count_call.new.table c.simplify_graph-r.ensures c.count_call.ensures
+    c.args.rec.now c.args.out.now c.args.caller c.simplify_graph-r.result c.simplify_graph-r.new.out
+    c.args.table.now c.count_call.new.table c.simplify_graph-r.ensures c.count_call.ensures
