@@ -13,8 +13,9 @@ import sys
 ROOT = sys.argv[1] if len(sys.argv) > 1 else os.path.dirname(os.path.dirname(os.path.abspath(__file__)))
 # a name: letters, digits, underscores, primes and subscripts, joined by dashes
 NAME = re.compile(r"[A-Za-z_][\w'₀-₉ᵈ]*(?:-[\w'₀-₉ᵈ]+)*")
-# a character of the source, which is no name
-LITERAL = re.compile(r"b?'(?:\\.|[^'\\])'")
+# texts, and in the source also characters, are no names
+TEXT = r'"(?:\\.|[^"\\\n])*"'
+CHARACTER = r"b?'(?:\\.|[^'\\])'"
 # laws whose names fall together with a definition's
 LAWS = {"only_out": "only_out_lem", "read_number": "read_number_lem", "whole_length": "whole_length_lem"}
 PAPERS = ("README.md", "bench/README.md", "oracle/README.md")
@@ -72,14 +73,12 @@ def main():
 
         def turn(m):
             name = m.group(0)
-            if name in laws and text[m.start() - 1:m.start()] != ".":
+            if name in laws and m.string[m.start() - 1:m.start()] != ".":
                 return laws[name]
             return table.get(name, name)
-        if path.endswith(".rt"):
-            parts = re.split("(%s)" % LITERAL.pattern, text)
-            new = "".join(s if i % 2 else NAME.sub(lambda m: table.get(m.group(0), m.group(0)), s) for i, s in enumerate(parts))
-        else:
-            new = NAME.sub(turn, text)
+        literal = TEXT if path.endswith(".antt") else TEXT + "|" + CHARACTER if path.endswith(".rt") else None
+        parts = re.split("(%s)" % literal, text) if literal else [text]
+        new = "".join(s if i % 2 else NAME.sub(turn, s) for i, s in enumerate(parts))
         if new != text:
             with open(path, "w", encoding="utf-8") as f:
                 f.write(new)

@@ -1,5 +1,7 @@
 // The graph of the choice: what the first four steps of `cleanup_seq_graph` make of a graph. Zip, orphans, what is not connected to the
 // reference, simplification.
+#![tactic(auto)]
+
 ghost use Rattle.std.specs.Prelude.{◌+◌, ◌<◌};
 ghost use Rattle.defs.specs.SeqGraph.{Graph};
 ghost use Rattle.defs.specs.Cleanup.{remove_singleton_orphan_vertices, remove_vertices_not_connected_to_ref};

@@ -1,4 +1,6 @@
 // The conversion of a k-mer graph that was read of a record (`from_assembly_graph`): 8, or the sequence graph in the slices.
+#![tactic(auto)]
+
 ghost use Rattle.form.specs.Coded.{form_is};
 ghost use Rattle.from_kmers.specs.Conversion.{ConvertibleKmers, KmersConverted};
 

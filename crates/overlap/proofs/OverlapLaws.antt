@@ -68,3 +68,13 @@ module _ {bs : List ℕ} {k : KmerSize} (R : KmerRecord bs k) where
   pub without_is : edge_without_overlap (decode bs) ≡ any_of (λ (i : ℕ). not (overlaps (decode bs) (edge_at bs i))) (up_from 0 (edges_of bs))
   unfolding edge_without_overlap decode
   without_is = any-tab (λ (e : Edge). not (overlaps (decode bs) e)) (edges_of bs) (edge_at bs)
+
+-- edge i of the record has no overlap
+abbrev pub apart : List ℕ → ℕ → Bool
+apart rec i = not (overlaps (decode rec) (edge_at rec i))
+
+-- what the search over the edges gives when it ends with r at turn i
+pub apart-found : {bs : List ℕ} {k : KmerSize} → KmerRecord bs k → (e i : ℕ) {r : Bool} → e ≡ edges_of bs
+    → any_of (apart bs) (up_from i (e - i)) ≡ any_of (apart bs) (up_from 0 e) → any_of (apart bs) (up_from i (e - i)) ≡ r
+    → r ≡ edge_without_overlap (decode bs)
+apart-found {bs} R e i is same q = sym q ∙ same ∙ ap (λ (n : ℕ). any_of (apart bs) (up_from 0 n)) is ∙ sym (without_is R)

@@ -1,4 +1,6 @@
 // Rounds of simplification (`simplify_graph_full`).
+#![tactic(auto)]
+
 ghost use Rattle.std.specs.Prelude.{◌≡◌, ℕ, ◌+◌, ◌*◌, ◌<◌, ◌≤◌, length};
 ghost use Rattle.memory.specs.Memory.{graph_of, signature_room, Room, Holds, Ready, Scratch, Countable, Simplifiable};
 ghost use Rattle.rounds.specs.Rounds.{ended, Once, Whole, Full};

@@ -43,7 +43,7 @@ difference a b p q = rw (to_z-of_z (sub-fits a b p q), to_z_pos w32 (small p), t
 
 -- a number of that size is the one that 32 bits hold
 pub word_of : {z : ℤ} → mag z < 65536 → to_z w32 (of_z w32 z) ≡ z
-word_of {z} h = to_z-of_z record { sfits = omega arith }
+word_of {z} h = to_z-of_z {w = w32} record { sfits = omega arith }
 
 -- ---- a number with its sign
 

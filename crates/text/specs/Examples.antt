@@ -57,7 +57,7 @@ texts =
     lines (
     "k 128 vertices 2 edges 0 bytes 10 surplus -2" ∷
     "rewrites 0 rounds 1 end quiet" ∷
-    "v 0 \\x00\\x40_az\\x5b\\x60az\\x7b\\xff" ∷
+    "v 0 \\x00\\x40AZ\\x5b\\x60az\\x7b\\xff" ∷
     "v 1 ." ∷
     []) ∷
     lines (

@@ -4,13 +4,7 @@ use mathlib.Core.Path.{◌≡◌, sym, ap, ◌∙◌}
 use mathlib.Core.Bool.{Bool, not}
 use mathlib.Core.List.{List}
 use Rattle.defs.specs.Lists.{any_of, up_from}
-use Rattle.defs.specs.Record.{edge_at, decode}
-use Rattle.defs.specs.Assembly.{overlaps}
-use Rattle.defs.specs.Refusals.{edge_without_overlap}
-use Rattle.record.proofs.TurnLaws.{any-start, any-turn, any_found, any_none}
-use Rattle.overlap.proofs.OverlapLaws.{without_is}
-use Rattle.record.proofs.Fields.{bytes-at-read}
-use Rattle.record.proofs.Sequences.{formed-headed}
+use Rattle.overlap.proofs.OverlapLaws.{apart}
 use native.Mathlib.Omega.{arith}
 use borrow.Author.Rules.{rules}
 use Rattle.overlap.proofs.edge_without_overlap.Given as goal

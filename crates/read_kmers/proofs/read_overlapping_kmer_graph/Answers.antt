@@ -1,0 +1,54 @@
+-- `read_kmers::read_overlapping_kmer_graph` meets its contract.
+use Rattle.read_kmers.proofs.KmerLaws.{
+  overlapping-refused,
+  kmer-record,
+  cycle-checkable,
+  read-15,
+  read-7,
+  read_whole,
+}
+use borrow.Author.Rules.{rules}
+use Rattle.read_kmers.proofs.read_overlapping_kmer_graph.Goals as goal
+
+pub returns-in-Refused : goal.returns-in-Refused
+returns-in-Refused c = overlapping-refused c.read_kmer_graph.ensures c.in-Refused.is
+
+pub edge_without_overlap-requires : goal.edge_without_overlap-requires
+edge_without_overlap-requires c =
+    kmer-record c.read_kmer_graph.ensures c.in-Graph.is
+
+pub returns-then-edge_without_overlap : goal.returns-then-edge_without_overlap
+returns-then-edge_without_overlap c =
+    read-15
+    c.read_kmer_graph.ensures
+    c.in-Graph.is
+    c.edge_without_overlap.ensures
+    c.if-edge_without_overlap.true
+
+pub has_cycle-requires : goal.has_cycle-requires
+has_cycle-requires c =
+    cycle-checkable
+    c.read_kmer_graph.ensures
+    c.in-Graph.is
+    c.requires
+    c.read_kmer_graph.auto.scratch
+
+pub returns-then-has_cycle : goal.returns-then-has_cycle
+returns-then-has_cycle c =
+    read-7
+    c.read_kmer_graph.ensures
+    c.in-Graph.is
+    c.edge_without_overlap.ensures
+    c.if-edge_without_overlap.false
+    c.has_cycle.ensures
+    c.if-has_cycle.true
+
+pub returns : goal.returns
+returns c =
+    read_whole
+    c.read_kmer_graph.ensures
+    c.in-Graph.is
+    c.edge_without_overlap.ensures
+    c.if-edge_without_overlap.false
+    c.has_cycle.ensures
+    c.if-has_cycle.false
