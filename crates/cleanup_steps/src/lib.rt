@@ -1,5 +1,7 @@
 // Cleanup (`cleanup_seq_graph`): the graph of the choice, and of it what lies on a path from the first reference source to the first
 // reference sink, simplified.
+#![tactic(auto)]
+
 ghost use Rattle.std.specs.Prelude.{◌≡◌, ◌+◌, ◌<◌};
 ghost use Rattle.std.proofs.Math.Option.{some};
 ghost use Rattle.defs.specs.Cleanup.{reference_source_vertex, reference_sink_vertex};

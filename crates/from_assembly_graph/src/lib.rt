@@ -1,4 +1,6 @@
 // The public call `from_assembly_graph`: a k-mer record's graph as a sequence graph's record of the same form. Nothing is asked of the caller.
+#![tactic(auto)]
+
 ghost use Rattle.std.specs.Prelude.{◌≡◌, length};
 ghost use Rattle.defs.specs.Forms.{form_of};
 ghost use Rattle.defs.specs.Record.{vertices_of, edges_of};

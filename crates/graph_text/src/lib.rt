@@ -1,4 +1,6 @@
 // The lines of a printed graph, from the slices.
+#![tactic(auto)]
+
 ghost use Rattle.std.specs.Prelude.{cond, ◌++◌, ◌+◌, ◌*◌, ◌<◌, ◌≤◌, length};
 ghost use Rattle.defs.specs.Lists.{concat, tab};
 ghost use Rattle.store.specs.Store.{edge_in, seq_in};

@@ -56,14 +56,7 @@ pub const BEFORE: u8 = 165;
 
 // Every byte is as it was before the call.
 fn untouched(out: &[u8]) -> bool {
-    let mut i = 0;
-    while i < out.len() {
-        if out[i] != BEFORE {
-            return false;
-        }
-        i += 1;
-    }
-    true
+    out.iter().all(|x| *x == BEFORE)
 }
 
 pub fn same_output(out: &[u8], expected: &[u8]) -> bool {

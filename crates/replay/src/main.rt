@@ -1,25 +1,22 @@
 // Replays the stored cases of each call of the library and prints how many there are. data/ has a file for each call;
 // tools/make_vectors.py writes them and sets out their layout.
+#![tactic(auto)]
+
 mod expected;
 mod run;
 mod table;
 
-use libc::STDOUT_FILENO;
 use run::{Outcome, replay};
+use std::fs::File;
+use std::io;
+use std::io::Read;
+use std::rt::Files;
 
 #[derive(Clone, Copy)]
 pub struct Counts {
     pub cases: u32,
     pub refused: u32,
     pub differ: u32,
-}
-
-// Reads n bytes to the start of buf; false where it or the file has fewer.
-fn read_part(fd: i32, buf: &mut [u8], n: usize) -> bool {
-    if n <= buf.len() {
-        return io::read_full(fd, &mut buf[0..n]) == n;
-    }
-    false
 }
 
 fn replay_part(buf: &[u8], n: usize) -> Outcome {
@@ -29,25 +26,21 @@ fn replay_part(buf: &[u8], n: usize) -> Outcome {
     Outcome::Differs
 }
 
-// Reads one case and replays it. A case that is cut short differs.
-fn one_case(fd: i32) -> Outcome {
-    let mut head = [0u8; 4];
-    let got = io::read_full(fd, &mut head);
-    if got == 0 {
-        return Outcome::End;
+// Replays the case at the front, and says what stands behind it. A case that is cut short differs.
+fn one_case(file: &[u8]) -> (Outcome, &[u8]) {
+    if file.is_empty() {
+        return (Outcome::End, file);
     }
-    let n = le::u32_at(&head, 0) as usize;
-    let mut buf = io::large_buffer();
-    if read_part(fd, &mut buf, n) {
-        return replay_part(&buf, n);
+    if file.len() < 4 {
+        return (Outcome::Differs, &[]);
     }
-    Outcome::Differs
+    let n = le::u32_at(file, 0) as usize;
+    let rest = &file[4..];
+    (replay_part(rest, n), rest.get(n..).unwrap_or(&[]))
 }
 
-fn report(n: u32) {
-    io::write_all(STDOUT_FILENO, b"case ");
-    io::print_decimal(STDOUT_FILENO, n as u64);
-    io::write_all(STDOUT_FILENO, b" differs\n");
+fn report(rt: &impl Print, n: u32) -> io::Result<()> {
+    println!(rt; "case {n} differs")
 }
 
 fn counted(c: Counts, refused: u32, differ: u32) -> Counts {
@@ -58,15 +51,15 @@ fn counted(c: Counts, refused: u32, differ: u32) -> Counts {
     }
 }
 
-fn count(c: Counts, outcome: Outcome) -> Counts {
+fn count(rt: &impl Print, c: Counts, outcome: Outcome) -> io::Result<Counts> {
     match outcome {
-        Outcome::Answered => counted(c, 0, 0),
-        Outcome::Refused => counted(c, 1, 0),
+        Outcome::Answered => Ok(counted(c, 0, 0)),
+        Outcome::Refused => Ok(counted(c, 1, 0)),
         Outcome::Differs => {
-            report(c.cases);
-            counted(c, 0, 1)
+            report(rt, c.cases)?;
+            Ok(counted(c, 0, 1))
         }
-        Outcome::End => c,
+        Outcome::End => Ok(c),
     }
 }
 
@@ -77,23 +70,26 @@ fn is_end(outcome: Outcome) -> bool {
     }
 }
 
-// The cases of one file; it counts down from more than a file has.
-fn all_cases(fd: i32) -> Counts {
+// More cases than a file has.
+const CASES_MOST: u32 = 1000000;
+
+// The cases of one file.
+fn all_cases(rt: &impl Print, file: &[u8]) -> io::Result<Counts> {
     let mut c = Counts {
         cases: 0,
         refused: 0,
         differ: 0,
     };
-    let mut left: u32 = 1000000;
-    while 0 < left {
-        let outcome = one_case(fd);
+    let mut left = file;
+    for _ in 0..CASES_MOST {
+        let (outcome, rest) = one_case(left);
         if is_end(outcome) {
-            return c;
+            return Ok(c);
         }
-        c = count(c, outcome);
-        left -= 1;
+        c = count(rt, c, outcome)?;
+        left = rest;
     }
-    c
+    Ok(c)
 }
 
 fn add(c: Counts, d: Counts) -> Counts {
@@ -104,42 +100,54 @@ fn add(c: Counts, d: Counts) -> Counts {
     }
 }
 
-fn print_count(n: u32, what: &[u8]) {
-    io::print_decimal(STDOUT_FILENO, n as u64);
-    io::write_all(STDOUT_FILENO, what);
+fn print_count(rt: &impl Print, n: u32, what: &str) -> io::Result<()> {
+    print!(rt; "{n}{what}")
 }
 
 // Replays one file; a file that is missing has no case.
-fn replay_file(path: &[u8], name: &[u8], before: Counts) -> Counts {
-    let fd = os::open_read(path);
-    if fd < 0 {
-        os::fail(path);
-        return before;
-    }
-    let here = all_cases(fd);
-    libc::close(fd);
-    print_count(here.cases, name);
-    add(before, here)
+fn replay_file(
+    rt: &(impl Files + Alloc + Print + Eprint),
+    path: &str,
+    name: &str,
+    before: Counts,
+) -> io::Result<Counts> {
+    let mut file = match File::open(rt, path) {
+        Ok(file) => file,
+        Err(e) => {
+            eprintln!(rt; "{path}: {e}")?;
+            return Ok(before);
+        }
+    };
+    let mut bytes = Vec::new(rt.alloc());
+    file.read_to_end(&mut bytes)?;
+    let here = all_cases(rt, &bytes)?;
+    print_count(rt, here.cases, name)?;
+    Ok(add(before, here))
 }
 
-fn print_sum(c: Counts) {
-    print_count(c.cases, b" cases, ");
-    print_count(c.refused, b" refused, ");
-    print_count(c.differ, b" differ\n");
+fn print_sum(rt: &impl Print, c: Counts) -> io::Result<()> {
+    print_count(rt, c.cases, " cases, ")?;
+    print_count(rt, c.refused, " refused, ")?;
+    print_count(rt, c.differ, " differ\n")
 }
 
-fn main() {
+fn main(rt: HostRuntime) -> io::Result<()> {
     let none = Counts {
         cases: 0,
         refused: 0,
         differ: 0,
     };
-    let c0 = replay_file(b"vertex_sequence.bin", b" vertex_sequence, ", none);
-    let c1 = replay_file(b"from_assembly_graph.bin", b" from_assembly_graph, ", c0);
-    let c2 = replay_file(b"simplify_graph.bin", b" simplify_graph, ", c1);
-    let c3 = replay_file(b"cleanup_seq_graph.bin", b" cleanup_seq_graph, ", c2);
-    let c4 = replay_file(b"clean_non_ref_paths.bin", b" clean_non_ref_paths, ", c3);
-    let c5 = replay_file(b"reference_path_bytes.bin", b" reference_path_bytes, ", c4);
-    let c6 = replay_file(b"path_bases_bytes.bin", b" path_bases_bytes; ", c5);
-    print_sum(c6);
+    let c0 = replay_file(&rt, "vertex_sequence.bin", " vertex_sequence, ", none)?;
+    let c1 = replay_file(&rt, "from_assembly_graph.bin", " from_assembly_graph, ", c0)?;
+    let c2 = replay_file(&rt, "simplify_graph.bin", " simplify_graph, ", c1)?;
+    let c3 = replay_file(&rt, "cleanup_seq_graph.bin", " cleanup_seq_graph, ", c2)?;
+    let c4 = replay_file(&rt, "clean_non_ref_paths.bin", " clean_non_ref_paths, ", c3)?;
+    let c5 = replay_file(
+        &rt,
+        "reference_path_bytes.bin",
+        " reference_path_bytes, ",
+        c4,
+    )?;
+    let c6 = replay_file(&rt, "path_bases_bytes.bin", " path_bases_bytes; ", c5)?;
+    print_sum(&rt, c6)
 }

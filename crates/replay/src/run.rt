@@ -154,15 +154,8 @@ fn run_in(case: &[u8], rec: &[u8], list: &[u32], expected: &[u8], out: &mut [u8]
 
 // The numbers of four bytes each, as many as the list has room for.
 fn read_list(bytes: &[u8], list: &mut [u32]) {
-    let mut at = 0;
-    let mut i = 0;
-    while 4 <= bytes.len() - at {
-        if i >= list.len() {
-            return;
-        }
-        list[i] = le::u32_at(bytes, at);
-        at += 4;
-        i += 1;
+    for (place, word) in list.iter_mut().zip(bytes.chunks_exact(4)) {
+        *place = le::u32_at(word, 0);
     }
 }
 

@@ -41,14 +41,12 @@ fn table_with(caller: u32, own: Tally) -> Tallies {
     let mut t = Tallies {
         callers: [none; 16],
     };
-    let mut i: u32 = 0;
-    while i < 16 {
+    for i in 0..16 {
         let mut x = own;
         if i != caller {
             x = other_tally(i);
         }
         t.callers[i as usize] = x;
-        i += 1;
     }
     t
 }
@@ -64,14 +62,12 @@ fn same_tally(a: Tally, b: Tally) -> bool {
 }
 
 fn same_tallies(t: Tallies, u: Tallies) -> bool {
-    let mut i = 0;
-    while i < 16 {
+    for i in 0..16 {
         let a = t.callers[i];
         let b = u.callers[i];
         if !same_tally(a, b) {
             return false;
         }
-        i += 1;
     }
     true
 }

@@ -1,4 +1,6 @@
 // A vertex's sequence of a record of either kind, as the part of the record's bytes that holds it. Nothing is asked of the caller.
+#![tactic(auto)]
+
 ghost use Rattle.std.specs.Prelude.{◌≡◌, ◌&&◌, ◌||◌};
 ghost use Rattle.defs.specs.Forms.{form_of};
 ghost use Rattle.defs.specs.Record.{vertices_of, edges_of};
