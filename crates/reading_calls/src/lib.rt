@@ -1,5 +1,7 @@
 // The calls that read a graph and do not rewrite it, from record to record or to bytes: what they have in common is said once, over which of
 // them it is. First in slices, then in arrays of three classes, which a call has on its stack. The sequences are read in the record itself.
+#![tactic(auto)]
+
 ghost use Rattle.std.specs.Prelude.{◌≡◌, ℕ, ◌<◌, length};
 ghost use Rattle.defs.specs.Forms.{form_of};
 ghost use Rattle.defs.specs.Record.{vertices_of, edges_of};

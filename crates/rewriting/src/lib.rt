@@ -1,5 +1,7 @@
 // The calls that rewrite a graph: a record is read and held, and its graph simplified or cleaned, in slices. What the two calls have in common
 // is said once, over which of them it is.
+#![tactic(auto)]
+
 ghost use Rattle.std.specs.Prelude.{◌≡◌};
 ghost use Rattle.defs.specs.Cleanup.{status_number};
 ghost use Rattle.arrays.specs.Sized.{LentGraph};
