@@ -1,5 +1,7 @@
 // clean_non_ref_paths: a record in, out the record of its graph without the paths to the reference source and from the reference sink
 // that are no reference paths. Nothing is asked of the caller.
+#![tactic(auto)]
+
 ghost use Rattle.clean_non_ref_paths.specs.CleansPaths.{CleansPaths};
 
 use calls::Answer;

@@ -1,5 +1,7 @@
 // The calls that rewrite a graph, from record to record: what both do is said once, over which of them it is. First in slices, then in arrays
 // of five classes, which a call has on its stack.
+#![tactic(auto)]
+
 ghost use Rattle.std.specs.Prelude.{◌≡◌};
 ghost use Rattle.defs.specs.Forms.{sgr2, form_of};
 ghost use Rattle.form.specs.Coded.{form_is};

@@ -1,4 +1,6 @@
 // The string calls: the bytes of the reference path, and of a path along a list of edges. Nothing is asked of the caller.
+#![tactic(auto)]
+
 ghost use Rattle.std.specs.Prelude.{length};
 ghost use Rattle.defs.specs.Calls.{reference_path_bytes_response, path_bases_bytes_response};
 ghost use Rattle.string_calls.specs.TellsBytes.{TellsBytes};
