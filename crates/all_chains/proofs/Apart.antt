@@ -22,7 +22,7 @@ use Rattle.laws.proofs.Sound.{Sound}
 use Rattle.laws.proofs.ZipLaws as Z
 use Rattle.laws.proofs.ZipLaws.{Chained}
 use Rattle.all_chains.proofs.Closing.{same_test, keep_if-through, any_of-through}
-use Rattle.all_chains.proofs.Traces.{next_in_chain, WholeChain, ChainStep, first_out, step_of, step-no-start}
+use Rattle.all_chains.proofs.Traces.{next_in_chain, WholeChain, ChainStep, first_out, step_of_lem, step-no-start}
 
 -- the tests of starts and of steps, by what they look at
 start-same : (a a' b b' c c' : ℕ) → a ≡ a' → b ≡ b' → (b' ≡ 1 → c ≡ c') → (eqb a 1 && (not (eqb b 1) || ltb 1 c)) ≡ (eqb a' 1 && (not (eqb b' 1) || ltb 1 c'))
@@ -255,12 +255,12 @@ module _ (g : Graph) (h : Sound g) (s y : ℕ) (ys : List ℕ) (chained : Chaine
     pub whole_out : (x : ℕ) → Out x → (zs : List ℕ) → WholeChain g x zs → (v : ℕ) → Memᴰ v (x ∷ zs) → Out v
     whole_out x o [] w v m = ⊎_elim (λ (i : v ≡ x). λ q. o (rw i at q)) (λ n. absurd (Memᴰ.not-nil n)) (Memᴰ.cases_cons m)
     whole_out x o (z ∷ zs) (e, t, w) v m = ⊎_elim (λ (i : v ≡ x). λ q. o (rw i at q)) (λ n.
-        whole_out z (step-out x z o (step_of g x z e t)) zs w v n) (Memᴰ.cases_cons m)
+        whole_out z (step-out x z o (step_of_lem g x z e t)) zs w v n) (Memᴰ.cases_cons m)
 
     pub whole-after : (x : ℕ) → Out x → (zs : List ℕ) → WholeChain g x zs → WholeChain after (new x) (map new zs)
     whole-after x o [] w = ap (chain_goes_on after (new x)) (next-after x o) ∙ (goes_after x o ∙ w)
     whole-after x o (z ∷ zs) (e, t, w) = (
       ap new e ∙ sym (next-after x o),
       ap (λ v. chain_goes_on after (new x) (new v)) e ∙ (goes_after x o ∙ (ap (chain_goes_on g x) (sym e) ∙ t)),
-      whole-after z (step-out x z o (step_of g x z e t)) zs w,
+      whole-after z (step-out x z o (step_of_lem g x z e t)) zs w,
     )

@@ -44,9 +44,9 @@ pub record ChainStep (g : Graph) (x y : ℕ) : Type 0 where
   pub into : in_degree g y ≡ 1
   pub edge : HasEdge g x y
 
-pub step_of : (g : Graph) (x y : ℕ) → y ≡ next_in_chain g x → chain_goes_on g x y ≡ true → ChainStep g x y
+pub step_of_lem : (g : Graph) (x y : ℕ) → y ≡ next_in_chain g x → chain_goes_on g x y ≡ true → ChainStep g x y
 unfolding chain_goes_on
-step_of g x y e t =
+step_of_lem g x y e t =
     let a = and_split (eqb (out_degree g x) 1) _ t in
     let b = and_split (eqb (in_degree g y) 1) _ a.1 in
     let d : out_degree g x ≡ 1 = eqb-true _ _ a.0 in
@@ -55,13 +55,13 @@ step_of g x y e t =
 pub whole-chained : (g : Graph) (x : ℕ) (ys : List ℕ) → WholeChain g x ys → Chained g x ys
 whole-chained g x [] w = tt
 whole-chained g x (y ∷ ys) (e, t, w) =
-    let s = step_of g x y e t in
+    let s = step_of_lem g x y e t in
     (s.edge, λ v l. only_out_lem g x v y s.out l s.edge, λ u l. only-in g u x y s.into l s.edge, whole-chained g y ys w)
 
 -- the step into each vertex behind the first
 pub step-into : (g : Graph) (x : ℕ) (ys : List ℕ) → WholeChain g x ys → (v : ℕ) → Memᴰ v ys → (u : ℕ) × ChainStep g u v
 step-into g x [] w v m = absurd (Memᴰ.not-nil m)
-step-into g x (y ∷ ys) (e, t, w) v m = ⊎_elim {C = (u : ℕ) × ChainStep g u v} (λ (i : v ≡ y). (x, rw i (step_of g x y e t))) (λ n.
+step-into g x (y ∷ ys) (e, t, w) v m = ⊎_elim {C = (u : ℕ) × ChainStep g u v} (λ (i : v ≡ y). (x, rw i (step_of_lem g x y e t))) (λ n.
     step-into g y ys w v n) (Memᴰ.cases_cons m)
 
 -- no chain starts where a step leads

@@ -26,9 +26,9 @@ one-head {m} {n} {es} {heads} {nexts} off b I v h t = Rattle.laws.proofs.ListLaw
     (λ c. absurd (omega (arith, eqb-true (length (incident_edges (edge_end off es) m v)) 1 (sym t), ap length (at_none (I.index off b) h (pair_at off heads v) refl c))))
     (λ c. c)
 
-pub one_out : {m n : ℕ} {es heads nexts : List ℕ} → Indexed m n es heads nexts → (v : ℕ) → v < n → true
+pub one_out_lem : {m n : ℕ} {es heads nexts : List ℕ} → Indexed m n es heads nexts → (v : ℕ) → v < n → true
     ≡ eqb (length (incident_edges (edge_end 0 es) m v)) 1 → get_or heads (2 * v) 0 < m
-one_out {m} {n} {es} {heads} I v h t = omega (arith, one-head 0 (omega arith) I v h t, pair-first heads v)
+one_out_lem {m} {n} {es} {heads} I v h t = omega (arith, one-head 0 (omega arith) I v h t, pair-first heads v)
 
 module _ {m n : ℕ} {es heads nexts : List ℕ} (I : Indexed m n es heads nexts) (v : ℕ) (h : v < n) where
   start_of : (k : ℕ) (vs p : List ℕ) → is_linear_chain_start (graph_in k n m es vs p) v

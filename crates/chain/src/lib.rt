@@ -1,5 +1,6 @@
 // Linear chains: where one starts, and the vertices behind its start.
 #![tactic(auto)]
+
 ghost use Rattle.std.specs.Prelude.{◌≡◌, ◌+◌, ◌*◌, ◌<◌, ◌≤◌, length};
 ghost use Rattle.std.specs.Bool.{beq};
 ghost use Rattle.index.specs.Index.{Indexed};

@@ -1,4 +1,6 @@
 // cleanup_seq_graph: a record in, its cleanup's record out, and the rewrites for the caller's tally. Nothing is asked of the caller.
+#![tactic(auto)]
+
 ghost use Rattle.cleanup_seq_graph.specs.Cleans.{CleansCounted};
 
 use calls::CountedCleanup;

@@ -30,7 +30,8 @@ pub mem-flat : {A B : Type 0} (f : B → List A) (l : List B) {x : A} {b : B} �
 unfolding concat
 mem-flat f [] m n = absurd (mathlib.Core.List.Memᴰ.not-nil m)
 mem-flat f (c ∷ cs) {x} {b} m n =
-    ⊎_elim (λ (e : b ≡ c). mathlib.Core.List.Memᴰ.append_left (concat (map f cs)) (rw e at n)) (λ k. mathlib.Core.List.Memᴰ.append_right (f c) (mem-flat f cs k n)) (mathlib.Core.List.Memᴰ.cases_cons m)
+    ⊎_elim (λ (e : b ≡ c). mathlib.Core.List.Memᴰ.append_left (concat (map f cs)) (rw e at n))
+    (λ k. mathlib.Core.List.Memᴰ.append_right (f c) (mem-flat f cs k n)) (mathlib.Core.List.Memᴰ.cases_cons m)
 
 pub of-mem-flat : {A B : Type 0} (f : B → List A) (l : List B) {x : A} → Memᴰ x (concat (map f l)) → (b : B) × Memᴰ b l × Memᴰ x (f b)
 unfolding concat

@@ -17,7 +17,7 @@ use Rattle.tabs.proofs.Tabs.{length-tab, get_or-tab}
 use Rattle.store.specs.Store.{edge, edge_in, edges_in, find_edge, carried_at, Joinable}
 use Rattle.edge_data.specs.EdgeData.{carried_data}
 use Rattle.edge_data.specs.declared.Carried.{Carried}
-use Rattle.store.proofs.EdgeLaws.{no_edge}
+use Rattle.store.proofs.EdgeLaws.{absent_edge}
 use Rattle.index.specs.Index.{edge_end, at_from, Index, pair_at, end_at}
 use Rattle.index.proofs.AdjLaws.{at_head, at-step, at-end}
 use Rattle.index.proofs.IndexLaws.{end_below, end_is}
@@ -53,12 +53,12 @@ marks-start off y n m es mp h room most free = record {
   room = room;
   low = omega arith;
   most = most;
-  is = λ x b. place-low m m (get_or mp x 0) (most x b) ∙ sym (first-missing (has_ends (new_from off y x) (new_to off y x)) no_edge (edges_in m es)
+  is = λ x b. place-low m m (get_or mp x 0) (most x b) ∙ sym (first-missing (has_ends (new_from off y x) (new_to off y x)) absent_edge (edges_in m es)
       (λ j c. none x j (omega (arith, c, length-tab m (edge_in es)))) ∙ length-tab m (edge_in es));
 }
   where
-    none : (x j : ℕ) → j < m → has_ends (new_from off y x) (new_to off y x) (get_or (edges_in m es) j no_edge) ≡ false
-    none x j b = rw (get_or-tab m (edge_in es) j no_edge b) (not_there off y x (edge_in es j) (λ q. free j b (sym (end_is es off j h) ∙ q)))
+    none : (x j : ℕ) → j < m → has_ends (new_from off y x) (new_to off y x) (get_or (edges_in m es) j absent_edge) ≡ false
+    none x j b = rw (get_or-tab m (edge_in es) j absent_edge b) (not_there off y x (edge_in es j) (λ q. free j b (sym (end_is es off j h) ∙ q)))
 
 module _ {off y n lo m : ℕ} {es mp : List ℕ} (M : EdgeMarks off y n lo m es mp) (x : ℕ) {at : ℕ} (b : x < n) (q : at ≡ place lo m (get_or mp x 0)) where
   at_least : lo ≤ at
@@ -247,11 +247,11 @@ module _ {off y n lo m₀ m : ℕ} {es₀ heads nexts mp₀ : List ℕ} {v : ℕ
           old-kept : (j : ℕ) → j < m₀ → edge_in es' j ≡ edge_in es j
           old-kept j c =
               let below : j < k = omega (arith, R.grown, F.behind) in
-              sym (get_or-tab k' (edge_in es') j no_edge (omega (arith, size))) ∙ ap (λ (l : List Edge). get_or l j no_edge) E.is
+              sym (get_or-tab k' (edge_in es') j absent_edge (omega (arith, size))) ∙ ap (λ (l : List Edge). get_or l j absent_edge) E.is
               ∙ raise-old (new_from off y (edge_end (1 - off) es e)) (new_to off y (edge_end (1 - off) es e)) (carried_data (carried_at es e))
-              no_edge (edges_in k es) j (omega (arith, length-tab k (edge_in es)))
-              (rw (get_or-tab k (edge_in es) j no_edge below) (not_there off y (edge_end (1 - off) es e) (edge_in es j) (free j c)))
-              ∙ get_or-tab k (edge_in es) j no_edge below
+              absent_edge (edges_in k es) j (omega (arith, length-tab k (edge_in es)))
+              (rw (get_or-tab k (edge_in es) j absent_edge below) (not_there off y (edge_end (1 - off) es e) (edge_in es j) (free j c)))
+              ∙ get_or-tab k (edge_in es) j absent_edge below
 
     pub redirecting-end : m₀ ≤ e → Redirected off y n lo m₀ m es₀ v k es mp
     unfolding add_or_update_edges

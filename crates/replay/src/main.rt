@@ -26,16 +26,28 @@ fn replay_part(buf: &[u8], n: usize) -> Outcome {
     Outcome::Differs
 }
 
-// Replays the case at the front, and says what stands behind it. A case that is cut short differs.
+// No case is longer.
+const CASE_MOST: usize = 65536;
+
+// The number that begins a case, as far as the file goes; bytes that are missing count as 0.
+fn case_len(file: &[u8]) -> usize {
+    let mut head = [0u8; 4];
+    for (place, byte) in head.iter_mut().zip(file) {
+        *place = *byte;
+    }
+    le::u32_at(&head, 0) as usize
+}
+
+// Replays the case at the front, and says what stands behind it. A case that is too long or cut short differs.
 fn one_case(file: &[u8]) -> (Outcome, &[u8]) {
     if file.is_empty() {
         return (Outcome::End, file);
     }
-    if file.len() < 4 {
-        return (Outcome::Differs, &[]);
+    let n = case_len(file);
+    let rest = file.get(4..).unwrap_or(&[]);
+    if CASE_MOST < n {
+        return (Outcome::Differs, rest);
     }
-    let n = le::u32_at(file, 0) as usize;
-    let rest = &file[4..];
     (replay_part(rest, n), rest.get(n..).unwrap_or(&[]))
 }
 

@@ -1,6 +1,7 @@
 // Each public call under its C name, with the promise of the call itself and of the table of tallies. All but `sg_vertex_sequence` are their
 // core, which does the work, and then `tallies::count_call`. `sg_c` exports them to C.
 #![tactic(auto)]
+
 ghost use Rattle.vertex_sequence.specs.Handed.{Placed};
 ghost use Rattle.sg.specs.OnTable.{ConvertsOn, SimplifiesOn, CleansOn, CleansPathsOn, TellsReferenceOn, TellsPathOn};
 

@@ -1,6 +1,7 @@
 // The library for C: each public call under its C name, with the promise of the call of that name in `sg`, which it makes. include/seq_graph.h
 // declares them.
 #![tactic(auto)]
+
 ghost use Rattle.vertex_sequence.specs.Handed.{Placed};
 ghost use Rattle.sg.specs.OnTable.{ConvertsOn, SimplifiesOn, CleansOn, CleansPathsOn, TellsReferenceOn, TellsPathOn};
 

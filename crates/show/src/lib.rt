@@ -1,4 +1,6 @@
 // The text of what simplification makes of a record. Nothing is asked of the caller.
+#![tactic(auto)]
+
 ghost use Rattle.std.specs.Prelude.{◌≡◌, ◌≤◌, length};
 ghost use Rattle.show.specs.Show.{Recorded, FewShown, GraphPut, Printing, AnswerPut, Shown};
 

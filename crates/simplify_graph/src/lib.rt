@@ -1,4 +1,6 @@
 // simplify_graph: a record in, its simplification's record out. Nothing is asked of the caller.
+#![tactic(auto)]
+
 ghost use Rattle.simplify_graph.specs.Simplifies.{Simplifies};
 
 use calls::SimplifyAnswer;

@@ -21,7 +21,7 @@ use Rattle.tabs.proofs.ListTabs.{tab-append, raise_all-none, mem-tab}
 use Rattle.tabs.proofs.SumTabs.{concat-append, concat-snoc}
 use Rattle.edge_data.specs.EdgeData.{carries}
 use Rattle.store.specs.Store.{edge, edge_in, edges_in, put_edge, EndsBelow}
-use Rattle.store.proofs.EdgeLaws.{no_edge, length-put, put_other, packed-miss}
+use Rattle.store.proofs.EdgeLaws.{absent_edge, length-put, put_other, packed-miss}
 use Rattle.compact.proofs.CompactLaws.{ends-mem, mem-ends}
 use Rattle.index.specs.Index.{edge_end}
 use Rattle.redirect.specs.Redirect.{redirected_all, Redirectable, Redirected}
@@ -37,12 +37,12 @@ use Rattle.split_suffix.specs.Split.{MarksLow, BlockReady, BlockDone, SplitEdges
 push-new : {y k : ℕ} {es : List ℕ} (a b s f : ℕ) → EndsBelow y k es → 4 * k + 4 ≤ length es → ((x z : ℕ) → x < y → z < y → x ≡ a → z ≡ b → ⊥)
     → edges_in (k + 1) (put_edge es k a b s f) ≡ add_or_update_edge a b (carries s f) (edges_in k es)
 push-new {y} {k} {es} a b s f E r new = packed-miss k es (put_edge es k a b s f) a b record { support = s; flag = f } k r
-    (sym (first-missing (has_ends a b) no_edge (edges_in k es) none ∙ length-tab k (edge_in es))) (omega arith) refl
+    (sym (first-missing (has_ends a b) absent_edge (edges_in k es) none ∙ length-tab k (edge_in es))) (omega arith) refl
   where
-    none : (j : ℕ) → j < length (edges_in k es) → has_ends a b (get_or (edges_in k es) j no_edge) ≡ false
+    none : (j : ℕ) → j < length (edges_in k es) → has_ends a b (get_or (edges_in k es) j absent_edge) ≡ false
     none j h =
         let c : j < k = omega (arith, h, length-tab k (edge_in es)) in
-        rw (get_or-tab k (edge_in es) j no_edge c) (by_test (has_ends a b (edge_in es j)) (λ t. let z = joins-ends a b (edge_in es j) t in
+        rw (get_or-tab k (edge_in es) j absent_edge c) (by_test (has_ends a b (edge_in es j)) (λ t. let z = joins-ends a b (edge_in es j) t in
         absurd (new _ _ (E.at j c).0 (E.at j c).1 z.0 z.1)) (λ t. t))
 
 -- the flag of a new edge says whether it is a reference edge, and that it is not capped
@@ -81,12 +81,12 @@ module _ {y bottom k : ℕ} {es : List ℕ} (L : Linkable y bottom k es) where
     second_is : edges_in (k + 1 + 1) (put_edge es₁ (k + 1) y bottom s f) ≡ add_or_update_edge y bottom (carries s f) (edges_in (k + 1) es₁)
     second_is = packed-miss (k + 1) es₁ (put_edge es₁ (k + 1) y bottom s f) y bottom record { support = s; flag = f } (k + 1)
         (rw (length-put es k (y + 1) y 1 (bit (flag_is_ref f))) (omega (arith, L.room)))
-        (sym (first-missing (has_ends y bottom) no_edge (edges_in (k + 1) es₁) none ∙ length-tab (k + 1) (edge_in es₁))) (omega arith) refl
+        (sym (first-missing (has_ends y bottom) absent_edge (edges_in (k + 1) es₁) none ∙ length-tab (k + 1) (edge_in es₁))) (omega arith) refl
       where
-        none : (j : ℕ) → j < length (edges_in (k + 1) es₁) → has_ends y bottom (get_or (edges_in (k + 1) es₁) j no_edge) ≡ false
+        none : (j : ℕ) → j < length (edges_in (k + 1) es₁) → has_ends y bottom (get_or (edges_in (k + 1) es₁) j absent_edge) ≡ false
         none j h =
             let c : j < k + 1 = omega (arith, h, length-tab (k + 1) (edge_in es₁)) in
-            rw (get_or-tab (k + 1) (edge_in es₁) j no_edge c) (by_test (has_ends y bottom (edge_in es₁ j)) (λ t.
+            rw (get_or-tab (k + 1) (edge_in es₁) j absent_edge c) (by_test (has_ends y bottom (edge_in es₁ j)) (λ t.
             absurd (old-ends (edge_in es₁ j) (mem-tab (k + 1) (edge_in es₁) j c) (joins-ends y bottom (edge_in es₁ j) t).0))
             (λ t. t))
 

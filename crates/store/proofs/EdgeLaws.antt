@@ -17,15 +17,15 @@ use Rattle.store.specs.Store.{is_set, edge, edge_in, edges_in, put_edge, find_ed
 use Rattle.edge_data.specs.EdgeData.{carried_data}
 use Rattle.edge_data.specs.declared.Carried.{Carried}
 
-abbrev pub no_edge : Edge
-no_edge = record { from = 0; to = 0; support = 0; is_ref = false; capped = false }
+abbrev pub absent_edge : Edge
+absent_edge = record { from = 0; to = 0; support = 0; is_ref = false; capped = false }
 
 -- the edge joined with what another carries
 abbrev pub raised : EdgeData → Edge → Edge
 raised d e = new_edge e.from e.to (joined_data (edge_data e) d)
 
 raise-hit : (a b : ℕ) (d : EdgeData) (es : List Edge) → find_edge a b es < length es
-    → add_or_update_edge a b d es ≡ set es (find_edge a b es) (raised d (get_or es (find_edge a b es) no_edge))
+    → add_or_update_edge a b d es ≡ set es (find_edge a b es) (raised d (get_or es (find_edge a b es) absent_edge))
 raise-hit a b d [] h = absurd (omega arith)
 raise-hit a b d (e ∷ es) h = by_test (has_ends a b e)
     (λ t. rw (first_ix-yes (has_ends a b) e es t) (raise-yes a b d e es t))
@@ -93,7 +93,7 @@ put-push m es a b s r h =
 
 pub put-set : (m : ℕ) (es : List ℕ) (i a b s r : ℕ) → i < m → 4 * m ≤ length es → edges_in m (put_edge es i a b s r) ≡ set (edges_in m es) i (edge a b s r)
 put-set m es i a b s r c h =
-    tab-set m (edge_in es) (edge_in (put_edge es i a b s r)) i no_edge c (λ k d ne. put_other es i a b s r k ne)
+    tab-set m (edge_in es) (edge_in (put_edge es i a b s r)) i absent_edge c (λ k d ne. put_other es i a b s r k ne)
     ∙ ap (set (edges_in m es) i) (put_same es i a b s r (omega arith))
 
 -- a mark, by the number that it is read from
@@ -113,7 +113,7 @@ module _ (m : ℕ) (es es' : List ℕ) (a b : ℕ) (d : Carried) (e : ℕ) (room
       ap (edges_in m) put ∙ put-set m es e fr to j.support j.flag h (omega arith)
       ∙ ap (set (edges_in m es) e) (λ i. new_edge (hf i) (ht i) (hj i))
       ∙ sym (raise-hit a b (carried_data d) (edges_in m es) (omega (arith, length-tab m (edge_in es), is))
-      ∙ rw (← is, get_or-tab m (edge_in es) e no_edge h))
+      ∙ rw (← is, get_or-tab m (edge_in es) e absent_edge h))
 
   pub packed-miss : m ≤ e → es' ≡ put_edge es m a b d.support d.flag → edges_in (m + 1) es' ≡ add_or_update_edge a b (carried_data d) (edges_in m es)
   unfolding new_edge

@@ -13,7 +13,7 @@ use Rattle.chain.proofs.ChainLaws.{
   tracing-stop,
   tracing-more,
   tracing-end,
-  one_out,
+  one_out_lem,
 }
 use Rattle.chain.proofs.trace_linear_chain.Goals as goal
 
@@ -32,7 +32,7 @@ pub edge_to-next-requires : goal.edge_to-next-requires
 edge_to-next-requires c =
     omega (
       arith,
-      one_out c.requires.1.1 _ c.loop-c.invariant.last-below
+      one_out_lem c.requires.1.1 _ c.loop-c.invariant.last-below
           (sym c.if-not-has_one.false ∙ c.has_one.ensures),
       c.requires.1.1.room,
     )
@@ -44,7 +44,7 @@ chain_goes_on-requires c = (
     omega (
       arith,
       c.edge_to-next.ensures,
-      (c.requires.1.1.ends.at _ (one_out c.requires.1.1 _ c.loop-c.invariant.last-below
+      (c.requires.1.1.ends.at _ (one_out_lem c.requires.1.1 _ c.loop-c.invariant.last-below
           (sym c.if-not-has_one.false ∙ c.has_one.ensures))).1,
     ),
     c.requires.1.1,
@@ -57,7 +57,7 @@ returns-then-not-chain_goes_on c =
     c.requires.1.1
     c.loop-c.invariant
     c.loop-c-test.true
-    (one_out c.requires.1.1 _ c.loop-c.invariant.last-below
+    (one_out_lem c.requires.1.1 _ c.loop-c.invariant.last-below
     (sym c.if-not-has_one.false ∙ c.has_one.ensures)) refl
     c.edge_to-next.ensures
     c.chain_goes_on.ensures
@@ -70,7 +70,7 @@ loop-c-preserved c =
     c.loop-c.invariant
     c.loop-c-test.true
     c.requires.1.0
-    (one_out c.requires.1.1 _ c.loop-c.invariant.last-below
+    (one_out_lem c.requires.1.1 _ c.loop-c.invariant.last-below
     (sym c.if-not-has_one.false ∙ c.has_one.ensures)) refl
     c.edge_to-next.ensures
     c.chain_goes_on.ensures

@@ -13,7 +13,7 @@ use Rattle.chain.proofs.ChainLaws.{
   tracing-stop,
   tracing-more,
   tracing-end,
-  one_out,
+  one_out_lem,
 }
 use Rattle.chain.proofs.trace_linear_chain.Given as goal
 

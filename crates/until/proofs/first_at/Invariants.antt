@@ -22,7 +22,8 @@ use Rattle.until.proofs.first_at.Given as goal
 
 abbrev pub invariant-loop-v : goal.invariant-loop-v
 invariant-loop-v l =
-    ScanningVertices (rewrite_of (kind_with_number l.kind) l.least (graph_of l.held l.initial.es l.initial.vs l.initial.p)) l.n l.initial.es l.initial.vs l.initial.p l.initial.nodes l.initial.map l.es l.vs l.p l.nodes l.map l.v
+    ScanningVertices (rewrite_of (kind_with_number l.kind) l.least (graph_of l.held l.initial.es l.initial.vs l.initial.p)) l.n
+    l.initial.es l.initial.vs l.initial.p l.initial.nodes l.initial.map l.es l.vs l.p l.nodes l.map l.v
 
 abbrev pub decreases-loop-v : goal.decreases-loop-v
 decreases-loop-v l = l.n - l.v
