@@ -28,7 +28,7 @@ def build():
     if shutil.which("cargo") is None:
         sys.exit("cargo is not present: the Rust cannot be asked")
     # the library that the driver links, as oracle/calls.txt asks; nothing to do where it is there already
-    subprocess.run(["rt", "staticlib", "sg"], cwd=os.path.dirname(HERE), stdout=subprocess.DEVNULL, check=True)
+    subprocess.run(["tools/staticlib.sh"], cwd=os.path.dirname(HERE), stdout=subprocess.DEVNULL, check=True)
     manifest = os.path.join(HERE, "Cargo.toml")
     subprocess.run(["cargo", "build", "--quiet", "--release", "--offline", "--manifest-path", manifest], check=True)
 
