@@ -184,10 +184,8 @@ def check_pipes(folder):
     large = put(folder, "large.sgr", encode(SGR2, SEQUENCE, 0, 10, [b"A" * 100] * 1000, []))
     inputs = [put(folder, "%d.sgr" % i, CASE_1) for i in range(3000)]
     for words in (["text", large], ["check", *inputs], ["check", "--json", "-q", *inputs], ["help"]):
-        reader, writer = os.pipe()
-        os.close(reader)
-        with subprocess.Popen([SG, *words], stdout=writer, stderr=subprocess.PIPE) as process:
-            os.close(writer)
+        with subprocess.Popen([SG, *words], stdout=subprocess.PIPE, stderr=subprocess.PIPE) as process:
+            process.stdout.close()
             noted = process.stderr.read()
         assert (process.returncode, noted) == (3, b""), (words[:2], process.returncode, noted)
     done = subprocess.run("%s check - <&-" % SG, shell=True, capture_output=True)
