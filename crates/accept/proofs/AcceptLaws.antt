@@ -18,67 +18,39 @@ use Rattle.form.proofs.FormLaws.{limits-small}
 use Rattle.record.specs.Kinds.{takes_of}
 use Rattle.record.specs.declared.Takes.TheVariants.{SequenceOnly}
 use Rattle.kmer.specs.declared.KmerSize.{KmerSize}
-use Rattle.record.specs.Layout.{WellFormed, layout_of}
-use Rattle.record.specs.declared.Layout.{Layout}
-use Rattle.record.specs.declared.Layout.TheVariants.{Formed}
-use Rattle.record.specs.declared.Layout.TheVariants as checked
-use Rattle.record.proofs.Accepted.{well-formed, sequence-kind, formed-none, formed-size, refused-number, refused-some}
+use Rattle.std.specs.Prelude.{Result, Ok, Err}
+use Rattle.refusal.specs.Refusals.{number_of_refusal, refused_by}
+use Rattle.refusal.specs.declared.Refusal.{Refusal}
+use Rattle.refusal.specs.declared.Refusal.TheVariants as refusal
+use Rattle.refusal.proofs.RefusalLaws.{some-number, refused-number, made-number}
+use Rattle.record.specs.Layout.{WellFormed, LayoutOf}
+use Rattle.record.proofs.Accepted.{well-formed, sequence-kind, formed-none, formed-size, layout-number}
 use Rattle.load.specs.Loaded.{Loadable, Loaded}
 use Rattle.load.proofs.LoadLaws.{formed-laid}
 use Rattle.doubled.specs.Doubled.{Markable}
 use Rattle.cycle.specs.Peel.{Peelable, HasCycle}
 use Rattle.sound.proofs.Accepted.{refused-early, refused-6, refused-7, accepted}
-use Rattle.accept.specs.Accept.{RoomFor, RoomToRead, read_number, ReadAs}
-use Rattle.accept.specs.declared.Read.{Read}
-use Rattle.accept.specs.declared.Read.TheVariants.{Graph, Refused}
+use Rattle.accept.specs.Accept.{RoomFor, RoomToRead, ReadAs}
 
--- the two cases of a record that was read
-pub not-both : {A : Type 0} {r : Read} {h : Held} {n : ℕ} → r ≡ Graph h → r ≡ Refused n → A
-not-both e f = let z : ◌≡◌ {A = ℕ} 0 1 = cc in absurd (omega arith)
+-- what a caller learns: no cause is there, or the first one's number
+module _ {bs : List ℕ} {r : Result Held Refusal} {es vs : List ℕ} (A : ReadAs bs r es vs) where
+  pub read_none : {h : Held} → r ≡ Ok h → record_refusal sequence_only bs ≡ 0
+  read_none e = sym A.number ∙ made-number e
 
-pub by_read : {A : Type 0} (r : Read) → ((h : Held) → r ≡ Graph h → A) → ((n : ℕ) → r ≡ Refused n → A) → A
-by_read (Graph h) f g = f h refl
-by_read (Refused n) f g = g n refl
-
-pub number-refused : {r : Read} {n : ℕ} → r ≡ Refused n → read_number r ≡ n
-unfolding read_number
-number-refused e = ap read_number e
-
-pub number-graph : {r : Read} {h : Held} → r ≡ Graph h → read_number r ≡ 0
-unfolding read_number
-number-graph e = ap read_number e
-
-held_in : Held → Read → Held
-held_in d (Graph h) = h
-held_in d (Refused n) = d
-
-pub same-held : {g h : Held} → Graph g ≡ Graph h → g ≡ h
-unfolding held_in
-same-held {g} e = ap (held_in g) e
-
--- what a caller learns: no cause is there, or the first one's number, which is not 0
-module _ {bs : List ℕ} {r : Read} {es vs : List ℕ} (A : ReadAs bs r es vs) where
-  pub read_none : {h : Held} → r ≡ Graph h → record_refusal sequence_only bs ≡ 0
-  read_none e = sym A.number ∙ number-graph e
-
-  pub read_number_lem : {n : ℕ} → r ≡ Refused n → record_refusal sequence_only bs ≡ n
-  read_number_lem e = sym A.number ∙ number-refused e
+  pub read_refusal : {n : Refusal} → r ≡ Err n → record_refusal sequence_only bs ≡ number_of_refusal n
+  read_refusal e = sym A.number ∙ refused-number e
 
 module _ (bs : List ℕ) where
-  refused_as : (n : ℕ) → n ≡ record_refusal sequence_only bs → (n ≡ 0 → ⊥) → {es vs : List ℕ} → ReadAs bs (Refused n) es vs
-  refused_as n q o = record {
-    number = number-refused refl ∙ q;
-    loaded = λ h e. not-both e refl;
-    refused = λ m e z. o (sym (number-refused refl) ∙ number-refused e ∙ z);
-  }
+  refused_as : (n : Refusal) → number_of_refusal n ≡ record_refusal sequence_only bs → {es vs : List ℕ} → ReadAs bs (Err n) es vs
+  refused_as n q = record { number = q; loaded = λ h e. cc }
 
-  pub read-refused : {r : Layout} {n : ℕ} {es vs : List ℕ} → r ≡ layout_of (refusal_of (layout_causes (takes_of SequenceOnly) bs)) (k_of bs)
-      → r ≡ checked.Refused n → ReadAs bs (Refused n) es vs
+  pub read-refused : {r : Result KmerSize Refusal} {n : Refusal} {es vs : List ℕ}
+      → LayoutOf (refusal_of (layout_causes (takes_of SequenceOnly) bs)) (k_of bs) r → r ≡ Err n → ReadAs bs (Err n) es vs
   unfolding takes_of
-  read-refused {n = n} e f =
-      let some = refused-some sequence_only bs e f in
+  read-refused {n = n} l f =
       refused_as n
-      (sym (refused-early sequence_only bs (sym (refused-number sequence_only bs e f)) (by_order 1 n (λ b. b) (λ b. absurd (some (omega arith)))))) some
+      (sym (refused-early sequence_only bs (sym (layout-number sequence_only bs l f))
+      (by_order 1 (number_of_refusal n) (λ b. b) (λ b. absurd (some-number n (omega arith))))))
 
   module _ (layout : refusal_of (layout_causes sequence_only bs) ≡ 0) {es vs heads nexts nodes mp : List ℕ}
       (Y : RoomToRead bs es vs heads nexts nodes mp) where
@@ -126,28 +98,27 @@ module _ (bs : List ℕ) where
           or-false true = refl
           or-false false = refl
 
-      pub read-6 : {d : Bool} → d ≡ doubled_edge (edges_in h.m es') → d ≡ true → {es₂ vs₂ : List ℕ} → ReadAs bs (Refused 6) es₂ vs₂
-      read-6 a t = refused_as 6 (sym (refused-6 sequence_only bs layout (doubled-is ∙ sym a ∙ t))) (λ z. omega arith)
+      pub read-6 : {d : Bool} → d ≡ doubled_edge (edges_in h.m es') → d ≡ true → {es₂ vs₂ : List ℕ} → ReadAs bs (Err refusal.Doubled) es₂ vs₂
+      read-6 a t = refused_as refusal.Doubled (sym (refused-6 sequence_only bs layout (doubled-is ∙ sym a ∙ t)))
 
       module _ {d : Bool} (a : d ≡ doubled_edge (edges_in h.m es')) (t : d ≡ false) {c : Bool} (C : HasCycle h.m h.n es' c) where
         cycle-is : has_cycle (decode bs) ≡ c
         cycle-is = ap has_cycle (sym L.is) ∙ sym (C.is h.k.0 vs' bs)
 
-        pub read-7 : c ≡ true → {es₂ vs₂ : List ℕ} → ReadAs bs (Refused 7) es₂ vs₂
-        read-7 s = refused_as 7 (sym (refused-7 sequence_only bs layout (doubled-is ∙ sym a ∙ t) (cycle-is ∙ s))) (λ z. omega arith)
+        pub read-7 : c ≡ true → {es₂ vs₂ : List ℕ} → ReadAs bs (Err refusal.HasCycle) es₂ vs₂
+        read-7 s = refused_as refusal.HasCycle (sym (refused-7 sequence_only bs layout (doubled-is ∙ sym a ∙ t) (cycle-is ∙ s)))
 
-        pub read-0 : c ≡ false → ReadAs bs (Graph h) es' vs'
+        pub read-0 : c ≡ false → ReadAs bs (Ok h) es' vs'
         read-0 s = record {
-          number = number-graph refl ∙ sym (accepted sequence_only bs layout (doubled-is ∙ sym a ∙ t) (cycle-is ∙ s));
-          loaded = λ g e. subst (λ (x : Held). Loaded bs x es' vs') (same-held e) L;
-          refused = λ n e. not-both refl e;
+          number = sym (accepted sequence_only bs layout (doubled-is ∙ sym a ∙ t) (cycle-is ∙ s));
+          loaded = λ g e. let same : h ≡ g = cc in subst (λ (x : Held). Loaded bs x es' vs') same L;
         }
 
 -- the layout that was checked
-module _ (bs : List ℕ) {r : Layout} (e : r ≡ layout_of (refusal_of (layout_causes (takes_of SequenceOnly) bs)) (k_of bs)) where
-  pub layout-none : {k : KmerSize} → r ≡ Formed k → refusal_of (layout_causes sequence_only bs) ≡ 0
+module _ (bs : List ℕ) {r : Result KmerSize Refusal} (l : LayoutOf (refusal_of (layout_causes (takes_of SequenceOnly) bs)) (k_of bs) r) where
+  pub layout-none : {k : KmerSize} → r ≡ Ok k → refusal_of (layout_causes sequence_only bs) ≡ 0
   unfolding takes_of
-  layout-none f = formed-none sequence_only bs e f
+  layout-none f = formed-none sequence_only bs l f
 
-  pub layout-size : {k : KmerSize} → r ≡ Formed k → k.0 ≡ k_of bs
-  layout-size f = formed-size (takes_of SequenceOnly) bs e f
+  pub layout-size : {k : KmerSize} → r ≡ Ok k → k.0 ≡ k_of bs
+  layout-size f = formed-size (takes_of SequenceOnly) bs l f

@@ -1,12 +1,12 @@
 -- A record of kind 1 that is read, and the room that reading a record takes. Assumes nothing.
-use Rattle.std.specs.Prelude.{◌≡◌, List, ℕ, ◌*◌, ◌≤◌, length}
+use Rattle.std.specs.Prelude.{◌≡◌, Result, Ok, List, ℕ, ◌*◌, ◌≤◌, length}
 use Rattle.defs.specs.Record.{vertices_of, edges_of}
 use Rattle.defs.specs.Refusals.{sequence_only, record_refusal}
 use Rattle.record.specs.Layout.{WellFormed}
 use Rattle.memory.specs.declared.Held.{Held}
 use Rattle.load.specs.Loaded.{Loaded}
-use Rattle.accept.specs.declared.Read.{Read}
-use Rattle.accept.specs.declared.Read.TheVariants.{Graph, Refused}
+use Rattle.refusal.specs.Refusals.{refused_by}
+use Rattle.refusal.specs.declared.Refusal.{Refusal}
 
 -- Room for the record's graph, by the record's own counts: its edges and vertices, an index of both, and two numbers for each vertex. The
 -- sequences stay in the record.
@@ -27,13 +27,7 @@ pub record RoomToMark (bs es vs heads nexts nodes mp marks : List ℕ) : Type 0 
   pub reading : RoomToRead bs es vs heads nexts nodes mp
   pub marks-room : WellFormed bs → vertices_of bs ≤ length marks
 
--- the number of the refusal; 0 where there is a graph
-unfoldable pub read_number : Read → ℕ
-read_number (Graph h) = 0
-read_number (Refused n) = n
-
--- the number is the definition's; a graph that was read is the record's; a refusal has a number
-pub record ReadAs (bs : List ℕ) (r : Read) (es vs : List ℕ) : Type 0 where
-  pub number : read_number r ≡ record_refusal sequence_only bs
-  pub loaded : (h : Held) → r ≡ Graph h → Loaded bs h es vs
-  pub refused : (n : ℕ) → r ≡ Refused n → n ≡ 0 → ⊥
+-- the number is the definition's; a graph that was read is the record's
+pub record ReadAs (bs : List ℕ) (r : Result Held Refusal) (es vs : List ℕ) : Type 0 where
+  pub number : refused_by r ≡ record_refusal sequence_only bs
+  pub loaded : (h : Held) → r ≡ Ok h → Loaded bs h es vs

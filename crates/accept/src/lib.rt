@@ -4,15 +4,10 @@
 ghost use Rattle.accept.specs.Accept.{RoomToRead, ReadAs};
 
 use memory::Held;
-use record::{Layout, Takes};
+use record::Takes;
+use refusal::Refusal;
 
-// What was made of a record: a graph, which the slices hold, or the number of the refusal.
-#[derive(Clone, Copy)]
-pub enum Read {
-    Graph(Held),
-    Refused(u32),
-}
-
+// The graph, which the slices then hold, or why there is none.
 pub fn read_sequence_graph(
     rec: &[u8],
     es: &mut [u32],
@@ -21,23 +16,19 @@ pub fn read_sequence_graph(
     nexts: &mut [u32],
     nodes: &mut [u32],
     map: &mut [u32],
-) -> Read
+) -> Result<Held, Refusal>
     requires { RoomToRead rec.now es.old vs.old heads.old nexts.old nodes.old map.old }
     ensures { ReadAs rec.now result es.new vs.new }
 {
-    let k = match record::check_layout(rec, Takes::SequenceOnly) {
-        Layout::Formed(k) => k,
-        Layout::Refused(number) => return Read::Refused(number),
-    };
+    let k = record::check_layout(rec, Takes::SequenceOnly)?;
     let held = load::load_graph(rec, k, es, vs);
-    let n = held.n;
-    let m = held.m;
+    let Held { n, m, .. } = held;
     index::build_index(es, m, n, heads, nexts);
     if doubled::doubled_edge(es, m, n, heads, nexts, map) {
-        return Read::Refused(6);
+        return Err(Refusal::Doubled);
     }
     if cycle::has_cycle(es, m, n, heads, nexts, map, nodes) {
-        return Read::Refused(7);
+        return Err(Refusal::HasCycle);
     }
-    Read::Graph(held)
+    Ok(held)
 }

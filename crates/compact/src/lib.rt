@@ -16,11 +16,7 @@ pub fn fill(dst: &mut [u32], n: usize, x: u32)
     requires { n ≤ length dst.old }
     ensures { (k : ℕ) → k < n → get_or dst.new k 0 ≡ x }
 {
-    let mut i = 0;
-    while i < n {
-        dst[i] = x;
-        i += 1;
-    }
+    dst[..n].fill(x);
 }
 
 // No mark from `from` on, below `to`.
@@ -28,11 +24,7 @@ pub fn clear_marks(marks: &mut [u8], from: usize, to: usize)
     requires { (from ≤ to) × (to ≤ length marks.old) }
     ensures { Cleared marks.old from to marks.new }
 {
-    let mut i = from;
-    while i < to {
-        marks[i] = 0;
-        i += 1;
-    }
+    marks[from..to].fill(0);
 }
 
 // Of n vertices those that go get 1, the others 0.
@@ -42,10 +34,8 @@ pub fn mark_gone(map: &mut [u32], n: usize, gone: &[u32], g: usize)
     ensures { Marked (nums_in g gone.now) n map.new }
 {
     fill(map, n, 0);
-    let mut i = 0;
-    while i < g {
+    for i in 0..g {
         map[gone[i] as usize] = 1;
-        i += 1;
     }
 }
 
@@ -54,16 +44,13 @@ pub fn number(map: &mut [u32], n: usize)
     requires { (n ≤ length map.old) × (n < 4294967296) }
     ensures { Renumbered map.old n map.new }
 {
-    let mut v = 0;
-    let mut j = 0u32;
-    while v < n {
-        let u = v;
-        v += 1;
-        if map[u] == 0 {
+    let mut j = 0;
+    for v in 0..n {
+        if map[v] == 0 {
             j += 1;
-            map[u] = j;
+            map[v] = j;
         } else {
-            map[u] = 0;
+            map[v] = 0;
         }
     }
 }
@@ -73,11 +60,8 @@ pub fn close_vertices(vs: &mut [u32], n: usize, map: &[u32]) -> usize
     requires { (2 * n ≤ length vs.old) × (n ≤ length map.now) }
     ensures { VertsClosed map.now n vs.old result vs.new }
 {
-    let mut i = 0;
     let mut j = 0;
-    while i < n {
-        let v = i;
-        i += 1;
+    for v in 0..n {
         if map[v] != 0 {
             let start = store::start_number(vs, v);
             let len = store::len_number(vs, v);
@@ -91,7 +75,7 @@ pub fn close_vertices(vs: &mut [u32], n: usize, map: &[u32]) -> usize
 pub fn both_set(a: u32, b: u32) -> bool
     ensures { BothSet a b result }
 {
-    if a != 0 { b != 0 } else { false }
+    a != 0 && b != 0
 }
 
 // Drops the edges with an end that goes and renumbers the others, in place; the number left.
@@ -99,11 +83,8 @@ pub fn close_edges(es: &mut [u32], m: usize, map: &[u32], n: usize) -> usize
     requires { (4 * m ≤ length es.old) × (Numbered n map.now × EndsBelow n m es.old) }
     ensures { EdgesClosed map.now m es.old result es.new }
 {
-    let mut i = 0;
     let mut j = 0;
-    while i < m {
-        let e = i;
-        i += 1;
+    for e in 0..m {
         let a = map[store::edge_from(es, e) as usize];
         let b = map[store::edge_to(es, e) as usize];
         if both_set(a, b) {

@@ -10,10 +10,8 @@ fn count_entering(es: &[u32], m: usize, n: usize, heads: &[u32], nexts: &[u32], 
     requires { Indexed m n es.now heads.now nexts.now × ((m < 4294967296) × (n ≤ length degrees.old)) }
     ensures { DegreesCounted m n es.now degrees.new }
 {
-    let mut v = 0;
-    while v < n {
+    for v in 0..n {
         degrees[v] = index::degree(es, m, n, heads, nexts, 1, v) as u32;
-        v += 1;
     }
 }
 
@@ -23,12 +21,9 @@ fn queue_sources(n: usize, degrees: &[u32], queue: &mut [u32]) -> usize
     ensures { Sourced n degrees.now result queue.new }
 {
     let mut tail = 0;
-    let mut v = 0;
-    while v < n {
-        let u = v;
-        v += 1;
-        if degrees[u] == 0 {
-            queue[tail] = u as u32;
+    for v in 0..n {
+        if degrees[v] == 0 {
+            queue[tail] = v as u32;
             tail += 1;
         }
     }

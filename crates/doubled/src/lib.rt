@@ -46,11 +46,8 @@ pub fn doubled_edge(
     ensures { result ≡ doubled_edge (edges_in m es.now) }
 {
     compact::fill(marks, n, 0);
-    let mut v = 0;
-    while v < n {
-        let u = v;
-        v += 1;
-        if doubled_from(es, m, n, heads, nexts, u, marks) {
+    for v in 0..n {
+        if doubled_from(es, m, n, heads, nexts, v, marks) {
             return true;
         }
     }

@@ -30,7 +30,7 @@ pub fn flag_is_capped(flag: u32) -> bool
 pub fn new_flag(reference: bool) -> u32
     ensures { result ≡ bit reference }
 {
-    if reference { 1 } else { 0 }
+    u32::from(reference)
 }
 
 pub fn flag_of(reference: bool, capped: bool) -> u32
@@ -42,17 +42,13 @@ pub fn flag_of(reference: bool, capped: bool) -> u32
 pub fn either(a: bool, b: bool) -> bool
     ensures { result ≡ (a || b) }
 {
-    if a { true } else { b }
+    a || b
 }
 
 pub fn saturating_add(x: u32, y: u32) -> u32
     ensures { result ≡ saturating_add x y }
 {
-    if 4294967295 - x < y {
-        4294967295
-    } else {
-        x + y
-    }
+    x.saturating_add(y)
 }
 
 // Two edges joined.
@@ -65,6 +61,6 @@ pub fn joined(a: Carried, b: Carried) -> Carried
     let flag = flag_of(reference, capped);
     Carried {
         support: saturating_add(a.support, b.support),
-        flag: flag,
+        flag,
     }
 }

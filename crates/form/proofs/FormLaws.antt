@@ -219,38 +219,6 @@ four-of (a ∷ b ∷ c ∷ []) h = absurd (omega arith)
 four-of (a ∷ b ∷ c ∷ d ∷ []) h = refl
 four-of (a ∷ b ∷ c ∷ d ∷ e ∷ m) h = absurd (omega arith)
 
--- four letters are compared one by one
-module _ (bs m : List ℕ) (long : 4 ≤ length bs) (whole : length m ≡ 4) where
-  letters-are : same_list (take 4 bs) m
-      ≡ (eqb (get_or bs 0 0) (get_or m 0 0)
-      && (eqb (get_or bs 1 0) (get_or m 1 0) && (eqb (get_or bs 2 0) (get_or m 2 0) && eqb (get_or bs 3 0) (get_or m 3 0))))
-  letters-are =
-      ap (λ (l : List ℕ). same_list l m) (four bs long)
-      ∙ ap (same_list (get_or bs 0 0 ∷ get_or bs 1 0 ∷ get_or bs 2 0 ∷ get_or bs 3 0 ∷ [])) (four-of m whole)
-      ∙ simp (same-cons, same-nil, and_yes)
-
-  pub letter-0 : (get_or bs 0 0 ≡ get_or m 0 0 → ⊥) → false ≡ same_list (take 4 bs) m
-  letter-0 a = simp (letters-are, ne_eqb (get_or bs 0 0) (get_or m 0 0) a)
-
-  module _ (same-0 : get_or bs 0 0 ≡ get_or m 0 0) where
-    pub letter-1 : (get_or bs 1 0 ≡ get_or m 1 0 → ⊥) → false ≡ same_list (take 4 bs) m
-    letter-1 b = simp (letters-are, eq-eqb (get_or bs 0 0) (get_or m 0 0) same-0, ne_eqb (get_or bs 1 0) (get_or m 1 0) b)
-
-    module _ (same-1 : get_or bs 1 0 ≡ get_or m 1 0) where
-      pub letter-2 : (get_or bs 2 0 ≡ get_or m 2 0 → ⊥) → false ≡ same_list (take 4 bs) m
-      letter-2 c =
-          simp
-          (letters-are, eq-eqb (get_or bs 0 0) (get_or m 0 0) same-0, eq-eqb (get_or bs 1 0) (get_or m 1 0) same-1, ne_eqb (get_or bs 2 0) (get_or m 2 0) c)
-
-      pub letter-3 : get_or bs 2 0 ≡ get_or m 2 0 → eqb (get_or bs 3 0) (get_or m 3 0) ≡ same_list (take 4 bs) m
-      letter-3 same-2 =
-          simp (
-            letters-are,
-            eq-eqb (get_or bs 0 0) (get_or m 0 0) same-0,
-            eq-eqb (get_or bs 1 0) (get_or m 1 0) same-1,
-            eq-eqb (get_or bs 2 0) (get_or m 2 0) same-2,
-          )
-
 -- a list of fewer than four bytes has no mark
 short-mark : (bs : List ℕ) → length bs < 4 → same_list (take 4 bs) (mark sgr2) ≡ false
 unfolding mark

@@ -9,7 +9,7 @@ ghost use Rattle.defs.specs.Forms.{form_of, word_size, lengths_at, limits};
 ghost use Rattle.defs.specs.Record.{word_bytes, word_at, edges_at, bytes_at};
 ghost use Rattle.form.specs.Coded.{form_is, word_limit};
 
-#[derive(Clone, Copy)]
+#[derive(Clone, Copy, Debug, PartialEq, Eq)]
 pub enum Form {
     Sgr1,
     Sgr2,
@@ -90,26 +90,14 @@ pub fn begins_with(rec: &[u8], mark: &[u8]) -> bool
     requires { (4 ≤ length rec.now) × (length mark.now ≡ 4) }
     ensures { result ≡ same_list (take 4 rec.now) mark.now }
 {
-    if rec[0] != mark[0] {
-        return false;
-    }
-    if rec[1] != mark[1] {
-        return false;
-    }
-    if rec[2] != mark[2] {
-        return false;
-    }
-    rec[3] == mark[3]
+    &rec[..4] == mark
 }
 
 // A record's form, by its first four bytes.
 pub fn form_of(rec: &[u8]) -> Form
     ensures { form_is result ≡ form_of rec.now }
 {
-    if rec.len() < 4 {
-        return Form::Sgr1;
-    }
-    if begins_with(rec, b"SGR2") {
+    if 4 <= rec.len() && begins_with(rec, b"SGR2") {
         return Form::Sgr2;
     }
     Form::Sgr1
@@ -120,7 +108,7 @@ pub fn word_at(rec: &[u8], at: usize, form: Form) -> u32
     ensures { result ≡ word_at (form_is form) rec.now at }
 {
     match form {
-        Form::Sgr1 => le::u16_at(rec, at) as u32,
+        Form::Sgr1 => u32::from(le::u16_at(rec, at)),
         Form::Sgr2 => le::u32_at(rec, at),
     }
 }

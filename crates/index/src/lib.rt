@@ -12,9 +12,7 @@ pub fn build_index(es: &[u32], m: usize, n: usize, heads: &mut [u32], nexts: &mu
     ensures { Indexed m n es.now heads.new nexts.new }
 {
     compact::fill(heads, 2 * n, m as u32);
-    let mut e = m;
-    while 0 < e {
-        e -= 1;
+    for e in (0..m).rev() {
         let u = 2 * (store::edge_from(es, e) as usize);
         nexts[2 * e] = heads[u];
         heads[u] = e as u32;

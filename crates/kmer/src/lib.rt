@@ -13,22 +13,13 @@ pub const MOST_SIZE: u16 = 128;
 #[derive(Clone, Copy)]
 pub struct KmerSize(u16);
 
-#[derive(Clone, Copy)]
-pub enum MadeSize {
-    Size(KmerSize),
-    Refused,
-}
-
-pub fn kmer_size(n: u16) -> MadeSize
+pub fn kmer_size(n: u16) -> Option<KmerSize>
     ensures { result ≡ size_of n }
 {
-    if n < LEAST_SIZE {
-        return MadeSize::Refused;
+    if n < LEAST_SIZE || MOST_SIZE < n {
+        return None;
     }
-    if MOST_SIZE < n {
-        return MadeSize::Refused;
-    }
-    MadeSize::Size(KmerSize(n))
+    Some(KmerSize(n))
 }
 
 pub fn value(k: KmerSize) -> u16

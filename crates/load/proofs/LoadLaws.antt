@@ -145,25 +145,6 @@ vertices-end R q h = record { starts = λ k c. R.done.starts k (omega arith); si
 
 -- ---- bytes
 
-pub record ReadingBytes (bs : List ℕ) (at b : ℕ) (p₀ p : List ℕ) (i : ℕ) : Type 0 where
-  pub high : i ≤ b
-  pub len : length p ≡ length p₀
-  pub done : BytesRead bs at i p
-
-pub bytes-start : {bs : List ℕ} {at b : ℕ} {p : List ℕ} → ReadingBytes bs at b p p 0
-bytes-start = record { high = omega arith; len = refl; done = record { is = λ i h. absurd (omega arith) } }
-
-pub bytes-more : {bs : List ℕ} {at b : ℕ} {p₀ p : List ℕ} {i : ℕ} → ReadingBytes bs at b p₀ p i → i < b → b ≤ length p₀
-    → ReadingBytes bs at b p₀ (set p i (get_or bs (at + i) 0)) (i + 1)
-bytes-more {bs} {at} {b} {p₀} {p} {i} R h room = record {
-  high = omega arith;
-  len = length-set p i (get_or bs (at + i) 0) ∙ R.len;
-  done = record { is = set_more (λ k x. x ≡ get_or bs (at + k) 0) p i _ (omega (arith, R.len)) R.done.is refl };
-}
-
-pub bytes-end : {bs : List ℕ} {at b : ℕ} {p₀ p : List ℕ} {i : ℕ} → ReadingBytes bs at b p₀ p i → b ≤ i → BytesRead bs at b p
-bytes-end R h = record { is = λ k c. R.done.is k (omega arith) }
-
 -- ---- the graph
 
 module _ {bs : List ℕ} (L : Laid bs) where

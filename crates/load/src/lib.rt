@@ -16,13 +16,11 @@ fn load_edges(rec: &[u8], form: Form, es: &mut [u32], m: usize)
     requires { Laid rec.now × ((form_is form ≡ form_of rec.now) × ((m ≡ edges_of rec.now) × (4 * m ≤ length es.old))) }
     ensures { EdgesRead rec.now m es.new }
 {
-    let mut i = 0;
-    while i < m {
+    for i in 0..m {
         let from = record::edge_from_at(rec, form, i);
         let to = record::edge_to_at(rec, form, i);
         let support = record::edge_support_at(rec, form, i);
         store::put_edge(es, i, from, to, support, record::edge_flag_at(rec, form, i));
-        i += 1;
     }
 }
 
@@ -32,13 +30,11 @@ fn load_vertices(rec: &[u8], form: Form, vs: &mut [u32], n: usize, at: usize)
         × ((2 * n ≤ length vs.old) × (at ≤ bytes_at (form_of rec.now) (vertices_of rec.now) (edges_of rec.now))))) }
     ensures { VerticesRead rec.now at n vs.new }
 {
-    let mut i = 0;
     let mut start = at;
-    while i < n {
+    for i in 0..n {
         let len = record::length_at(rec, form, i);
         store::put_vertex(vs, i, start as u32, len as u32);
         start += len;
-        i += 1;
     }
 }
 
@@ -47,11 +43,7 @@ fn load_bytes(rec: &[u8], p: &mut [u8], at: usize, b: usize)
     requires { (at + b ≤ length rec.now) × (b ≤ length p.old) }
     ensures { BytesRead rec.now at b p.new }
 {
-    let mut i = 0;
-    while i < b {
-        p[i] = rec[at + i];
-        i += 1;
-    }
+    p[..b].copy_from_slice(&rec[at..at + b]);
 }
 
 // The size k is the one that the check of the layout made. The bytes in use are the whole record's.
@@ -65,9 +57,9 @@ pub fn load_graph(rec: &[u8], k: KmerSize, es: &mut [u32], vs: &mut [u32]) -> He
     load_edges(rec, form, es, m);
     load_vertices(rec, form, vs, n, form::bytes_at(form, n, m));
     Held {
-        k: k,
-        n: n,
-        m: m,
+        k,
+        n,
+        m,
         used: rec.len(),
     }
 }
@@ -77,17 +69,9 @@ pub fn load_pool(rec: &[u8], held: Held, vs: &mut [u32], p: &mut [u8]) -> Held
     requires { Poolable rec.now held vs.old p.old }
     ensures { SequencesPooled rec.now held result vs.new p.new }
 {
-    let vertices = held.n;
-    let edges = held.m;
     let form = form::form_of(rec);
     let b = record::byte_count(rec, form);
-    load_vertices(rec, form, vs, vertices, 0);
-    load_bytes(rec, p, form::bytes_at(form, vertices, edges), b);
-    let kmer_size = held.k;
-    Held {
-        k: kmer_size,
-        n: vertices,
-        m: edges,
-        used: b,
-    }
+    load_vertices(rec, form, vs, held.n, 0);
+    load_bytes(rec, p, form::bytes_at(form, held.n, held.m), b);
+    Held { used: b, ..held }
 }

@@ -11,14 +11,7 @@ pub fn same_part(p: &[u8], a: usize, b: usize, n: usize) -> bool
     requires { (a + n ≤ length p.now) × (b + n ≤ length p.now) }
     ensures { result ≡ same_list (part p.now a n) (part p.now b n) }
 {
-    let mut i = 0;
-    while i < n {
-        if p[a + i] != p[b + i] {
-            return false;
-        }
-        i += 1;
-    }
-    true
+    p[a..a + n] == p[b..b + n]
 }
 
 // Copies n bytes from `from` on to `to` on. The two parts do not overlap.
@@ -26,11 +19,7 @@ pub fn copy_within(p: &mut [u8], to: usize, from: usize, n: usize)
     requires { Apart p.old to from n }
     ensures { Moved p.old to from n p.new }
 {
-    let mut i = 0;
-    while i < n {
-        p[to + i] = p[from + i];
-        i += 1;
-    }
+    p.copy_within(from..from + n, to);
 }
 
 // Copies the sequences of n vertices, in order, to `base` on, and notes where each then starts behind `base`; how many bytes they are.
@@ -39,14 +28,12 @@ fn gather(vs: &mut [u32], n: usize, p: &mut [u8], base: usize) -> usize
     ensures { Packed base n vs.old p.old result vs.new p.new }
 {
     let mut used = 0;
-    let mut v = 0;
-    while v < n {
+    for v in 0..n {
         let start = store::start_number(vs, v) as usize;
         let len = store::len_number(vs, v) as usize;
         copy_within(p, base + used, start, len);
         store::put_start(vs, v, used as u32);
         used += len;
-        v += 1;
     }
     used
 }

@@ -14,9 +14,10 @@ use Rattle.defs.specs.Record.{kind_of, status_of, k_of, vertices_of, edges_of, b
 use Rattle.defs.specs.Refusals.{Takes, kmer_only, sequence_only, both_kinds, refusal_of, layout_causes, takes_kind, other_length, wrong_mark, past_limit, bad_edge}
 use Rattle.laws.proofs.ListLaws.{or-false, same_list-eq}
 use Rattle.kmer.specs.declared.KmerSize.{KmerSize}
-use Rattle.record.specs.Layout.{other_kmer_length, GoodEdge, WellFormed, layout_of}
-use Rattle.record.specs.declared.Layout.{Layout}
-use Rattle.record.specs.declared.Layout.TheVariants.{Formed, Refused}
+use Rattle.std.specs.Prelude.{Result, Ok, Err}
+use Rattle.refusal.specs.Refusals.{number_of_refusal, refused_by}
+use Rattle.refusal.specs.declared.Refusal.{Refusal}
+use Rattle.record.specs.Layout.{other_kmer_length, GoodEdge, WellFormed, LayoutOf}
 use Rattle.record.proofs.TurnLaws.{any_false}
 use Rattle.record.proofs.Tests.{no-cause, any-bad-is, offsets-agree, lengths-offset, edges_offset, bytes-offset}
 use Rattle.record.proofs.Tests.{whole_is, sum_is, kmers-are}
@@ -107,40 +108,13 @@ well-formed t bs h =
       good = λ i below. good-edge bs i (any_false (bad_edge bs) (edges_of bs) (sym (any-bad-is bs) ∙ n.4) i below);
     }
 
--- what each answer of the check says
-size_in : Layout → ℕ
-size_in (Formed k) = k.0
-size_in (Refused n) = 0
-
-number_in : Layout → ℕ
-number_in (Formed k) = 0
-number_in (Refused n) = n
-
-formed-zero : (n k : ℕ) {s : KmerSize} → layout_of n k ≡ Formed s → n ≡ 0
-unfolding layout_of
-formed-zero zero k e = refl
-formed-zero (suc n) k e = let z : ◌≡◌ {A = ℕ} 0 1 = cc in absurd (omega arith)
-
-formed-k : (n k : ℕ) {s : KmerSize} → layout_of n k ≡ Formed s → s.0 ≡ k
-unfolding layout_of size_in
-formed-k zero k e = sym (ap size_in e)
-formed-k (suc n) k e = let z : ◌≡◌ {A = ℕ} 0 1 = cc in absurd (omega arith)
-
-refused-n : (n k : ℕ) {m : ℕ} → layout_of n k ≡ Refused m → (m ≡ n) × (m ≡ 0 → ⊥)
-unfolding layout_of number_in
-refused-n zero k e = let z : ◌≡◌ {A = ℕ} 0 1 = cc in absurd (omega arith)
-refused-n (suc n) k {m} e = let q : m ≡ suc n = sym (ap number_in e) in (q, λ z. omega arith)
-
-module _ (t : Takes) (bs : List ℕ) {r : Layout} (e : r ≡ layout_of (refusal_of (layout_causes t bs)) (k_of bs)) where
+module _ (t : Takes) (bs : List ℕ) {r : Result KmerSize Refusal} (l : LayoutOf (refusal_of (layout_causes t bs)) (k_of bs) r) where
   -- a well formed record has none of the causes, and its k is the size that was made
-  pub formed-none : {k : KmerSize} → r ≡ Formed k → refusal_of (layout_causes t bs) ≡ 0
-  formed-none f = formed-zero _ (k_of bs) (sym e ∙ f)
+  pub formed-none : {k : KmerSize} → r ≡ Ok k → refusal_of (layout_causes t bs) ≡ 0
+  formed-none f = sym l.number ∙ ap refused_by f
 
-  pub formed-size : {k : KmerSize} → r ≡ Formed k → k.0 ≡ k_of bs
-  formed-size f = formed-k (refusal_of (layout_causes t bs)) _ (sym e ∙ f)
+  pub formed-size : {k : KmerSize} → r ≡ Ok k → k.0 ≡ k_of bs
+  formed-size f = l.size f
 
-  pub refused-number : {n : ℕ} → r ≡ Refused n → n ≡ refusal_of (layout_causes t bs)
-  refused-number f = (refused-n _ (k_of bs) (sym e ∙ f)).0
-
-  pub refused-some : {n : ℕ} → r ≡ Refused n → n ≡ 0 → ⊥
-  refused-some f = (refused-n (refusal_of (layout_causes t bs)) (k_of bs) (sym e ∙ f)).1
+  pub layout-number : {n : Refusal} → r ≡ Err n → number_of_refusal n ≡ refusal_of (layout_causes t bs)
+  layout-number f = sym (ap refused_by f) ∙ l.number

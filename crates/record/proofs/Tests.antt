@@ -25,8 +25,11 @@ use Rattle.record.specs.declared.Takes as declared
 use Rattle.record.specs.declared.Takes.TheVariants.{KmerOnly, SequenceOnly, BothKinds}
 use Rattle.record.specs.Headed.{Headed}
 use Rattle.record.specs.Kinds.{takes_of}
-use Rattle.record.specs.Layout.{count_past_limit, other_kmer_length, offsets_disagree, layout_of}
-use Rattle.record.specs.declared.Layout.TheVariants.{Formed, Refused}
+use Rattle.std.specs.Prelude.{Ok, Err}
+use Rattle.refusal.specs.Refusals.{number_of_refusal}
+use Rattle.refusal.specs.declared.Refusal.{Refusal}
+use Rattle.refusal.specs.declared.Refusal.TheVariants.{OtherLength, WrongMark, PastLimit, LayoutDisagrees, BadEdge}
+use Rattle.record.specs.Layout.{count_past_limit, other_kmer_length, offsets_disagree, LayoutOf}
 
 or_assoc : (a b c : Bool) → (a || (b || c)) ≡ ((a || b) || c)
 or_assoc true b c = refl
@@ -283,37 +286,37 @@ module _ (t : Takes) (bs : List ℕ) where
   unfolding layout_causes
   first-five = simp (refusal-cons, refusal-nil)
 
-  -- what the check gives for the number m
-  layout-as : (m : ℕ) → m ≡ refusal_of (layout_causes t bs) → layout_of m (k_of bs) ≡ layout_of (refusal_of (layout_causes t bs)) (k_of bs)
-  layout-as m e = ap (λ (n : ℕ). layout_of n (k_of bs)) e
+  -- what the check gives where it refuses
+  refused-as : (r : Refusal) → number_of_refusal r ≡ refusal_of (layout_causes t bs) → LayoutOf (refusal_of (layout_causes t bs)) (k_of bs) (Err r)
+  refused-as r e = record {
+    number = e;
+    size = λ f. cc;
+  }
 
-  pub refusal-1 : other_length bs ≡ true → Refused 1 ≡ layout_of (refusal_of (layout_causes t bs)) (k_of bs)
-  unfolding layout_of
-  refusal-1 a = layout-as 1 (simp (first-five, a))
+  pub refusal-1 : other_length bs ≡ true → LayoutOf (refusal_of (layout_causes t bs)) (k_of bs) (Err OtherLength)
+  refusal-1 a = refused-as OtherLength (simp (first-five, a))
 
   module _ (a : other_length bs ≡ false) where
-    pub refusal-2 : wrong_mark t bs ≡ true → Refused 2 ≡ layout_of (refusal_of (layout_causes t bs)) (k_of bs)
-    unfolding layout_of
-    refusal-2 b = layout-as 2 (simp (first-five, a, b))
+    pub refusal-2 : wrong_mark t bs ≡ true → LayoutOf (refusal_of (layout_causes t bs)) (k_of bs) (Err WrongMark)
+    refusal-2 b = refused-as WrongMark (simp (first-five, a, b))
 
     module _ (b : wrong_mark t bs ≡ false) where
-      pub refusal-3 : past_limit bs ≡ true → Refused 3 ≡ layout_of (refusal_of (layout_causes t bs)) (k_of bs)
-      unfolding layout_of
-      refusal-3 c = layout-as 3 (simp (first-five, a, b, c))
+      pub refusal-3 : past_limit bs ≡ true → LayoutOf (refusal_of (layout_causes t bs)) (k_of bs) (Err PastLimit)
+      refusal-3 c = refused-as PastLimit (simp (first-five, a, b, c))
 
       module _ (c : past_limit bs ≡ false) where
-        pub refusal-4 : layout_disagrees bs ≡ true → Refused 4 ≡ layout_of (refusal_of (layout_causes t bs)) (k_of bs)
-        unfolding layout_of
-        refusal-4 d = layout-as 4 (simp (first-five, a, b, c, d))
+        pub refusal-4 : layout_disagrees bs ≡ true → LayoutOf (refusal_of (layout_causes t bs)) (k_of bs) (Err LayoutDisagrees)
+        refusal-4 d = refused-as LayoutDisagrees (simp (first-five, a, b, c, d))
 
         module _ (d : layout_disagrees bs ≡ false) where
-          pub refusal-5 : any_bad_edge bs ≡ true → Refused 5 ≡ layout_of (refusal_of (layout_causes t bs)) (k_of bs)
-          unfolding layout_of
-          refusal-5 e = layout-as 5 (simp (first-five, a, b, c, d, e))
+          pub refusal-5 : any_bad_edge bs ≡ true → LayoutOf (refusal_of (layout_causes t bs)) (k_of bs) (Err BadEdge)
+          refusal-5 e = refused-as BadEdge (simp (first-five, a, b, c, d, e))
 
-          pub accepted : {k : KmerSize} → k.0 ≡ k_of bs → any_bad_edge bs ≡ false → Formed k ≡ layout_of (refusal_of (layout_causes t bs)) (k_of bs)
-          unfolding layout_of
-          accepted q e = (λ i. Formed record { 0 = q i }) ∙ layout-as 0 (simp (first-five, a, b, c, d, e))
+          pub accepted : {k : KmerSize} → k.0 ≡ k_of bs → any_bad_edge bs ≡ false → LayoutOf (refusal_of (layout_causes t bs)) (k_of bs) (Ok k)
+          accepted {k = k} q e = record {
+            number = simp (first-five, a, b, c, d, e);
+            size = λ {s} f. let g : k ≡ s = cc in ap (λ (x : KmerSize). x.0) (sym g) ∙ q;
+          }
 
   not_there : (b : Bool) (m n : ℕ) → 0 < m → cond b m n ≡ 0 → (b ≡ false) × (n ≡ 0)
   not_there true m n h e = absurd (omega arith)

@@ -1,17 +1,18 @@
 -- The check of a record's layout, and what is known of a record that none of the refusals 1 to 5 meets.
 -- Assumes nothing.
-use Rattle.std.specs.Prelude.{ℕ, zero, suc, ◌<◌, ◌≤◌, ◌≡◌, Bool, not, ◌&&◌, ◌||◌, List, eqb, ltb, length, take}
+use Rattle.std.specs.Prelude.{ℕ, Result, Ok, ◌<◌, ◌≤◌, ◌≡◌, Bool, not, ◌&&◌, ◌||◌, List, eqb, ltb, length, take}
 use Rattle.defs.specs.Lists.{tab, sum}
 use Rattle.defs.specs.Forms.{mark, form_of, lengths_at, limits}
 use Rattle.defs.specs.Record.{kind_of, status_of, k_of, vertices_of, edges_of, bytes_of, lengths_offset_of, edges_offset_of, bytes_offset_of, whole_of}
 use Rattle.defs.specs.Record.{edges_at, bytes_at, whole_length, length_at, edge_at, flag_at}
-use Rattle.record.specs.declared.Layout.{Layout}
-use Rattle.record.specs.declared.Layout.TheVariants.{Formed, Refused}
+use Rattle.kmer.specs.declared.KmerSize.{KmerSize}
+use Rattle.refusal.specs.Refusals.{refused_by}
+use Rattle.refusal.specs.declared.Refusal.{Refusal}
 
--- what the check gives, by the number of the refusal: with 0 the k-mer size k
-unfoldable pub layout_of : ℕ → ℕ → Layout
-layout_of zero k = Formed record { 0 = k }
-layout_of (suc n) k = Refused (suc n)
+-- what the check gives, by the number n of the refusal: with 0 the k-mer size k
+pub record LayoutOf (n k : ℕ) (r : Result KmerSize Refusal) : Type 0 where
+  pub number : refused_by r ≡ n
+  pub size : {s : KmerSize} → r ≡ Ok s → s.0 ≡ k
 
 -- the tests of cause 3 that k does not enter
 unfoldable pub count_past_limit : List ℕ → Bool

@@ -10,10 +10,11 @@ ghost use Rattle.form.specs.Coded.{form_is};
 ghost use Rattle.kmer.specs.Size.{size_of};
 ghost use Rattle.record.specs.Headed.{Headed, LengthInside, LengthsInside, EdgeInside, EdgesInside};
 ghost use Rattle.record.specs.Kinds.{takes_of};
-ghost use Rattle.record.specs.Layout.{count_past_limit, other_kmer_length, offsets_disagree, layout_of};
+ghost use Rattle.record.specs.Layout.{count_past_limit, other_kmer_length, offsets_disagree, LayoutOf};
 
 use form::Form;
-use kmer::{KmerSize, MadeSize};
+use kmer::KmerSize;
+use refusal::Refusal;
 
 // Which kinds a call takes.
 #[derive(Clone, Copy)]
@@ -23,15 +24,8 @@ pub enum Takes {
     BothKinds,
 }
 
-// What the check of a record's layout gives: the k-mer size, which the check has made, or the number of the refusal, 1 to 5.
-#[derive(Clone, Copy)]
-pub enum Layout {
-    Formed(KmerSize),
-    Refused(u32),
-}
-
 // The size k that the header tells, if it is one.
-pub fn kmer_size_of(rec: &[u8]) -> MadeSize
+pub fn kmer_size_of(rec: &[u8]) -> Option<KmerSize>
     requires { 32 ≤ length rec.now }
     ensures { result ≡ size_of (k_of rec.now) }
 {
@@ -99,13 +93,7 @@ pub fn edge_flag_at(rec: &[u8], form: Form, i: usize) -> u32
     requires { EdgeInside form rec.now i }
     ensures { result ≡ flag_at rec.now i }
 {
-    wide(rec[edge_start(rec, form, i) + 2 * form::word_size(form) + 4])
-}
-
-fn wide(x: u8) -> u32
-    ensures { (result ≡ x) × (result < 256) }
-{
-    x as u32
+    u32::from(rec[edge_start(rec, form, i) + 2 * form::word_size(form) + 4])
 }
 
 // 1: shorter than its header, or not the length it states.
@@ -183,11 +171,9 @@ fn total_length(rec: &[u8], form: Form, v: usize) -> usize
     requires { LengthsInside form rec.now v }
     ensures { result ≡ sum (tab v (length_at rec.now)) }
 {
-    let mut i = 0;
     let mut total = 0;
-    while i < v {
-        total = total + length_at(rec, form, i);
-        i += 1;
+    for i in 0..v {
+        total += length_at(rec, form, i);
     }
     total
 }
@@ -198,11 +184,8 @@ fn other_kmer_length(rec: &[u8], form: Form, k: KmerSize, v: usize) -> bool
     ensures { result ≡ any_of (other_kmer_length rec.now) (up_from 0 v) }
 {
     let size = kmer::value(k) as usize;
-    let mut i = 0;
-    while i < v {
-        let j = i;
-        i += 1;
-        if length_at(rec, form, j) != size {
+    for i in 0..v {
+        if length_at(rec, form, i) != size {
             return true;
         }
     }
@@ -267,11 +250,8 @@ fn any_bad_edge(rec: &[u8], form: Form) -> bool
     ensures { result ≡ any_bad_edge rec.now }
 {
     let e = edge_count(rec, form);
-    let mut i = 0;
-    while i < e {
-        let j = i;
-        i += 1;
-        if bad_edge(rec, form, j) {
+    for i in 0..e {
+        if bad_edge(rec, form, i) {
             return true;
         }
     }
@@ -279,27 +259,27 @@ fn any_bad_edge(rec: &[u8], form: Form) -> bool
 }
 
 // The first of the refusals 1 to 5 whose cause the record has; where there is none, its k-mer size.
-pub fn check_layout(rec: &[u8], takes: Takes) -> Layout
-    ensures { result ≡ layout_of (refusal_of (layout_causes (takes_of takes) rec.now)) (k_of rec.now) }
+pub fn check_layout(rec: &[u8], takes: Takes) -> Result<KmerSize, Refusal>
+    ensures { LayoutOf (refusal_of (layout_causes (takes_of takes) rec.now)) (k_of rec.now) result }
 {
     let form = form::form_of(rec);
     if other_length(rec, form) {
-        return Layout::Refused(1);
+        return Err(Refusal::OtherLength);
     }
     if wrong_mark(rec, form, takes) {
-        return Layout::Refused(2);
+        return Err(Refusal::WrongMark);
     }
-    let MadeSize::Size(k) = kmer_size_of(rec) else {
-        return Layout::Refused(3);
+    let Some(k) = kmer_size_of(rec) else {
+        return Err(Refusal::PastLimit);
     };
     if count_past_limit(rec, form) {
-        return Layout::Refused(3);
+        return Err(Refusal::PastLimit);
     }
     if layout_disagrees(rec, form, k) {
-        return Layout::Refused(4);
+        return Err(Refusal::LayoutDisagrees);
     }
     if any_bad_edge(rec, form) {
-        return Layout::Refused(5);
+        return Err(Refusal::BadEdge);
     }
-    Layout::Formed(k)
+    Ok(k)
 }

@@ -22,8 +22,8 @@ use Rattle.index.specs.Index.{edge_end, at_from, incident_edges, Index}
 use Rattle.index.proofs.AdjLaws.{at_head, at-step, at-end}
 use Rattle.index.proofs.IndexLaws.{from_is, into-is}
 use Rattle.refs.specs.Refs.{ref_at, RefNode, RefSource, RefSink, vertex_of, FirstSource, FirstSink}
-use Rattle.refs.specs.declared.OptionVertex.{OptionVertex}
-use Rattle.refs.specs.declared.OptionVertex.TheVariants.{Some, None}
+use Rattle.std.specs.Prelude.{Some, None}
+use Rattle.std.specs.Prelude as prelude
 
 -- ---- a test of some edge at v, by the index: it is what is left from e on
 
@@ -188,7 +188,7 @@ module _ {m n : ℕ} {es : List ℕ} where
   }
 
 -- what an answer says of the definition
-module _ {m n : ℕ} {es : List ℕ} {r : OptionVertex} where
+module _ {m n : ℕ} {es : List ℕ} {r : prelude.Option ℕ} where
   pub source-found : FirstSource m n es r → {v : ℕ} → r ≡ Some v → (k : ℕ) (vs p : List ℕ) → reference_source_vertex (graph_in k n m es vs p) ≡ some v
   source-found F q k vs p = sym (F.is k vs p) ∙ ap vertex_of q
 

@@ -6,13 +6,6 @@ ghost use Rattle.defs.specs.Lists.{any_of};
 ghost use Rattle.index.specs.Index.{Indexed, edge_end, incident_edges};
 ghost use Rattle.refs.specs.Refs.{ref_at, RefNode, RefSource, RefSink, FirstSource, FirstSink};
 
-// A vertex, or none: the Rust's `Option<usize>`.
-#[derive(Clone, Copy)]
-pub enum OptionVertex {
-    Some(usize),
-    None,
-}
-
 // Whether one of v's edges is a reference edge; off 0 outgoing, 1 incoming.
 pub fn any_ref(
     es: &[u32],
@@ -86,18 +79,16 @@ pub fn reference_source_vertex(
     n: usize,
     heads: &[u32],
     nexts: &[u32],
-) -> OptionVertex
+) -> Option<usize>
     requires { Indexed m n es.now heads.now nexts.now }
     ensures { FirstSource m n es.now result }
 {
-    let mut v = 0;
-    while v < n {
+    for v in 0..n {
         if is_ref_source(es, m, n, heads, nexts, v) {
-            return OptionVertex::Some(v);
+            return Some(v);
         }
-        v += 1;
     }
-    OptionVertex::None
+    None
 }
 
 // The first reference sink.
@@ -107,16 +98,14 @@ pub fn reference_sink_vertex(
     n: usize,
     heads: &[u32],
     nexts: &[u32],
-) -> OptionVertex
+) -> Option<usize>
     requires { Indexed m n es.now heads.now nexts.now }
     ensures { FirstSink m n es.now result }
 {
-    let mut v = 0;
-    while v < n {
+    for v in 0..n {
         if is_ref_sink(es, m, n, heads, nexts, v) {
-            return OptionVertex::Some(v);
+            return Some(v);
         }
-        v += 1;
     }
-    OptionVertex::None
+    None
 }

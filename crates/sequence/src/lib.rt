@@ -17,10 +17,8 @@ pub fn sequence_start(rec: &[u8], v: usize) -> usize
         record::vertex_count(rec, form),
         record::edge_count(rec, form),
     );
-    let mut i = 0;
-    while i < v {
-        at = at + record::length_at(rec, form, i);
-        i += 1;
+    for i in 0..v {
+        at += record::length_at(rec, form, i);
     }
     at
 }

@@ -54,16 +54,6 @@ four-length : (w x y z : ℕ) → length (le32 w ++ le32 x ++ le32 y ++ le32 z) 
 unfolding le32
 four-length w x y z = refl
 
--- four letters at the front
-pub letters-put : (w l : List ℕ) → length w ≡ 4
-    → set (set (set (set l 0 (get_or w 0 0)) 1 (get_or w 1 0)) 2 (get_or w 2 0)) 3 (get_or w 3 0) ≡ sets l 0 w
-letters-put [] l h = absurd (omega arith)
-letters-put (a ∷ []) l h = absurd (omega arith)
-letters-put (a ∷ b ∷ []) l h = absurd (omega arith)
-letters-put (a ∷ b ∷ c ∷ []) l h = absurd (omega arith)
-letters-put (a ∷ b ∷ c ∷ d ∷ []) l h = refl
-letters-put (a ∷ b ∷ c ∷ d ∷ e ∷ w) l h = absurd (omega arith)
-
 module _ (form : Code.Form) (l : List ℕ) {l' : List ℕ} where
   pub mark-put-1 : form ≡ Sgr1 → l' ≡ sets l 0 (83 ∷ 71 ∷ 82 ∷ 49 ∷ []) → l' ≡ sets l 0 (mark (form_is form))
   unfolding mark

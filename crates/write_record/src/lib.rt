@@ -19,10 +19,7 @@ fn put_letters(out: &mut [u8], letters: &[u8])
     requires { (4 ≤ length out.old) × (length letters.now ≡ 4) }
     ensures { out.new ≡ sets out.old 0 letters.now }
 {
-    out[0] = letters[0];
-    out[1] = letters[1];
-    out[2] = letters[2];
-    out[3] = letters[3];
+    out[..4].copy_from_slice(letters);
 }
 
 // The four letters that a record begins with.
@@ -90,10 +87,8 @@ fn put_lengths(out: &mut [u8], form: Form, vs: &[u32], n: usize)
     requires { LengthsFit (form_is form) n vs.now out.old }
     ensures { out.new ≡ sets out.old (lengths_at (form_is form)) (concat (tab n (length_bytes (form_is form) vs.now))) }
 {
-    let mut i = 0;
-    while i < n {
+    for i in 0..n {
         form::put_word(out, form::edges_at(form, i), form, store::len_number(vs, i));
-        i += 1;
     }
 }
 
@@ -115,10 +110,8 @@ fn put_edges(out: &mut [u8], form: Form, n: usize, es: &[u32], m: usize)
     ensures { out.new ≡ sets out.old (edges_at (form_is form) n)
         (concat (tab m (λ i. encode_edge (form_is form) (edge_in es.now i)))) }
 {
-    let mut i = 0;
-    while i < m {
+    for i in 0..m {
         put_edge(out, form, form::bytes_at(form, n, i), es, i);
-        i += 1;
     }
 }
 
@@ -126,11 +119,7 @@ fn put_sequence(out: &mut [u8], at: usize, p: &[u8], start: usize, len: usize)
     requires { (at + len ≤ length out.old) × (start + len ≤ length p.now) }
     ensures { out.new ≡ sets out.old at (part p.now start len) }
 {
-    let mut i = 0;
-    while i < len {
-        out[at + i] = p[start + i];
-        i += 1;
-    }
+    out[at..at + len].copy_from_slice(&p[start..start + len]);
 }
 
 fn put_sequences(out: &mut [u8], at: usize, vs: &[u32], n: usize, p: &[u8])
@@ -138,13 +127,11 @@ fn put_sequences(out: &mut [u8], at: usize, vs: &[u32], n: usize, p: &[u8])
     ensures { out.new ≡ sets out.old at (concat (tab n (seq_in vs.now p.now))) }
 {
     let mut to = at;
-    let mut v = 0;
-    while v < n {
+    for v in 0..n {
         let start = store::start_number(vs, v) as usize;
         let len = store::len_number(vs, v) as usize;
         put_sequence(out, to, p, start, len);
         to += len;
-        v += 1;
     }
 }
 
@@ -154,10 +141,8 @@ pub fn sequence_bytes(vs: &[u32], n: usize) -> usize
     ensures { result ≡ bytes_in n vs.now }
 {
     let mut total = 0;
-    let mut v = 0;
-    while v < n {
+    for v in 0..n {
         total += store::len_number(vs, v) as usize;
-        v += 1;
     }
     total
 }

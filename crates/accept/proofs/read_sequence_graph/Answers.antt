@@ -14,21 +14,21 @@ use Rattle.accept.proofs.AcceptLaws.{
 use borrow.Author.Rules.{rules}
 use Rattle.accept.proofs.read_sequence_graph.Goals as goal
 
-pub returns-in-Refused : goal.returns-in-Refused
-returns-in-Refused c = read-refused c.args.rec.now c.check_layout.ensures c.in-Refused.is
+pub returns-in_err-k : goal.returns-in_err-k
+returns-in_err-k c = read-refused c.args.rec.now c.check_layout.ensures c.in_err-k.was
 
 pub load_graph-held-requires : goal.load_graph-held-requires
 load_graph-held-requires c = (
-  layout-size c.args.rec.now c.check_layout.ensures c.in-Formed.is,
+  layout-size c.args.rec.now c.check_layout.ensures c.in_ok-k.was,
   read-loadable c.args.rec.now
-      (layout-none c.args.rec.now c.check_layout.ensures c.in-Formed.is) c.requires,
+      (layout-none c.args.rec.now c.check_layout.ensures c.in_ok-k.was) c.requires,
 )
 
 pub build_index-requires : goal.build_index-requires
 build_index-requires c =
     read-indexable
     c.args.rec.now
-    (layout-none c.args.rec.now c.check_layout.ensures c.in-Formed.is)
+    (layout-none c.args.rec.now c.check_layout.ensures c.in_ok-k.was)
     c.requires
     c.load_graph-held.ensures
     c.load_graph-held.auto.es
@@ -37,14 +37,14 @@ pub doubled_edge-requires : goal.doubled_edge-requires
 doubled_edge-requires c = (
   c.build_index.ensures,
   read-markable c.args.rec.now
-      (layout-none c.args.rec.now c.check_layout.ensures c.in-Formed.is) c.requires c.load_graph-held.ensures,
+      (layout-none c.args.rec.now c.check_layout.ensures c.in_ok-k.was) c.requires c.load_graph-held.ensures,
 )
 
 pub returns-then-doubled_edge : goal.returns-then-doubled_edge
 returns-then-doubled_edge c =
     read-6
     c.args.rec.now
-    (layout-none c.args.rec.now c.check_layout.ensures c.in-Formed.is)
+    (layout-none c.args.rec.now c.check_layout.ensures c.in_ok-k.was)
     c.requires
     c.load_graph-held.ensures
     c.doubled_edge.ensures
@@ -55,10 +55,10 @@ has_cycle-requires c = (
   c.build_index.ensures,
   (
     (read-indexable c.args.rec.now
-        (layout-none c.args.rec.now c.check_layout.ensures c.in-Formed.is) c.requires
+        (layout-none c.args.rec.now c.check_layout.ensures c.in_ok-k.was) c.requires
         c.load_graph-held.ensures c.load_graph-held.auto.es).small,
     read-peelable c.args.rec.now
-        (layout-none c.args.rec.now c.check_layout.ensures c.in-Formed.is) c.requires
+        (layout-none c.args.rec.now c.check_layout.ensures c.in_ok-k.was) c.requires
         c.load_graph-held.ensures c.doubled_edge.auto.marks,
   ),
 )
@@ -67,7 +67,7 @@ pub returns-then-has_cycle : goal.returns-then-has_cycle
 returns-then-has_cycle c =
     read-7
     c.args.rec.now
-    (layout-none c.args.rec.now c.check_layout.ensures c.in-Formed.is)
+    (layout-none c.args.rec.now c.check_layout.ensures c.in_ok-k.was)
     c.requires
     c.load_graph-held.ensures
     c.doubled_edge.ensures
@@ -79,7 +79,7 @@ pub returns : goal.returns
 returns c =
     read-0
     c.args.rec.now
-    (layout-none c.args.rec.now c.check_layout.ensures c.in-Formed.is)
+    (layout-none c.args.rec.now c.check_layout.ensures c.in_ok-k.was)
     c.requires
     c.load_graph-held.ensures
     c.doubled_edge.ensures

@@ -11,31 +11,35 @@ use Rattle.compact.proofs.LoopLaws.{
   closing-e-end,
   closing-e-from,
 }
+use Rattle.compact.proofs.close_edges.Goals.{then-both_set, else-both_set}
 use Rattle.compact.proofs.close_edges.Goals as goal
 
-pub loop-i-init : goal.loop-i-init
-loop-i-init c = closing-e-start
+pub loop-e-init : goal.loop-e-init
+loop-e-init c = closing-e-start
 
-pub loop-i-preserved-then-both_set : goal.loop-i-preserved-then-both_set
-loop-i-preserved-then-both_set c =
-    closing-e-keep
-    c.loop-i.invariant
-    c.loop-i-test.true
-    c.edge_from.ensures
-    c.edge_to.ensures
-    c.requires.0
-    c.requires.1.0
-    c.requires.1.1
-    (sym c.both_set.ensures.is ∙ c.if-both_set.true)
-    c.edge_support-s.ensures
-    c.edge_flag-f.ensures
-    c.put_edge.ensures
-
-pub loop-i-preserved : goal.loop-i-preserved
-loop-i-preserved c =
-    closing-e-drop
-    c.loop-i.invariant
-    c.loop-i-test.true
-    c.edge_from.ensures
-    c.edge_to.ensures
-    (sym c.both_set.ensures.is ∙ c.if-both_set.false)
+pub loop-e-preserved : goal.loop-e-preserved
+loop-e-preserved c =
+    elim c.if-both_set.branch [
+        then-both_set w ↦
+            rw (w.es-is, w.j-is)
+            (closing-e-keep
+            c.loop-e.invariant
+            c.loop-e-test.true
+            c.edge_from.ensures
+            c.edge_to.ensures
+            c.requires.0
+            c.requires.1.0
+            c.requires.1.1
+            (sym c.both_set.ensures.is ∙ w.if-both_set.true)
+            w.edge_support-s.ensures
+            w.edge_flag-f.ensures
+            w.put_edge.ensures)
+        | else-both_set w ↦
+            rw (w.es-is, w.j-is)
+            (closing-e-drop
+            c.loop-e.invariant
+            c.loop-e-test.true
+            c.edge_from.ensures
+            c.edge_to.ensures
+            (sym c.both_set.ensures.is ∙ w.if-both_set.false))
+    ]

@@ -13,8 +13,5 @@ use Rattle.compact.proofs.LoopLaws.{
 }
 use Rattle.compact.proofs.close_edges.Given as goal
 
-abbrev pub invariant-loop-i : goal.invariant-loop-i
-invariant-loop-i l = ClosingE l.map l.m l.initial.es l.es l.i l.j
-
-abbrev pub decreases-loop-i : goal.decreases-loop-i
-decreases-loop-i l = l.m - l.i
+abbrev pub invariant-loop-e : goal.invariant-loop-e
+invariant-loop-e l = ClosingE l.map l.m l.initial.es l.es l.e l.j

@@ -4,8 +4,5 @@ use Prim.Native.Nat.{◌-◌}
 use Rattle.compact.proofs.LoopLaws.{ClosingV, closing-v-start, closing-v-drop, closing-v-keep, closing-v-end}
 use Rattle.compact.proofs.close_vertices.Given as goal
 
-abbrev pub invariant-loop-i : goal.invariant-loop-i
-invariant-loop-i l = ClosingV l.map l.n l.initial.vs l.vs l.i l.j
-
-abbrev pub decreases-loop-i : goal.decreases-loop-i
-decreases-loop-i l = l.n - l.i
+abbrev pub invariant-loop-v : goal.invariant-loop-v
+invariant-loop-v l = ClosingV l.map l.n l.initial.vs l.vs l.v l.j

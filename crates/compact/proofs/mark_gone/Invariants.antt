@@ -7,6 +7,3 @@ use Rattle.compact.proofs.mark_gone.Given as goal
 
 abbrev pub invariant-loop-i : goal.invariant-loop-i
 invariant-loop-i l = MarkingGone l.n l.g l.gone l.initial.map l.map l.i
-
-abbrev pub decreases-loop-i : goal.decreases-loop-i
-decreases-loop-i l = l.g - l.i

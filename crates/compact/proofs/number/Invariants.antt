@@ -6,6 +6,3 @@ use Rattle.compact.proofs.number.Given as goal
 
 abbrev pub invariant-loop-v : goal.invariant-loop-v
 invariant-loop-v l = Numbering l.n l.initial.map l.map l.v l.j
-
-abbrev pub decreases-loop-v : goal.decreases-loop-v
-decreases-loop-v l = l.n - l.v

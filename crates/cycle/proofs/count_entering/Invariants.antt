@@ -7,6 +7,3 @@ use Rattle.cycle.proofs.count_entering.Given as goal
 
 abbrev pub invariant-loop-v : goal.invariant-loop-v
 invariant-loop-v l = Counting l.m l.n l.es l.initial.degrees l.degrees l.v
-
-abbrev pub decreases-loop-v : goal.decreases-loop-v
-decreases-loop-v l = l.n - l.v

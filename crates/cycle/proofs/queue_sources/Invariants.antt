@@ -6,6 +6,3 @@ use Rattle.cycle.proofs.queue_sources.Given as goal
 
 abbrev pub invariant-loop-v : goal.invariant-loop-v
 invariant-loop-v l = Sourcing l.n l.degrees l.initial.queue l.queue l.tail l.v
-
-abbrev pub decreases-loop-v : goal.decreases-loop-v
-decreases-loop-v l = l.n - l.v

@@ -14,6 +14,3 @@ use Rattle.doubled.proofs.doubled_edge.Given as goal
 
 abbrev pub invariant-loop-v : goal.invariant-loop-v
 invariant-loop-v l = ScanningEdges l.m l.n l.es l.initial.marks l.marks l.v
-
-abbrev pub decreases-loop-v : goal.decreases-loop-v
-decreases-loop-v l = l.n - l.v

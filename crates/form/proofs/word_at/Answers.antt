@@ -13,7 +13,7 @@ u32_at-requires c = omega (arith, c.requires, word-2 _ c.in-Sgr2.is)
 
 pub returns-in-Sgr1 : goal.returns-in-Sgr1
 returns-in-Sgr1 c =
-    c.u16_at.ensures ∙ read-1 _ c.in-Sgr1.is _ _
+    c.from.ensures ∙ c.u16_at.ensures ∙ read-1 _ c.in-Sgr1.is _ _
 
 pub returns-in-Sgr2 : goal.returns-in-Sgr2
 returns-in-Sgr2 c =

@@ -8,6 +8,3 @@ use Rattle.index.proofs.build_index.Given as goal
 
 abbrev pub invariant-loop-e : goal.invariant-loop-e
 invariant-loop-e l = Building l.m l.n l.es l.initial.heads l.initial.nexts l.heads l.nexts l.e
-
-abbrev pub decreases-loop-e : goal.decreases-loop-e
-decreases-loop-e l = l.e

@@ -1,12 +1,10 @@
 -- `le::put_u16` meets its contract.
--- `le::put_u16` meets its contract. Assumes nothing.
-use borrow.Author.Rules.{rules}
 use native.Mathlib.Omega.{arith}
-use native.Mathlib.Numerals.{add-one}
-use lib.ListN.{length-set}
+use mathlib.Core.Path.{◌∙◌}
 use Rattle.defs.specs.Record.{le16}
+use Rattle.le.proofs.Parts.{put_mid-sets}
 use Rattle.le.proofs.put_u16.Goals as goal
 
 pub returns : goal.returns
 unfolding le16
-returns c = simp add-one
+returns c = put_mid-sets _ _ _ _ (le16 c.args.v) (c.copy_from_slice.ensures.after ∙ c.to_le_bytes.ensures) (omega arith) (omega arith)

@@ -1,12 +1,10 @@
 -- `le::put_u32` meets its contract.
--- `le::put_u32` meets its contract. Assumes nothing.
-use borrow.Author.Rules.{rules}
 use native.Mathlib.Omega.{arith}
-use native.Mathlib.Numerals.{add-one, add-two, add-three}
-use lib.ListN.{length-set}
+use mathlib.Core.Path.{◌∙◌}
 use Rattle.defs.specs.Record.{le32}
+use Rattle.le.proofs.Parts.{put_mid-sets}
 use Rattle.le.proofs.put_u32.Goals as goal
 
 pub returns : goal.returns
 unfolding le32
-returns c = simp (add-one, add-two, add-three)
+returns c = put_mid-sets _ _ _ _ (le32 c.args.v) (c.copy_from_slice.ensures.after ∙ c.to_le_bytes.ensures) (omega arith) (omega arith)

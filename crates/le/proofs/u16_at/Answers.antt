@@ -1,8 +1,6 @@
 -- `le::u16_at` meets its contract.
--- `le::u16_at` meets its contract. Assumes nothing.
 use native.Mathlib.Omega.{arith}
 use Rattle.defs.specs.Record.{u16_at}
-use borrow.Author.Rules.{rules}
 use Rattle.le.proofs.u16_at.Goals as goal
 
 pub returns : goal.returns

@@ -6,6 +6,3 @@ use Rattle.load.proofs.load_edges.Given as goal
 
 abbrev pub invariant-loop-i : goal.invariant-loop-i
 invariant-loop-i l = ReadingEdges l.rec l.initial.es l.es l.i
-
-abbrev pub decreases-loop-i : goal.decreases-loop-i
-decreases-loop-i l = l.m - l.i

@@ -6,6 +6,3 @@ use Rattle.load.proofs.load_vertices.Given as goal
 
 abbrev pub invariant-loop-i : goal.invariant-loop-i
 invariant-loop-i l = ReadingVertices l.rec l.at l.initial.vs l.vs l.i l.start
-
-abbrev pub decreases-loop-i : goal.decreases-loop-i
-decreases-loop-i l = l.n - l.i

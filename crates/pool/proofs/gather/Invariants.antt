@@ -13,6 +13,3 @@ use Rattle.pool.proofs.gather.Given as goal
 
 abbrev pub invariant-loop-v : goal.invariant-loop-v
 invariant-loop-v l = Gathering l.base l.n l.initial.vs l.initial.p l.vs l.p l.used l.v
-
-abbrev pub decreases-loop-v : goal.decreases-loop-v
-decreases-loop-v l = l.n - l.v

@@ -12,6 +12,3 @@ use Rattle.record.proofs.any_bad_edge.Given as goal
 
 abbrev pub invariant-loop-i : goal.invariant-loop-i
 invariant-loop-i l = (l.i ≤ l.e) × (any_of (bad_edge l.rec) (up_from l.i (l.e - l.i)) ≡ any_of (bad_edge l.rec) (up_from 0 l.e))
-
-abbrev pub decreases-loop-i : goal.decreases-loop-i
-decreases-loop-i l = l.e - l.i

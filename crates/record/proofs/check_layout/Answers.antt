@@ -70,12 +70,12 @@ returns-then-count_past_limit c =
     (sym c.other_length.ensures ∙ c.if-other_length.false)
     (sym c.wrong_mark.ensures ∙ c.if-wrong_mark.false)
     (count_past c.args.rec.now
-    (made-within _ (sym c.kmer_size_of.ensures ∙ c.in-Size.is))
+    (made-within _ (sym c.kmer_size_of.ensures ∙ c.in-Some.is))
     (sym c.count_past_limit.ensures ∙ c.if-count_past_limit.true))
 
 pub layout_disagrees-requires : goal.layout_disagrees-requires
 layout_disagrees-requires c = (
-  made-is _ (sym c.kmer_size_of.ensures ∙ c.in-Size.is),
+  made-is _ (sym c.kmer_size_of.ensures ∙ c.in-Some.is),
   headed c.args.rec.now c.form_of-form.ensures
       (sym c.other_length.ensures ∙ c.if-other_length.false),
 )
@@ -88,7 +88,7 @@ returns-then-layout_disagrees c =
     (sym c.other_length.ensures ∙ c.if-other_length.false)
     (sym c.wrong_mark.ensures ∙ c.if-wrong_mark.false)
     (count_past c.args.rec.now
-    (made-within _ (sym c.kmer_size_of.ensures ∙ c.in-Size.is))
+    (made-within _ (sym c.kmer_size_of.ensures ∙ c.in-Some.is))
     (sym c.count_past_limit.ensures ∙ c.if-count_past_limit.false))
     (sym c.layout_disagrees.ensures ∙ c.if-layout_disagrees.true)
 
@@ -109,7 +109,7 @@ returns-then-any_bad_edge c =
     (sym c.other_length.ensures ∙ c.if-other_length.false)
     (sym c.wrong_mark.ensures ∙ c.if-wrong_mark.false)
     (count_past c.args.rec.now
-    (made-within _ (sym c.kmer_size_of.ensures ∙ c.in-Size.is))
+    (made-within _ (sym c.kmer_size_of.ensures ∙ c.in-Some.is))
     (sym c.count_past_limit.ensures ∙ c.if-count_past_limit.false))
     (sym c.layout_disagrees.ensures ∙ c.if-layout_disagrees.false)
     (sym c.any_bad_edge.ensures ∙ c.if-any_bad_edge.true)
@@ -122,8 +122,8 @@ returns c =
     (sym c.other_length.ensures ∙ c.if-other_length.false)
     (sym c.wrong_mark.ensures ∙ c.if-wrong_mark.false)
     (count_past c.args.rec.now
-    (made-within _ (sym c.kmer_size_of.ensures ∙ c.in-Size.is))
+    (made-within _ (sym c.kmer_size_of.ensures ∙ c.in-Some.is))
     (sym c.count_past_limit.ensures ∙ c.if-count_past_limit.false))
     (sym c.layout_disagrees.ensures ∙ c.if-layout_disagrees.false)
-    (made-is _ (sym c.kmer_size_of.ensures ∙ c.in-Size.is))
+    (made-is _ (sym c.kmer_size_of.ensures ∙ c.in-Some.is))
     (sym c.any_bad_edge.ensures ∙ c.if-any_bad_edge.false)

@@ -31,5 +31,5 @@ bounds-rec-edge_start c =
 
 pub returns : goal.returns
 returns c =
-    c.wide.ensures.0 ∙ flag-read _ _ c.requires.headed.is c.args.i c.edge_start.ensures
+    c.from.ensures ∙ flag-read _ _ c.requires.headed.is c.args.i c.edge_start.ensures
     c.word_size.ensures

@@ -12,6 +12,3 @@ use Rattle.record.proofs.other_kmer_length.Given as goal
 
 abbrev pub invariant-loop-i : goal.invariant-loop-i
 invariant-loop-i l = (l.i ≤ l.v) × (any_of (other_kmer_length l.rec) (up_from l.i (l.v - l.i)) ≡ any_of (other_kmer_length l.rec) (up_from 0 l.v))
-
-abbrev pub decreases-loop-i : goal.decreases-loop-i
-decreases-loop-i l = l.v - l.i

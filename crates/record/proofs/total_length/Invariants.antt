@@ -11,6 +11,3 @@ use Rattle.record.proofs.total_length.Given as goal
 abbrev pub invariant-loop-i : goal.invariant-loop-i
 invariant-loop-i l =
     (l.i ≤ l.v) × (l.total + sum (tab_from l.i (l.v - l.i) (length_at l.rec)) ≡ sum (tab l.v (length_at l.rec))) × (l.total ≤ 4294967295 * l.i)
-
-abbrev pub decreases-loop-i : goal.decreases-loop-i
-decreases-loop-i l = l.v - l.i

@@ -10,6 +10,3 @@ use Rattle.refs.proofs.reference_source_vertex.Given as goal
 
 abbrev pub invariant-loop-v : goal.invariant-loop-v
 invariant-loop-v l = (l.v ≤ l.n) × ((k : ℕ) → k < l.v → RefSource l.m l.n l.es k false)
-
-abbrev pub decreases-loop-v : goal.decreases-loop-v
-decreases-loop-v l = l.n - l.v

@@ -9,6 +9,3 @@ use Rattle.sequence.proofs.sequence_start.Given as goal
 
 abbrev pub invariant-loop-i : goal.invariant-loop-i
 invariant-loop-i l = AddingLengths l.rec l.v l.i l.at
-
-abbrev pub decreases-loop-i : goal.decreases-loop-i
-decreases-loop-i l = l.v - l.i

@@ -20,6 +20,3 @@ use Rattle.write_record.proofs.put_edges.Given as goal
 abbrev pub invariant-loop-i : goal.invariant-loop-i
 invariant-loop-i l =
     Growing l.m (fields (λ (k : ℕ). encode_edge (form_is l.form) (edge_in l.es k))) l.initial.out (edges_at (form_is l.form) l.n) l.out l.i
-
-abbrev pub decreases-loop-i : goal.decreases-loop-i
-decreases-loop-i l = l.m - l.i

@@ -21,6 +21,3 @@ use Rattle.write_record.proofs.put_lengths.Given as goal
 
 abbrev pub invariant-loop-i : goal.invariant-loop-i
 invariant-loop-i l = Growing l.n (fields (length_bytes (form_is l.form) l.vs)) l.initial.out (lengths_at (form_is l.form)) l.out l.i
-
-abbrev pub decreases-loop-i : goal.decreases-loop-i
-decreases-loop-i l = l.n - l.i

@@ -19,6 +19,3 @@ use Rattle.write_record.proofs.put_sequences.Given as goal
 
 abbrev pub invariant-loop-v : goal.invariant-loop-v
 invariant-loop-v l = (l.to ≡ l.at + bytes_in l.v l.vs) × Growing l.n (fields (seq_in l.vs l.p)) l.initial.out l.at l.out l.v
-
-abbrev pub decreases-loop-v : goal.decreases-loop-v
-decreases-loop-v l = l.n - l.v

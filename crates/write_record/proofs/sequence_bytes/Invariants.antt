@@ -8,6 +8,3 @@ use Rattle.write_record.proofs.sequence_bytes.Given as goal
 
 abbrev pub invariant-loop-v : goal.invariant-loop-v
 invariant-loop-v l = (l.v ≤ l.n) × (l.total ≡ bytes_in l.v l.vs)
-
-abbrev pub decreases-loop-v : goal.decreases-loop-v
-decreases-loop-v l = l.n - l.v
