@@ -12,9 +12,10 @@ use Rattle.memory.specs.Memory.{graph_of, vertex_room, Room, Holds}
 use Rattle.memory.specs.declared.Held.{Held}
 use Rattle.memory.proofs.RoomLaws.{held-vertices, held-edges, held-ends, fit-bytes}
 use Rattle.pool.specs.Pool.{bytes_in}
-use Rattle.accept.specs.declared.Read.{Read}
-use Rattle.accept.specs.declared.Read.TheVariants as read
-use Rattle.accept.proofs.AcceptLaws.{number-graph, number-refused}
+use Rattle.std.specs.Prelude.{Result, Ok, Err}
+use Rattle.refusal.specs.Refusals.{number_of_refusal}
+use Rattle.refusal.specs.declared.Refusal.{Refusal}
+use Rattle.refusal.proofs.RefusalLaws.{some-number, refused-number, made-number}
 use Rattle.write_record.specs.Written.{Measured, RecordWritable, RecordWritten}
 use Rattle.calls.specs.Sending.{fits, Sendable, RoomFits, Responds, SendsGraph}
 use Rattle.calls.proofs.ResponseLaws.{fits-short, fits-enough, respond-refused, respond-fits}
@@ -85,8 +86,8 @@ module _ {f : Form} {status : ℕ} {h : Held} {es vs p : List ℕ} (S : Sendable
   long : length result ≡ size
   long = encode-length f status h.k.0 h.n h.m es vs p S.within ∙ sym q
 
-  pub send-short : length out < size → Responds (fits (length out) result) out record { number = 11; length = 0 } out
-  send-short l = responds-refused (fits-short (length out) result (omega (arith, long))) refl refl
+  pub send-short : length out < size → {s : Answer} → s ≡ record { number = 11; length = 0 } → Responds (fits (length out) result) out s out
+  send-short l a = responds-refused (fits-short (length out) result (omega (arith, long))) a refl
 
   pub send-writable : size ≤ length out → RecordWritable f status h es vs p out
   send-writable l = S.writable out (omega (arith, q))
@@ -101,17 +102,17 @@ module _ {f : Form} {status : ℕ} {h : Held} {es vs p : List ℕ} (S : Sendable
   send-small W = omega (arith, W.long, long, q, S.measured.small)
 
 -- a number where a cause is present, else the record where it fits
-module _ {r : Read} {es vs p : List ℕ} where
-  pub sends-refused : {n : ℕ} → r ≡ read.Refused n → {f : Form} {status : ℕ} {out : List ℕ}
-      → SendsGraph f status r es vs p out record { number = n; length = 0 } out
-  sends-refused {n} q {f} {status} {out} = record {
+module _ {r : Result Held Refusal} {es vs p : List ℕ} where
+  pub sends-refused : {n : Refusal} → r ≡ Err n → {f : Form} {status : ℕ} {out : List ℕ} {s : Answer}
+      → s ≡ record { number = number_of_refusal n; length = 0 } → SendsGraph f status r es vs p out s out
+  sends-refused {n} q {f} {status} {out} a = record {
     is = λ causes result M.
-        responds-refused (respond-refused causes (length out) result n (sym M.number ∙ number-refused q) (M.refused n q)) refl refl;
+        responds-refused (respond-refused causes (length out) result (number_of_refusal n) (sym M.number ∙ refused-number q) (some-number n)) a refl;
   }
 
-  pub sends-graph : {h : Held} → r ≡ read.Graph h → {f : Form} {status : ℕ} {out : List ℕ} {s : Answer} {out' : List ℕ}
+  pub sends-graph : {h : Held} → r ≡ Ok h → {f : Form} {status : ℕ} {out : List ℕ} {s : Answer} {out' : List ℕ}
       → Responds (fits (length out) (encode f sequence_graph status (graph_of h es vs p))) out s out' → SendsGraph f status r es vs p out s out'
   sends-graph {h} ok {f} {status} {out} S = record {
     is = λ causes result M.
-        responds-as (respond-fits causes (length out) result M.numbered (sym M.number ∙ number-graph ok) ∙ ap (fits (length out)) (sym (M.is h ok))) S;
+        responds-as (respond-fits causes (length out) result M.numbered (sym M.number ∙ made-number ok) ∙ ap (fits (length out)) (sym (M.is h ok))) S;
   }

@@ -1,5 +1,5 @@
 -- A record that is written where it fits. Assumes nothing.
-use Rattle.std.specs.Prelude.{◌≡◌, List, [], ◌∷◌, ◌++◌, ℕ, ◌≤◌, ◌<◌, length}
+use Rattle.std.specs.Prelude.{◌≡◌, Result, Ok, List, [], ◌∷◌, ◌++◌, ℕ, ◌≤◌, ◌<◌, length}
 use Rattle.defs.specs.Forms.{Form}
 use Rattle.defs.specs.Record.{whole_length, sequence_graph, encode}
 use Rattle.defs.specs.Refusals.{Cause, refusal_of}
@@ -10,9 +10,8 @@ use Rattle.pool.specs.Pool.{bytes_in}
 use Rattle.form.specs.Coded.{word_limit}
 use Rattle.memory.specs.Memory.{graph_of, vertex_room, edge_room}
 use Rattle.memory.specs.declared.Held.{Held}
-use Rattle.accept.specs.Accept.{read_number}
-use Rattle.accept.specs.declared.Read.{Read}
-use Rattle.accept.specs.declared.Read.TheVariants as read
+use Rattle.refusal.specs.Refusals.{refused_by}
+use Rattle.refusal.specs.declared.Refusal.{Refusal}
 use Rattle.write_record.specs.Written.{Measured, RecordWritable}
 use Rattle.calls.specs.declared.Answer.{Answer}
 
@@ -42,18 +41,17 @@ pub record Responds (x : Response) (out : List ℕ) (s : Answer) (out' : List �
   pub size : s.length ≡ length_of x
   pub written : out' ≡ written_of x out
 
--- What was made of a record, by the causes but for 11: a number other than 0, or a graph in the slices whose record, with this status, is the
+-- What was made of a record, by the causes but for 11: a refusal, or a graph in the slices whose record, with this status, is the
 -- result.
-pub record Makes (f : Form) (causes : List Cause) (status : ℕ) (result : List ℕ) (r : Read) (es vs p : List ℕ) : Type 0 where
+pub record Makes (f : Form) (causes : List Cause) (status : ℕ) (result : List ℕ) (r : Result Held Refusal) (es vs p : List ℕ) : Type 0 where
   pub numbered : CausesNumbered causes
-  pub number : read_number r ≡ refusal_of causes
-  pub is : (h : Held) → r ≡ read.Graph h → encode f sequence_graph status (graph_of h es vs p) ≡ result
-  pub refused : (n : ℕ) → r ≡ read.Refused n → n ≡ 0 → ⊥
+  pub number : refused_by r ≡ refusal_of causes
+  pub is : (h : Held) → r ≡ Ok h → encode f sequence_graph status (graph_of h es vs p) ≡ result
 
-pub record GraphSendable (f : Form) (status : ℕ) (r : Read) (es vs p : List ℕ) : Type 0 where
-  pub sendable : (h : Held) → r ≡ read.Graph h → Sendable f status h es vs p
+pub record GraphSendable (f : Form) (status : ℕ) (r : Result Held Refusal) (es vs p : List ℕ) : Type 0 where
+  pub sendable : (h : Held) → r ≡ Ok h → Sendable f status h es vs p
 
 -- what is sent responds to the causes, whatever they are, and 11 behind them, with that record
-pub record SendsGraph (f : Form) (status : ℕ) (r : Read) (es vs p out : List ℕ) (s : Answer) (out' : List ℕ) : Type 0 where
+pub record SendsGraph (f : Form) (status : ℕ) (r : Result Held Refusal) (es vs p out : List ℕ) (s : Answer) (out' : List ℕ) : Type 0 where
   pub is : (causes : List Cause) (result : List ℕ) → Makes f causes status result r es vs p
       → Responds (respond (with_output causes (length out) result) result) out s out'

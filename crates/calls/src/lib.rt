@@ -2,16 +2,17 @@
 // fits.
 #![tactic(auto)]
 
-ghost use Rattle.std.specs.Prelude.{length};
+ghost use Rattle.std.specs.Prelude.{◌≡◌, length};
+ghost use Rattle.refusal.specs.Refusals.{number_of_refusal};
 ghost use Rattle.defs.specs.Record.{sequence_graph, encode};
 ghost use Rattle.form.specs.Coded.{form_is};
 ghost use Rattle.memory.specs.Memory.{graph_of};
 ghost use Rattle.calls.specs.Answers.{AnswersSimplify, AnswersCleanup};
 ghost use Rattle.calls.specs.Sending.{fits, Sendable, Responds, GraphSendable, SendsGraph};
 
-use accept::Read;
 use form::Form;
 use memory::Held;
+use refusal::Refusal;
 
 // What a call sends: 0 and the length of what it wrote, or the number of the refusal and 0. Of calls without more fields it is the answer.
 #[derive(Clone, Copy)]
@@ -19,6 +20,17 @@ use memory::Held;
 pub struct Answer {
     pub number: u32,
     pub length: u32,
+}
+
+impl From<Refusal> for Answer {
+    ghost from_gives = { λ refusal answer. answer ≡ record { number = number_of_refusal refusal; length = 0 } };
+
+    fn from(refusal: Refusal) -> Answer {
+        Answer {
+            number: refusal.number(),
+            length: 0,
+        }
+    }
 }
 
 #[derive(Clone, Copy)]
@@ -53,7 +65,7 @@ pub fn simplify_answer(sent: Answer, rewrites: u32, rounds: u32, end: u32) -> Si
     let number = sent.number;
     if number != 0 {
         return SimplifyAnswer {
-            number: number,
+            number,
             length: 0,
             rewrites: 0,
             rounds: 0,
@@ -63,9 +75,9 @@ pub fn simplify_answer(sent: Answer, rewrites: u32, rounds: u32, end: u32) -> Si
     SimplifyAnswer {
         number: 0,
         length: sent.length,
-        rewrites: rewrites,
-        rounds: rounds,
-        end: end,
+        rewrites,
+        rounds,
+        end,
     }
 }
 
@@ -75,7 +87,7 @@ pub fn cleanup_answer(sent: Answer, status: u32, made: u32) -> CountedCleanup
     let number = sent.number;
     if number != 0 {
         let refused = CleanupAnswer {
-            number: number,
+            number,
             length: 0,
             status: 0,
         };
@@ -87,10 +99,10 @@ pub fn cleanup_answer(sent: Answer, status: u32, made: u32) -> CountedCleanup
     let answer = CleanupAnswer {
         number: 0,
         length: sent.length,
-        status: status,
+        status,
     };
     CountedCleanup {
-        answer: answer,
+        answer,
         rewrites: made,
     }
 }
@@ -111,10 +123,7 @@ pub fn send_record(
 {
     let length = write_record::record_length(form, held, vs);
     if out.len() < length {
-        return Answer {
-            number: 11,
-            length: 0,
-        };
+        return Answer::from(Refusal::NoRoom);
     }
     let written = write_record::write_record(out, form, status, held, es, vs, p);
     Answer {
@@ -123,9 +132,9 @@ pub fn send_record(
     }
 }
 
-// What was made of a record: the number of its refusal, or its graph, which the slices hold.
+// What was made of a record: its graph, which the slices hold, or its refusal.
 pub fn send(
-    read: Read,
+    made: Result<Held, Refusal>,
     form: Form,
     status: u32,
     out: &mut [u8],
@@ -133,15 +142,11 @@ pub fn send(
     vs: &[u32],
     p: &[u8],
 ) -> Answer
-    requires { GraphSendable (form_is form) status read es.now vs.now p.now }
-    ensures { SendsGraph (form_is form) status read es.now vs.now p.now out.old result out.new }
+    requires { GraphSendable (form_is form) status made es.now vs.now p.now }
+    ensures { SendsGraph (form_is form) status made es.now vs.now p.now out.old result out.new }
 {
-    let held = match read {
-        Read::Graph(held) => held,
-        Read::Refused(number) => return Answer {
-            number: number,
-            length: 0,
-        },
-    };
-    send_record(out, form, status, held, es, vs, p)
+    match made {
+        Ok(held) => send_record(out, form, status, held, es, vs, p),
+        Err(refusal) => Answer::from(refusal),
+    }
 }

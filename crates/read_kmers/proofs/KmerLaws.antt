@@ -25,11 +25,13 @@ use Rattle.form.proofs.FormLaws.{limits-small}
 use Rattle.record.specs.Kinds.{takes_of}
 use Rattle.record.specs.declared.Takes.TheVariants.{KmerOnly}
 use Rattle.kmer.specs.declared.KmerSize.{KmerSize}
-use Rattle.record.specs.Layout.{WellFormed, layout_of}
-use Rattle.record.specs.declared.Layout.{Layout}
-use Rattle.record.specs.declared.Layout.TheVariants.{Formed}
-use Rattle.record.specs.declared.Layout.TheVariants as checked
-use Rattle.record.proofs.Accepted.{well-formed, kmer-kind, formed-none, formed-size, refused-number, refused-some}
+use Rattle.std.specs.Prelude.{Result, Ok, Err}
+use Rattle.refusal.specs.Refusals.{number_of_refusal, refused_by}
+use Rattle.refusal.specs.declared.Refusal.{Refusal}
+use Rattle.refusal.specs.declared.Refusal.TheVariants as refusal
+use Rattle.refusal.proofs.RefusalLaws.{some-number, refused-number, made-number}
+use Rattle.record.specs.Layout.{WellFormed, LayoutOf}
+use Rattle.record.proofs.Accepted.{well-formed, kmer-kind, formed-none, formed-size, layout-number}
 use Rattle.record.proofs.Sequences.{vertex-is, length-sequence, length_most}
 use Rattle.load.specs.Loaded.{Loadable, Loaded}
 use Rattle.load.proofs.LoadLaws.{formed-laid}
@@ -40,9 +42,6 @@ use Rattle.overlap.specs.Overlap.{KmerRecord}
 use Rattle.sort.specs.Sort.{Sortable}
 use Rattle.kmer_order.specs.Order.{ReadableSequence, KmerOrder}
 use Rattle.accept.specs.Accept.{RoomFor, RoomToRead, RoomToMark}
-use Rattle.accept.specs.declared.Read.{Read}
-use Rattle.accept.specs.declared.Read.TheVariants.{Graph, Refused}
-use Rattle.accept.proofs.AcceptLaws.{not-both, number-graph, number-refused, same-held}
 use Rattle.read_kmers.specs.Kmers.{kmer_causes, overlapping_causes, Doubles, HoldsKmers, KmersRead}
 
 -- ---- doubled edges and k-mers
@@ -56,23 +55,18 @@ module _ {m n : ℕ} {es vs p : List ℕ} {d : Bool} {order : List ℕ} (q : d �
 
 -- ---- the record
 
-refused_as : {causes : List Cause} {bs : List ℕ} (n : ℕ) → n ≡ refusal_of causes → (n ≡ 0 → ⊥) → {es vs heads nexts order : List ℕ}
-    → KmersRead causes bs (Refused n) es vs heads nexts order
-refused_as n q o = record {
-  number = number-refused refl ∙ q;
-  holds = λ h e. not-both e refl;
-  refused = λ m e z. o (sym (number-refused refl) ∙ number-refused e ∙ z);
-}
+refused_as : {causes : List Cause} {bs : List ℕ} (n : Refusal) → number_of_refusal n ≡ refusal_of causes → {es vs heads nexts order : List ℕ}
+    → KmersRead causes bs (Err n) es vs heads nexts order
+refused_as n q = record { number = q; holds = λ h e. cc }
 
 module _ (bs : List ℕ) where
-  pub read-refused : {r : Layout} {n : ℕ} {es vs heads nexts order : List ℕ}
-      → r ≡ layout_of (refusal_of (layout_causes (takes_of KmerOnly) bs)) (k_of bs)
-      → r ≡ checked.Refused n → KmersRead (kmer_causes bs) bs (Refused n) es vs heads nexts order
+  pub read-refused : {r : Result KmerSize Refusal} {n : Refusal} {es vs heads nexts order : List ℕ}
+      → LayoutOf (refusal_of (layout_causes (takes_of KmerOnly) bs)) (k_of bs) r
+      → r ≡ Err n → KmersRead (kmer_causes bs) bs (Err n) es vs heads nexts order
   unfolding takes_of
-  read-refused {n = n} e f =
-      let some = refused-some kmer_only bs e f in
+  read-refused {n = n} l f =
       refused_as n
-      (sym (refusal-earlier (layout_causes kmer_only bs) (doubled_cause bs ∷ []) (sym (refused-number kmer_only bs e f)) some)) some
+      (sym (refusal-earlier (layout_causes kmer_only bs) (doubled_cause bs ∷ []) (sym (layout-number kmer_only bs l f)) (some-number n)))
 
   module _ (layout : refusal_of (layout_causes kmer_only bs) ≡ 0) {es vs heads nexts order scratch : List ℕ}
       (Y : RoomToRead bs es vs heads nexts order scratch) where
@@ -140,11 +134,11 @@ module _ (bs : List ℕ) where
           sequence-is = unfold vertex_sequence in (sym (get_or-tab h.n (seq_in vs' bs) v [] b) ∙ ap (λ (g : seq.Graph). get_or g.verts v []) L.is)
 
       module _ {d : Bool} {order' : List ℕ} (D : Doubles h.m h.n es' vs' bs d order') where
-        pub read-6 : d ≡ true → {es₂ vs₂ heads₂ nexts₂ order₂ : List ℕ} → KmersRead (kmer_causes bs) bs (Refused 6) es₂ vs₂ heads₂ nexts₂ order₂
-        read-6 t = refused_as 6 (sym (later ∙ refusal-there (doubled_cause bs) [] (doubled-is ∙ sym D.is ∙ t))) (λ z. omega arith)
+        pub read-6 : d ≡ true → {es₂ vs₂ heads₂ nexts₂ order₂ : List ℕ} → KmersRead (kmer_causes bs) bs (Err refusal.Doubled) es₂ vs₂ heads₂ nexts₂ order₂
+        read-6 t = refused_as refusal.Doubled (sym (later ∙ refusal-there (doubled_cause bs) [] (doubled-is ∙ sym D.is ∙ t)))
 
         pub read-0 : d ≡ false → {heads' nexts' : List ℕ} → Indexed h.m h.n es' heads' nexts'
-            → KmersRead (kmer_causes bs) bs (Graph h) es' vs' heads' nexts' order'
+            → KmersRead (kmer_causes bs) bs (Ok h) es' vs' heads' nexts' order'
         read-0 t {heads'} {nexts'} I =
             let apart = or-false (doubled_edge (edges_in h.m es')) (equal_kmers (seqs_in h.n vs' bs)) (sym D.is ∙ t) in
             let held : HoldsKmers bs h es' vs' heads' nexts' order' = record {
@@ -161,19 +155,18 @@ module _ (bs : List ℕ) where
               ordered = D.ordered t;
             } in
             record {
-              number = number-graph refl ∙ sym (later ∙ refusal-absent (doubled_cause bs) [] (doubled-is ∙ sym D.is ∙ t) ∙ refusal-nil);
-              holds = λ g e. subst (λ (x : Held). HoldsKmers bs x es' vs' heads' nexts' order') (same-held e) held;
-              refused = λ n e. not-both refl e;
+              number = sym (later ∙ refusal-absent (doubled_cause bs) [] (doubled-is ∙ sym D.is ∙ t) ∙ refusal-nil);
+              holds = λ g e. let same : h ≡ g = cc in subst (λ (x : Held). HoldsKmers bs x es' vs' heads' nexts' order') same held;
             }
 
 -- the layout that was checked
-module _ (bs : List ℕ) {r : Layout} (e : r ≡ layout_of (refusal_of (layout_causes (takes_of KmerOnly) bs)) (k_of bs)) where
-  pub layout-none : {k : KmerSize} → r ≡ Formed k → refusal_of (layout_causes kmer_only bs) ≡ 0
+module _ (bs : List ℕ) {r : Result KmerSize Refusal} (l : LayoutOf (refusal_of (layout_causes (takes_of KmerOnly) bs)) (k_of bs) r) where
+  pub layout-none : {k : KmerSize} → r ≡ Ok k → refusal_of (layout_causes kmer_only bs) ≡ 0
   unfolding takes_of
-  layout-none f = formed-none kmer_only bs e f
+  layout-none f = formed-none kmer_only bs l f
 
-  pub layout-size : {k : KmerSize} → r ≡ Formed k → k.0 ≡ k_of bs
-  layout-size f = formed-size (takes_of KmerOnly) bs e f
+  pub layout-size : {k : KmerSize} → r ≡ Ok k → k.0 ≡ k_of bs
+  layout-size f = formed-size (takes_of KmerOnly) bs l f
 
 -- ---- behind 6
 
@@ -197,17 +190,17 @@ module _ (bs : List ℕ) where
   unfolding layout_causes
   overlapping-late z = refusal-later (kmer_causes bs) behind kmers-numbered z
 
-module _ {bs : List ℕ} {r : Read} {es vs heads nexts order : List ℕ} (A : KmersRead (kmer_causes bs) bs r es vs heads nexts order) where
-  pub overlapping-refused : {n : ℕ} {es₂ vs₂ heads₂ nexts₂ order₂ : List ℕ} → r ≡ Refused n
-      → KmersRead (overlapping_causes bs) bs (Refused n) es₂ vs₂ heads₂ nexts₂ order₂
-  overlapping-refused {n} f = let o = A.refused n f in refused_as n (sym (overlapping-early bs (sym A.number ∙ number-refused f) o)) o
+module _ {bs : List ℕ} {r : Result Held Refusal} {es vs heads nexts order : List ℕ} (A : KmersRead (kmer_causes bs) bs r es vs heads nexts order) where
+  pub overlapping-refused : {n : Refusal} {es₂ vs₂ heads₂ nexts₂ order₂ : List ℕ} → r ≡ Err n
+      → KmersRead (overlapping_causes bs) bs (Err n) es₂ vs₂ heads₂ nexts₂ order₂
+  overlapping-refused {n} f = refused_as n (sym (overlapping-early bs (sym A.number ∙ refused-number f) (some-number n)))
 
-  module _ {h : Held} (ok : r ≡ Graph h) where
+  module _ {h : Held} (ok : r ≡ Ok h) where
     held : HoldsKmers bs h es vs heads nexts order
     held = A.holds h ok
 
     none : refusal_of (kmer_causes bs) ≡ 0
-    none = sym A.number ∙ number-graph ok
+    none = sym A.number ∙ made-number ok
 
     pub kmer-record : KmerRecord bs h.k
     unfolding decode
@@ -236,8 +229,8 @@ module _ {bs : List ℕ} {r : Read} {es vs heads nexts order : List ℕ} (A : Km
 
     module _ {o : Bool} (O : o ≡ edge_without_overlap (decode bs)) where
       pub read-15 : o ≡ true → {es₂ vs₂ heads₂ nexts₂ order₂ : List ℕ}
-          → KmersRead (overlapping_causes bs) bs (Refused 15) es₂ vs₂ heads₂ nexts₂ order₂
-      read-15 t = refused_as 15 (sym (overlapping-late bs none ∙ refusal-there (overlap_cause bs) _ (sym O ∙ t))) (λ z. omega arith)
+          → KmersRead (overlapping_causes bs) bs (Err refusal.NoOverlap) es₂ vs₂ heads₂ nexts₂ order₂
+      read-15 t = refused_as refusal.NoOverlap (sym (overlapping-late bs none ∙ refusal-there (overlap_cause bs) _ (sym O ∙ t)))
 
       module _ (f : o ≡ false) {c : Bool} (C : HasCycle h.m h.n es c) where
         later-7 : refusal_of (overlapping_causes bs) ≡ refusal_of (cycle_cause bs ∷ [])
@@ -247,12 +240,11 @@ module _ {bs : List ℕ} {r : Read} {es vs heads nexts order : List ℕ} (A : Km
         cycle-is = ap has_cycle (sym held.loaded.is) ∙ sym (C.is h.k.0 vs bs)
 
         pub read-7 : c ≡ true → {es₂ vs₂ heads₂ nexts₂ order₂ : List ℕ}
-            → KmersRead (overlapping_causes bs) bs (Refused 7) es₂ vs₂ heads₂ nexts₂ order₂
-        read-7 t = refused_as 7 (sym (later-7 ∙ refusal-there (cycle_cause bs) [] (cycle-is ∙ t))) (λ z. omega arith)
+            → KmersRead (overlapping_causes bs) bs (Err refusal.HasCycle) es₂ vs₂ heads₂ nexts₂ order₂
+        read-7 t = refused_as refusal.HasCycle (sym (later-7 ∙ refusal-there (cycle_cause bs) [] (cycle-is ∙ t)))
 
-        pub read_whole : c ≡ false → KmersRead (overlapping_causes bs) bs (Graph h) es vs heads nexts order
+        pub read_whole : c ≡ false → KmersRead (overlapping_causes bs) bs (Ok h) es vs heads nexts order
         read_whole t = record {
-          number = number-graph refl ∙ sym (later-7 ∙ refusal-absent (cycle_cause bs) [] (cycle-is ∙ t) ∙ refusal-nil);
-          holds = λ g e. subst (λ (x : Held). HoldsKmers bs x es vs heads nexts order) (same-held e) held;
-          refused = λ n e. not-both refl e;
+          number = sym (later-7 ∙ refusal-absent (cycle_cause bs) [] (cycle-is ∙ t) ∙ refusal-nil);
+          holds = λ g e. let same : h ≡ g = cc in subst (λ (x : Held). HoldsKmers bs x es vs heads nexts order) same held;
         }

@@ -1,14 +1,13 @@
 -- A record of kind 0 that is read. Assumes nothing.
-use Rattle.std.specs.Prelude.{◌≡◌, Bool, false, ◌||◌, List, [], ◌∷◌, ◌++◌, ℕ, ◌+◌, ◌*◌, ◌≤◌, ◌<◌, length, get_or}
+use Rattle.std.specs.Prelude.{◌≡◌, Result, Ok, Bool, false, ◌||◌, List, [], ◌∷◌, ◌++◌, ℕ, ◌+◌, ◌*◌, ◌≤◌, ◌<◌, length, get_or}
 use Rattle.defs.specs.Forms.{form_of, limits}
 use Rattle.defs.specs.Refusals.{Cause, refusal_of, kmer_only, doubled_edge, equal_kmers, layout_causes, doubled_cause, overlap_cause, cycle_cause}
 use Rattle.store.specs.Store.{edges_in, seqs_in}
 use Rattle.index.specs.Index.{Indexed}
 use Rattle.memory.specs.declared.Held.{Held}
 use Rattle.load.specs.Loaded.{Loaded}
-use Rattle.accept.specs.Accept.{read_number}
-use Rattle.accept.specs.declared.Read.{Read}
-use Rattle.accept.specs.declared.Read.TheVariants.{Graph, Refused}
+use Rattle.refusal.specs.Refusals.{refused_by}
+use Rattle.refusal.specs.declared.Refusal.{Refusal}
 use Rattle.kmer_order.specs.Order.{KmerOrder}
 
 -- the causes 1 to 6, and 1 to 6, 15, 7
@@ -38,8 +37,7 @@ pub record HoldsKmers (bs : List ℕ) (h : Held) (es vs heads nexts order : List
   pub indexed : Indexed h.m h.n es heads nexts
   pub ordered : KmerOrder h.n vs bs order
 
--- the number is that of the causes; a graph that was read is the record's, and held; a refusal has a number
-pub record KmersRead (causes : List Cause) (bs : List ℕ) (r : Read) (es vs heads nexts order : List ℕ) : Type 0 where
-  pub number : read_number r ≡ refusal_of causes
-  pub holds : (h : Held) → r ≡ Graph h → HoldsKmers bs h es vs heads nexts order
-  pub refused : (n : ℕ) → r ≡ Refused n → n ≡ 0 → ⊥
+-- the number is that of the causes; a graph that was read is the record's, and held
+pub record KmersRead (causes : List Cause) (bs : List ℕ) (r : Result Held Refusal) (es vs heads nexts order : List ℕ) : Type 0 where
+  pub number : refused_by r ≡ refusal_of causes
+  pub holds : (h : Held) → r ≡ Ok h → HoldsKmers bs h es vs heads nexts order

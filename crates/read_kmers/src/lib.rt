@@ -9,8 +9,9 @@ ghost use Rattle.sort.specs.Sort.{Sortable};
 ghost use Rattle.kmer_order.specs.Order.{ReadableSequence};
 ghost use Rattle.read_kmers.specs.Kmers.{kmer_causes, overlapping_causes, Doubles, KmersRead};
 
-use accept::Read;
-use record::{Layout, Takes};
+use memory::Held;
+use record::Takes;
+use refusal::Refusal;
 
 // Whether two edges have the same ends, or two vertices the same k-mer: the cause of 6.
 pub fn is_doubled(
@@ -44,23 +45,19 @@ pub fn read_kmer_graph(
     nexts: &mut [u32],
     order: &mut [u32],
     scratch: &mut [u32],
-) -> Read
+) -> Result<Held, Refusal>
     requires { RoomToRead rec.now es.old vs.old heads.old nexts.old order.old scratch.old }
     ensures { KmersRead (kmer_causes rec.now) rec.now result es.new vs.new heads.new
         nexts.new order.new }
 {
-    let k = match record::check_layout(rec, Takes::KmerOnly) {
-        Layout::Formed(k) => k,
-        Layout::Refused(number) => return Read::Refused(number),
-    };
+    let k = record::check_layout(rec, Takes::KmerOnly)?;
     let held = load::load_graph(rec, k, es, vs);
-    let n = held.n;
-    let m = held.m;
+    let Held { n, m, .. } = held;
     index::build_index(es, m, n, heads, nexts);
     if is_doubled(es, m, n, vs, rec, heads, nexts, order, scratch) {
-        return Read::Refused(6);
+        return Err(Refusal::Doubled);
     }
-    Read::Graph(held)
+    Ok(held)
 }
 
 // 1 to 6, 15, 7.
@@ -73,23 +70,18 @@ pub fn read_overlapping_kmer_graph(
     order: &mut [u32],
     scratch: &mut [u32],
     place: &mut [u32],
-) -> Read
+) -> Result<Held, Refusal>
     requires { RoomToMark rec.now es.old vs.old heads.old nexts.old order.old scratch.old place.old }
     ensures { KmersRead (overlapping_causes rec.now) rec.now result es.new vs.new
         heads.new nexts.new order.new }
 {
-    let held = match read_kmer_graph(rec, es, vs, heads, nexts, order, scratch) {
-        Read::Graph(held) => held,
-        Read::Refused(number) => return Read::Refused(number),
-    };
-    let k = held.k;
-    let n = held.n;
-    let m = held.m;
+    let held = read_kmer_graph(rec, es, vs, heads, nexts, order, scratch)?;
+    let Held { k, n, m, .. } = held;
     if overlap::edge_without_overlap(rec, k) {
-        return Read::Refused(15);
+        return Err(Refusal::NoOverlap);
     }
     if cycle::has_cycle(es, m, n, heads, nexts, scratch, place) {
-        return Read::Refused(7);
+        return Err(Refusal::HasCycle);
     }
-    Read::Graph(held)
+    Ok(held)
 }

@@ -1,4 +1,5 @@
 -- `accept::read_sequence_graph` meets its contract.
+use Rattle.std.proofs.lemmas.Result.{err_from_is_err_and}
 use Rattle.accept.proofs.AcceptLaws.{
   layout-none,
   layout-size,
@@ -15,7 +16,9 @@ use borrow.Author.Rules.{rules}
 use Rattle.accept.proofs.read_sequence_graph.Goals as goal
 
 pub returns-in_err-k : goal.returns-in_err-k
-returns-in_err-k c = read-refused c.args.rec.now c.check_layout.ensures c.in_err-k.was
+returns-in_err-k c =
+    let p = err_from_is_err_and c.from_residual.result c.from_residual.ensures.1 in
+    rw (p.1, p.2) (read-refused c.args.rec.now c.check_layout.ensures c.in_err-k.was)
 
 pub load_graph-held-requires : goal.load_graph-held-requires
 load_graph-held-requires c = (

@@ -3,14 +3,14 @@ use Rattle.calls.proofs.SendLaws.{sends-refused, sends-graph}
 use borrow.Author.Rules.{rules}
 use Rattle.calls.proofs.send.Goals as goal
 
-pub returns-in-Refused : goal.returns-in-Refused
-returns-in-Refused c =
-    sends-refused c.in-Refused.is
+pub returns-in-Err : goal.returns-in-Err
+returns-in-Err c =
+    sends-refused c.in-Err.is c.from.ensures
 
 pub send_record-requires : goal.send_record-requires
 send_record-requires c =
-    c.requires.sendable _ c.in-Graph.is
+    c.requires.sendable _ c.in-Ok.is
 
-pub returns : goal.returns
-returns c =
-    sends-graph c.in-Graph.is c.send_record.ensures
+pub returns-in-Ok : goal.returns-in-Ok
+returns-in-Ok c =
+    sends-graph c.in-Ok.is c.send_record.ensures

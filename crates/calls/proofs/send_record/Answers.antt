@@ -6,7 +6,7 @@ use Rattle.calls.proofs.send_record.Goals as goal
 
 pub returns-then-out-length : goal.returns-then-out-length
 returns-then-out-length c =
-    send-short c.requires _ c.record_length-length.ensures c.if-out-length.true
+    send-short c.requires _ c.record_length-length.ensures c.if-out-length.true c.from.ensures
 
 pub write_record-written-requires : goal.write_record-written-requires
 write_record-written-requires c =

@@ -1,4 +1,5 @@
 -- `read_kmers::read_kmer_graph` meets its contract.
+use Rattle.std.proofs.lemmas.Result.{err_from_is_err_and}
 use Rattle.read_kmers.proofs.KmerLaws.{
   layout-none,
   layout-size,
@@ -13,21 +14,23 @@ use Rattle.read_kmers.proofs.KmerLaws.{
 use borrow.Author.Rules.{rules}
 use Rattle.read_kmers.proofs.read_kmer_graph.Goals as goal
 
-pub returns-in-Refused : goal.returns-in-Refused
-returns-in-Refused c = read-refused c.args.rec.now c.check_layout.ensures c.in-Refused.is
+pub returns-in_err-k : goal.returns-in_err-k
+returns-in_err-k c =
+    let p = err_from_is_err_and c.from_residual.result c.from_residual.ensures.1 in
+    rw (p.1, p.2) (read-refused c.args.rec.now c.check_layout.ensures c.in_err-k.was)
 
 pub load_graph-held-requires : goal.load_graph-held-requires
 load_graph-held-requires c = (
-  layout-size c.args.rec.now c.check_layout.ensures c.in-Formed.is,
+  layout-size c.args.rec.now c.check_layout.ensures c.in_ok-k.was,
   read-loadable c.args.rec.now
-      (layout-none c.args.rec.now c.check_layout.ensures c.in-Formed.is) c.requires,
+      (layout-none c.args.rec.now c.check_layout.ensures c.in_ok-k.was) c.requires,
 )
 
 pub build_index-requires : goal.build_index-requires
 build_index-requires c =
     read-indexable
     c.args.rec.now
-    (layout-none c.args.rec.now c.check_layout.ensures c.in-Formed.is)
+    (layout-none c.args.rec.now c.check_layout.ensures c.in_ok-k.was)
     c.requires
     c.load_graph-held.ensures
     c.load_graph-held.auto.es
@@ -37,10 +40,10 @@ is_doubled-requires c = (
   c.build_index.ensures,
   (
     read-markable c.args.rec.now
-        (layout-none c.args.rec.now c.check_layout.ensures c.in-Formed.is) c.requires
+        (layout-none c.args.rec.now c.check_layout.ensures c.in_ok-k.was) c.requires
         c.load_graph-held.ensures,
     read-sortable c.args.rec.now
-        (layout-none c.args.rec.now c.check_layout.ensures c.in-Formed.is) c.requires
+        (layout-none c.args.rec.now c.check_layout.ensures c.in_ok-k.was) c.requires
         c.load_graph-held.ensures c.load_graph-held.auto.vs,
   ),
 )
@@ -67,7 +70,7 @@ pub returns-then-is_doubled : goal.returns-then-is_doubled
 returns-then-is_doubled c =
     read-6
     c.args.rec.now
-    (layout-none c.args.rec.now c.check_layout.ensures c.in-Formed.is)
+    (layout-none c.args.rec.now c.check_layout.ensures c.in_ok-k.was)
     c.requires
     c.load_graph-held.ensures
     c.is_doubled.ensures
@@ -95,7 +98,7 @@ pub returns : goal.returns
 returns c =
     read-0
     c.args.rec.now
-    (layout-none c.args.rec.now c.check_layout.ensures c.in-Formed.is)
+    (layout-none c.args.rec.now c.check_layout.ensures c.in_ok-k.was)
     c.requires
     c.load_graph-held.ensures
     c.is_doubled.ensures
