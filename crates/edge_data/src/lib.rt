@@ -8,7 +8,7 @@ ghost use Rattle.defs.specs.SeqGraph.{saturating_add, joined_data};
 ghost use Rattle.defs.specs.Record.{flag_is_ref, flag_is_capped};
 ghost use Rattle.edge_data.specs.EdgeData.{carried_data};
 
-#[derive(Clone, Copy)]
+#[derive(Clone, Copy, Debug, PartialEq, Eq)]
 pub struct Carried {
     pub support: u32,
     pub flag: u32,
@@ -39,12 +39,6 @@ pub fn flag_of(reference: bool, capped: bool) -> u32
     new_flag(reference) + 2 * new_flag(capped)
 }
 
-pub fn either(a: bool, b: bool) -> bool
-    ensures { result ≡ (a || b) }
-{
-    a || b
-}
-
 pub fn saturating_add(x: u32, y: u32) -> u32
     ensures { result ≡ saturating_add x y }
 {
@@ -55,9 +49,9 @@ pub fn saturating_add(x: u32, y: u32) -> u32
 pub fn joined(a: Carried, b: Carried) -> Carried
     ensures { carried_data result ≡ joined_data (carried_data a) (carried_data b) }
 {
-    let reference = either(flag_is_ref(a.flag), flag_is_ref(b.flag));
-    let one = either(flag_is_capped(a.flag), flag_is_capped(b.flag));
-    let capped = either(one, 4294967295 - a.support < b.support);
+    let reference = flag_is_ref(a.flag) | flag_is_ref(b.flag);
+    let past = u32::MAX - a.support < b.support;
+    let capped = flag_is_capped(a.flag) | flag_is_capped(b.flag) | past;
     let flag = flag_of(reference, capped);
     Carried {
         support: saturating_add(a.support, b.support),

@@ -5,7 +5,7 @@
 ghost use Rattle.tallies.specs.Raises.{counted, TalliesCall, Raises};
 
 // Calls answered, calls refused, rewrites made in the answered calls.
-#[derive(Clone, Copy)]
+#[derive(Clone, Copy, Debug, PartialEq, Eq)]
 #[repr(C)]
 pub struct Tally {
     pub answered: u32,
@@ -28,15 +28,14 @@ fn tallied(t: Tally, number: u32, rewrites: u32) -> Tally
 {
     if number != 0 {
         return Tally {
-            answered: t.answered,
             refused: edge_data::saturating_add(t.refused, 1),
-            rewrites: t.rewrites,
+            ..t
         };
     }
     Tally {
         answered: edge_data::saturating_add(t.answered, 1),
-        refused: t.refused,
         rewrites: edge_data::saturating_add(t.rewrites, rewrites),
+        ..t
     }
 }
 
@@ -49,8 +48,7 @@ pub fn raised(t: Tallies, caller: u32, number: u32, rewrites: u32) -> Tallies
     }
     let mut table = t;
     let i = caller as usize;
-    let old = table.callers[i];
-    let new = tallied(old, number, rewrites);
+    let new = tallied(table.callers[i], number, rewrites);
     table.callers[i] = new;
     table
 }

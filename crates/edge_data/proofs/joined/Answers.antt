@@ -11,9 +11,8 @@ use Rattle.edge_data.proofs.joined.Goals as goal
 
 pub returns : goal.returns
 returns c = joined_is a.support a.flag b.support b.flag _ _ _ _ (omega arith) c.saturating_add.ensures c.flag_of-flag.ensures
-    (c.either-reference.ensures ∙ (λ i. c.flag_is_ref.ensures i || c.flag_is_ref-2.ensures i))
-    (c.either-capped.ensures ∙ ap (λ x. x || ltb (4294967295 - a.support) b.support) (c.either-one.ensures
-    ∙ (λ i. c.flag_is_capped.ensures i || c.flag_is_capped-2.ensures i)))
+    (λ i. c.flag_is_ref.ensures i || c.flag_is_ref-2.ensures i)
+    (ap (λ x. x || ltb (4294967295 - a.support) b.support) (λ i. c.flag_is_capped.ensures i || c.flag_is_capped-2.ensures i))
   where
     a : Carried
     a = c.args.a
