@@ -83,15 +83,6 @@ module _ (m n : ℕ) (es : List ℕ) (last next : ℕ) where
         ∙ sym (goes_of k vs p ∙ rw (← t, ← s, ne_eqb last next o));
   }
 
--- equal flags
-pub beq-yes : (a b : Bool) → a ≡ true → b ≡ beq a b
-beq-yes a true t = rw t
-beq-yes a false t = rw t
-
-pub beq-no : (a b : Bool) → a ≡ false → not b ≡ beq a b
-beq-no a true t = rw t
-beq-no a false t = rw t
-
 -- ---- following a chain
 
 trace-stop : (fuel : ℕ) (g : Graph) (last : ℕ) → chain_goes_on g last (head_or 0 (outgoing_nodes g last)) ≡ false → trace_linear_chain (suc fuel) g last ≡ []

@@ -2,7 +2,6 @@
 #![tactic(auto)]
 
 ghost use Rattle.std.specs.Prelude.{◌≡◌, ◌+◌, ◌*◌, ◌<◌, ◌≤◌, length};
-ghost use Rattle.std.specs.Bool.{beq};
 ghost use Rattle.index.specs.Index.{Indexed};
 ghost use Rattle.chain.specs.Chain.{ChainStart, GoesOn, Traced};
 
@@ -28,15 +27,6 @@ pub fn is_linear_chain_start(
     index::has_several(es, m, n, heads, nexts, 0, u)
 }
 
-fn same(a: bool, b: bool) -> bool
-    ensures { result ≡ beq a b }
-{
-    if a {
-        return b;
-    }
-    !b
-}
-
 // Whether the chain that ends in `last` goes on to `next`.
 pub fn chain_goes_on(
     es: &[u32],
@@ -50,18 +40,11 @@ pub fn chain_goes_on(
     requires { (last < n) × ((next < n) × Indexed m n es.now heads.now nexts.now) }
     ensures { GoesOn m n es.now last next result }
 {
-    if !index::has_one(es, m, n, heads, nexts, 0, last) {
-        return false;
-    }
-    if !index::has_one(es, m, n, heads, nexts, 1, next) {
-        return false;
-    }
-    if last == next {
-        return false;
-    }
-    let a = refs::is_reference_node(es, m, n, heads, nexts, last);
-    let b = refs::is_reference_node(es, m, n, heads, nexts, next);
-    same(a, b)
+    index::has_one(es, m, n, heads, nexts, 0, last)
+        && index::has_one(es, m, n, heads, nexts, 1, next)
+        && last != next
+        && refs::is_reference_node(es, m, n, heads, nexts, last)
+            == refs::is_reference_node(es, m, n, heads, nexts, next)
 }
 
 // Writes the vertices of the chain behind `start`; how many.
@@ -78,8 +61,7 @@ pub fn trace_linear_chain(
     ensures { Traced m n es.now start result out.new }
 {
     let mut last = start;
-    let mut c = 0;
-    while c < n {
+    for c in 0..n {
         if !index::has_one(es, m, n, heads, nexts, 0, last) {
             return c;
         }
@@ -89,8 +71,7 @@ pub fn trace_linear_chain(
             return c;
         }
         out[c] = next;
-        c += 1;
         last = next as usize;
     }
-    c
+    n
 }

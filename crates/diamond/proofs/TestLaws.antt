@@ -2,23 +2,23 @@
 use mathlib.Core.Path.{◌≡◌, refl, sym, ap, ◌∙◌, subst}
 use mathlib.Core.Bool.{Bool, true, false, ◌&&◌}
 use mathlib.Core.List.{List, [], ◌∷◌, map}
-use Prim.Native.Nat.{ℕ, zero, suc, ◌+◌, ◌*◌, ◌-◌, ◌≤◌, ◌<◌}
+use Prim.Native.Nat.{ℕ, zero, suc, ◌+◌, ◌*◌, ◌≤◌, ◌<◌}
 use native.Mathlib.Nat.{add-zero, zero-add, suc-add, add-suc, not-suc-le-zero}
 use native.Mathlib.Omega.{arith}
 use lib.ListN.{length, get_or}
 use lib.Dec.{eqb, ltb}
-use borrow.Author.Tests.{eq-eqb, ne_eqb, eqb-true, eqb-false, lt-ltb, le-ltb}
+use borrow.Author.Tests.{eq-eqb, ne_eqb, lt-ltb, le-ltb}
 use Rattle.defs.specs.Lists.{tab, tab_from, all_of}
 use Rattle.defs.specs.SeqGraph.{outgoing_nodes, out_degree, in_degree}
 use Rattle.defs.specs.Rewrites.{is_diamond, is_tails}
 use Rattle.laws.proofs.Walks.{by_test}
 use Rattle.laws.proofs.ListLaws.{all_of-same, all_yes, all-no}
-use Rattle.tabs.proofs.Tabs.{length-tab, and_then, and-else}
+use Rattle.tabs.proofs.Tabs.{length-tab}
 use Rattle.store.specs.Store.{nums_in, graph_in}
 use Rattle.index.specs.Index.{edge_end, incident_edges, Index, Indexed}
 use Rattle.index.proofs.AdjLaws.{ListWalked, walked_more, walked_end, Testing, testing-start, testing-more}
 use Rattle.index.proofs.IndexLaws.{out-degree-is, in-degree-is, outgoing-is, pair-first}
-use Rattle.diamond.specs.Diamond.{all_enter, in_count, out_count, is_middle, is_tail, Diamond, Tails}
+use Rattle.diamond.specs.Diamond.{in_count, is_middle, is_tail, Diamond, Tails}
 
 all_of-map : {A B : Type 0} (p : B → Bool) (f : A → B) (l : List A) → all_of p (map f l) ≡ all_of (λ (x : A). p (f x)) l
 unfolding all_of
@@ -83,8 +83,8 @@ module _ {m n : ℕ} {es nodes : List ℕ} {c : ℕ} where
   pub diamond-is : {b : ℕ} {r : Bool} → 2 ≤ c → all_of (is_middle m es b) (nums_in c nodes) ≡ true → r ≡ eqb (in_count m es b) c → Diamond m n es nodes c b r
   diamond-is {b} h t q = record { is = λ k vs p. q ∙ sym (diamond-at k n m es vs p b nodes c ∙ rw (lt-ltb 1 c (omega arith), t)) }
 
-  pub tails-few : c < 2 → Tails m n es nodes c false
-  tails-few h = record { is = λ k vs p. sym (tails-at k n m es vs p nodes c ∙ rw (le-ltb 1 c (omega arith))) }
+  pub tails-few : {r : Bool} → r ≡ false → c < 2 → Tails m n es nodes c r
+  tails-few q h = rw q record { is = λ k vs p. sym (tails-at k n m es vs p nodes c ∙ rw (le-ltb 1 c (omega arith))) }
 
   pub tails-is : {r : Bool} → 2 ≤ c → r ≡ all_of (is_tail m es) (nums_in c nodes) → Tails m n es nodes c r
   tails-is h q = record { is = λ k vs p. q ∙ sym (tails-at k n m es vs p nodes c ∙ rw (lt-ltb 1 c (omega arith))) }
@@ -99,15 +99,6 @@ count_past {f} {m} {v = v} {c = c} I W h q = sym (ne_eqb _ c (λ (z : length (in
 pub count-end : {f : ℕ → ℕ} {m n : ℕ} {head next : ℕ → ℕ} {v d e : ℕ} (c : ℕ) → Index f m n head next → ListWalked f m v d e → m ≤ e
     → eqb d c ≡ eqb (length (incident_edges f m v)) c
 count-end c I W h = ap (λ (x : ℕ). eqb x c) (walked_end I W h)
-
--- ---- two ends of is_middle: one edge in and none out, or one in and some out
-
-pub mid-out : (m : ℕ) (es : List ℕ) (v b : ℕ) → eqb (in_count m es v) 1 ≡ true → eqb (out_count m es v) 0 ≡ true → false ≡ is_middle m es b v
-mid-out m es v b s t = and-else _ (le-ltb 0 (out_count m es v) (omega (arith, eqb-true (out_count m es v) 0 t))) ∙ and_then _ s
-
-pub mid-all : (m : ℕ) (es : List ℕ) (v b : ℕ) {y : Bool} → eqb (in_count m es v) 1 ≡ true → eqb (out_count m es v) 0 ≡ false
-    → y ≡ all_enter m es v b → y ≡ is_middle m es b v
-mid-all m es v b s t q = q ∙ and_then _ (lt-ltb 0 (out_count m es v) (omega (arith, eqb-false (out_count m es v) 0 t))) ∙ and_then _ s
 
 -- ---- following v's edges out: all before e enter b
 

@@ -72,13 +72,9 @@ pub fn is_middle(
     requires { (v < n) × Indexed m n es.now heads.now nexts.now }
     ensures { result ≡ is_middle m es.now b v }
 {
-    if !index::has_one(es, m, n, heads, nexts, 1, v) {
-        return false;
-    }
-    if degree_is(es, m, n, heads, nexts, 0, v, 0) {
-        return false;
-    }
-    all_enter(es, m, n, heads, nexts, v, b)
+    index::has_one(es, m, n, heads, nexts, 1, v)
+        && !degree_is(es, m, n, heads, nexts, 0, v, 0)
+        && all_enter(es, m, n, heads, nexts, v, b)
 }
 
 // Whether all of the first c of `nodes` are middles above b.
@@ -95,12 +91,10 @@ pub fn all_middles(
     requires { Below nodes.now c n × Indexed m n es.now heads.now nexts.now }
     ensures { result ≡ all_of (is_middle m es.now b) (nums_in c nodes.now) }
 {
-    let mut i = 0;
-    while i < c {
+    for i in 0..c {
         if !is_middle(es, m, n, heads, nexts, nodes[i] as usize, b) {
             return false;
         }
-        i += 1;
     }
     true
 }
@@ -119,13 +113,9 @@ pub fn is_diamond(
     requires { (b < n) × (Below nodes.now c n × Indexed m n es.now heads.now nexts.now) }
     ensures { Diamond m n es.now nodes.now c b result }
 {
-    if c < 2 {
-        return false;
-    }
-    if !all_middles(es, m, n, heads, nexts, nodes, c, b) {
-        return false;
-    }
-    degree_is(es, m, n, heads, nexts, 1, b as usize, c)
+    2 <= c
+        && all_middles(es, m, n, heads, nexts, nodes, c, b)
+        && degree_is(es, m, n, heads, nexts, 1, b as usize, c)
 }
 
 // Whether v has no edge out and one edge in.
@@ -133,10 +123,7 @@ pub fn is_tail(es: &[u32], m: usize, n: usize, heads: &[u32], nexts: &[u32], v: 
     requires { (v < n) × Indexed m n es.now heads.now nexts.now }
     ensures { result ≡ is_tail m es.now v }
 {
-    if !degree_is(es, m, n, heads, nexts, 0, v, 0) {
-        return false;
-    }
-    index::has_one(es, m, n, heads, nexts, 1, v)
+    degree_is(es, m, n, heads, nexts, 0, v, 0) && index::has_one(es, m, n, heads, nexts, 1, v)
 }
 
 // Whether all of the first c of `nodes` are tails.
@@ -152,12 +139,10 @@ pub fn all_tails(
     requires { Below nodes.now c n × Indexed m n es.now heads.now nexts.now }
     ensures { result ≡ all_of (is_tail m es.now) (nums_in c nodes.now) }
 {
-    let mut i = 0;
-    while i < c {
+    for i in 0..c {
         if !is_tail(es, m, n, heads, nexts, nodes[i] as usize) {
             return false;
         }
-        i += 1;
     }
     true
 }
@@ -175,8 +160,5 @@ pub fn is_tails(
     requires { Below nodes.now c n × Indexed m n es.now heads.now nexts.now }
     ensures { Tails m n es.now nodes.now c result }
 {
-    if c < 2 {
-        return false;
-    }
-    all_tails(es, m, n, heads, nexts, nodes, c)
+    2 <= c && all_tails(es, m, n, heads, nexts, nodes, c)
 }

@@ -1,6 +1,6 @@
 -- A graph held in slices, and the room that its rewrites need. Assumes nothing.
 -- The room is stated by what no rewrite raises: bytes and empty vertices, and edges less vertices plus a quarter of the bytes.
-use Rattle.std.specs.Prelude.{◌≡◌, Bool, true, false, List, ℕ, ◌+◌, ◌*◌, ◌/◌, ◌≤◌, ◌<◌, length}
+use Rattle.std.specs.Prelude.{◌≡◌, Option as OptionOf, Some, None, List, ℕ, ◌+◌, ◌*◌, ◌/◌, ◌≤◌, ◌<◌, length}
 use Rattle.std.proofs.Math.Option.{Option, none, some}
 use Rattle.defs.specs.SeqGraph.{Graph, node_count}
 use Rattle.laws.proofs.Fuel.{Good}
@@ -8,7 +8,6 @@ use Rattle.laws.proofs.Measures.{weight, load}
 use Rattle.store.specs.Store.{graph_in, Within}
 use Rattle.index.specs.Index.{Indexed}
 use Rattle.memory.specs.declared.Held.{Held}
-use Rattle.memory.specs.declared.Tried.{Tried}
 use Rattle.memory.specs.declared.Work.{Work}
 use Rattle.defs.specs.Zip as Z
 
@@ -84,11 +83,10 @@ pub record Simplifiable (least : ℕ) (h : Held) (es vs p heads nexts nodes mp s
   pub countable : Countable 501 0 heads
 
 -- What trying a rewrite leaves, where `o` is what the definition makes: none, and all as it was; or the graph then held.
-pub record Left (o : Option Graph) (h : Held) (es vs p heads nexts : List ℕ) (r : Tried) (es' vs' p' : List ℕ) : Type 0 where
-  pub no : r.done ≡ false → o ≡ none
-  pub same : r.done ≡ false → r.held ≡ h
-  pub same-es : r.done ≡ false → es' ≡ es
-  pub same-vs : r.done ≡ false → vs' ≡ vs
-  pub same-p : r.done ≡ false → p' ≡ p
-  pub yes : r.done ≡ true → o ≡ some (graph_of r.held es' vs' p')
-  pub holds : r.done ≡ true → Holds r.held es' vs' p' heads nexts
+pub record Left (o : Option Graph) (es vs p heads nexts : List ℕ) (r : OptionOf Held) (es' vs' p' : List ℕ) : Type 0 where
+  pub no : r ≡ None → o ≡ none
+  pub same-es : r ≡ None → es' ≡ es
+  pub same-vs : r ≡ None → vs' ≡ vs
+  pub same-p : r ≡ None → p' ≡ p
+  pub yes : (h : Held) → r ≡ Some h → o ≡ some (graph_of h es' vs' p')
+  pub holds : (h : Held) → r ≡ Some h → Holds h es' vs' p' heads nexts

@@ -12,13 +12,6 @@ pub struct Held {
     pub used: usize,
 }
 
-// A rewrite that was tried at a vertex: whether it was done, and the graph then.
-#[derive(Clone, Copy)]
-pub struct Tried {
-    pub done: bool,
-    pub held: Held,
-}
-
 // A graph and the number of rewrites made so far.
 #[derive(Clone, Copy)]
 pub struct Work {

@@ -1,9 +1,9 @@
 -- The answers are the definitions'. Assumes nothing.
 use mathlib.Core.Path.{◌≡◌, refl, sym, ap, ◌∙◌, subst}
-use mathlib.Core.Bool.{Bool, true, false, ◌&&◌, ◌||◌, false≢true, true≢false}
+use mathlib.Core.Bool.{Bool, true, false, ◌&&◌, ◌||◌, true≢false}
 use mathlib.Core.Option.{Option, none, some}
 use mathlib.Core.List.{List, [], ◌∷◌, map}
-use Prim.Native.Nat.{ℕ, ◌+◌, ◌*◌, ◌-◌, ◌≤◌, ◌<◌}
+use Prim.Native.Nat.{ℕ, ◌+◌, ◌*◌, ◌≤◌, ◌<◌}
 use native.Mathlib.Omega.{arith}
 use lib.ListN.{length, get_or}
 use lib.Dec.{eqb, ltb, leb}
@@ -23,12 +23,11 @@ use Rattle.index.proofs.AdjLaws.{at_head, at-step, at-end}
 use Rattle.index.proofs.IndexLaws.{outgoing-is, in-degree-is, pair-first}
 use Rattle.memory.specs.Memory.{graph_of, Holds, Left}
 use Rattle.memory.specs.declared.Held.{Held}
-use Rattle.memory.specs.declared.Tried.{Tried}
 use Rattle.shared.specs.Shared.{Prefix, Suffix}
 use Rattle.diamond.specs.Diamond.{Diamond, Tails}
 use Rattle.split_and_update.specs.Split.{prefix_at, suffix_at, bottom_if, update_change, Splittable, SplitDone}
 use Rattle.split_and_update.proofs.PushLaws.{non_empty-no}
-use Rattle.merge_diamond.specs.Answer.{not_merged, has_merged}
+use Rattle.std.specs.Prelude.{Some, None}
 use Rattle.merge_diamond.proofs.GrownLaws.{GraphGrown, diamond-grown, tails-grown}
 use Rattle.merge_diamond.proofs.FollowLaws.{Follows, nodes-are, bottom-below, length-prefix, length-suffix, prefix-is, suffix-is, splittable}
 
@@ -58,36 +57,29 @@ module _ {m n : ℕ} {es heads nexts : List ℕ} (I : Indexed m n es heads nexts
 
 -- ---- what is left in the slices
 
-pub left-no : {o : Option Graph} {h : Held} {es vs p heads nexts : List ℕ} → o ≡ none → Left o h es vs p heads nexts (not_merged h) es vs p
+pub left-no : {o : Option Graph} {es vs p heads nexts : List ℕ} → o ≡ none → Left o es vs p heads nexts None es vs p
 left-no q = record {
   no = λ t. q;
-  same = λ t. refl;
   same-es = λ t. refl;
   same-vs = λ t. refl;
   same-p = λ t. refl;
-  yes = λ t.
-      absurd (false≢true t);
-  holds = λ t. absurd (false≢true t);
+  yes = λ h t. absurd cc;
+  holds = λ h t. absurd cc;
 }
-
--- an answer that equals the one that is right
-pub left_as : {o : Option Graph} {h : Held} {es vs p heads nexts : List ℕ} {r r' : Tried} {es' vs' p' : List ℕ} → r ≡ r'
-    → Left o h es vs p heads nexts r' es' vs' p' → Left o h es vs p heads nexts r es' vs' p'
-left_as q L = rw q L
 
 left-yes : {o : Option Graph} {h : Held} {es vs p heads nexts nodes : List ℕ} {c top bottom : ℕ} {ends : Bool} {x y : ℕ} {r : Held} {es' vs' : List ℕ}
     → o ≡ some (apply_change (graph_of h es vs p) (update_change (graph_of h es vs p) top ends bottom vs p nodes c x y))
     → GraphGrown (graph_of h es vs p) (update_change (graph_of h es vs p) top ends bottom vs p nodes c x y)
     (apply_change (graph_of h es vs p) (update_change (graph_of h es vs p) top ends bottom vs p nodes c x y)) heads nexts
-    → Holds h es vs p heads nexts → SplitDone h es vs p nodes c top bottom ends x y r es' vs' → Left o h es vs p heads nexts (has_merged r) es' vs' p
-left-yes q G H D = record {
-  no = λ t. absurd (true≢false t);
-  same = λ t. absurd (true≢false t);
-  same-es = λ t. absurd (true≢false t);
-  same-vs = λ t. absurd (true≢false t);
+    → Holds h es vs p heads nexts → SplitDone h es vs p nodes c top bottom ends x y r es' vs' → Left o es vs p heads nexts (Some r) es' vs' p
+left-yes {p = p} {heads = heads} {nexts} {r = r} {es' = es'} {vs' = vs'} q G H D = record {
+  no = λ t. absurd cc;
+  same-es = λ t. absurd cc;
+  same-vs = λ t. absurd cc;
   same-p = λ t. refl;
-  yes = λ t. q ∙ ap some (sym D.is);
-  holds = λ t. record { fit = rw D.is G.fit; within = D.within; used-room = omega (arith, D.used, H.used-room) };
+  yes = λ k t. let e : r ≡ k = cc in q ∙ ap some (sym D.is ∙ ap (λ (held : Held). graph_of held es' vs' p) e);
+  holds = λ k t. let e : r ≡ k = cc in subst (λ (held : Held). Holds held es' vs' p heads nexts) e
+      record { fit = rw D.is G.fit; within = D.within; used-room = omega (arith, D.used, H.used-room) };
 }
 
 -- ---- the definitions, with the parts named
@@ -142,7 +134,7 @@ module _ {h : Held} {es vs p heads nexts nodes mp : List ℕ} {top c : ℕ} (F :
 
   -- ---- diamond
 
-  pub few-left : c < 2 → Left (try_merge_diamond g top) h es vs p heads nexts (not_merged h) es vs p
+  pub few-left : c < 2 → Left (try_merge_diamond g top) es vs p heads nexts None es vs p
   few-left b = left-no (diamond-not g top mids (nodes-are F) (few g mids (bottom_of g mids) (omega (arith, count))))
 
   module _ {b : ℕ} {d : Bool} (s : 2 ≤ c) (q : b ≡ head_or 0 (map (edge_end 1 es) (incident_edges (edge_end 0 es) h.m (get_or nodes 0 0)))) (D :
@@ -155,7 +147,7 @@ module _ {h : Held} {es vs p heads nexts nodes mp : List ℕ} {top c : ℕ} (F :
     diamond-is : is_diamond g mids (bottom_of g mids) ≡ d
     diamond-is = ap (is_diamond g mids) (sym bottom-is) ∙ sym (D.is h.k.0 vs p)
 
-    pub other-left : d ≡ false → Left (try_merge_diamond g top) h es vs p heads nexts (not_merged h) es vs p
+    pub other-left : d ≡ false → Left (try_merge_diamond g top) es vs p heads nexts None es vs p
     other-left t = left-no (diamond-not g top mids (nodes-are F) (diamond-is ∙ t))
 
     one : d ≡ true → (i : ℕ) → i < c → length (incident_edges (edge_end 1 es) h.m (get_or nodes i 0)) ≡ 1
@@ -182,7 +174,7 @@ module _ {h : Held} {es vs p heads nexts nodes mp : List ℕ} {top c : ℕ} (F :
       merges = merges-is g top mids (nodes-are F) pre suf (prefix-is F s' X Y) (suffix-is F s' X Y)
           ∙ ap (λ (z : Bool). z && (non_empty pre || non_empty suf)) diamond-is
 
-      pub unshared-left : d ≡ true → x + y ≡ 0 → Left (try_merge_diamond g top) h es vs p heads nexts (not_merged h) es vs p
+      pub unshared-left : d ≡ true → x + y ≡ 0 → Left (try_merge_diamond g top) es vs p heads nexts None es vs p
       unfolding try_merge_diamond
       unshared-left t z = left-no (given-no _ _ (merges ∙ rw (t, or-none pre suf (omega (arith, length-prefix F s' X Y, length-suffix F s' X Y)))))
 
@@ -208,7 +200,7 @@ module _ {h : Held} {es vs p heads nexts nodes mp : List ℕ} {top c : ℕ} (F :
             absurd (true≢false e)) z (one t) grown
 
         pub diamond-left : {r : Held} {es' vs' : List ℕ} → SplitDone h es vs p nodes c top b true x y r es' vs'
-            → Left (try_merge_diamond g top) h es vs p heads nexts (has_merged r) es' vs' p
+            → Left (try_merge_diamond g top) es vs p heads nexts (Some r) es' vs' p
         diamond-left S = left-yes did grown F.holds S
 
   -- ---- tails
@@ -217,7 +209,7 @@ module _ {h : Held} {es vs p heads nexts nodes mp : List ℕ} {top c : ℕ} (F :
     tails-are : is_tails g mids ≡ d
     tails-are = sym (D.is h.k.0 vs p)
 
-    pub no-tails-left : d ≡ false → Left (try_merge_tails least g top) h es vs p heads nexts (not_merged h) es vs p
+    pub no-tails-left : d ≡ false → Left (try_merge_tails least g top) es vs p heads nexts None es vs p
     no-tails-left t = left-no (tails-not g top mids (nodes-are F) least (tails-are ∙ t))
 
     pub two : d ≡ true → 2 ≤ c
@@ -246,7 +238,7 @@ module _ {h : Held} {es vs p heads nexts nodes mp : List ℕ} {top c : ℕ} (F :
       merges-t = merges-tails g top mids (nodes-are F) tail-pre tail-suf (prefix-is F s'' X Y) (suffix-is F s'' X Y) least
           ∙ rw (tails-are, t, length-suffix F s'' X Y) refl
 
-      pub short-left : y < least → Left (try_merge_tails least g top) h es vs p heads nexts (not_merged h) es vs p
+      pub short-left : y < least → Left (try_merge_tails least g top) es vs p heads nexts None es vs p
       unfolding try_merge_tails
       short-left b = left-no (given-no _ _ (merges-t ∙ lt-leb least y b))
 
@@ -270,5 +262,5 @@ module _ {h : Held} {es vs p heads nexts nodes mp : List ℕ} {top c : ℕ} (F :
         tails-ready = splittable F s'' X Y 0 false (apply_change g C-t) (omega (arith, F.top-old)) (λ e. refl) (omega arith) (tail-one t) grown-t
 
         pub tails-left : {r : Held} {es' vs' : List ℕ} → SplitDone h es vs p nodes c top 0 false x y r es' vs'
-            → Left (try_merge_tails least g top) h es vs p heads nexts (has_merged r) es' vs' p
+            → Left (try_merge_tails least g top) es vs p heads nexts (Some r) es' vs' p
         tails-left S = left-yes did-t grown-t F.holds S

@@ -7,28 +7,9 @@ ghost use Rattle.defs.specs.Lists.{head_or};
 ghost use Rattle.defs.specs.Rewrites.{try_merge_diamond, try_merge_tails};
 ghost use Rattle.index.specs.Index.{Indexed, edge_end, incident_edges};
 ghost use Rattle.memory.specs.Memory.{graph_of, Room, Holds, Left};
-ghost use Rattle.merge_diamond.specs.Answer.{not_merged, has_merged};
 
-use memory::{Held, Tried};
+use memory::Held;
 use split_and_update::split_and_update;
-
-pub fn not_merged(held: Held) -> Tried
-    ensures { result ≡ not_merged held }
-{
-    Tried {
-        done: false,
-        held: held,
-    }
-}
-
-pub fn merged(held: Held) -> Tried
-    ensures { result ≡ has_merged held }
-{
-    Tried {
-        done: true,
-        held: held,
-    }
-}
 
 // The vertex that v's first edge enters, or 0.
 pub fn first_follower(es: &[u32], m: usize, n: usize, heads: &[u32], nexts: &[u32], v: usize) -> u32
@@ -52,28 +33,27 @@ pub fn try_merge_diamond(
     nodes: &mut [u32],
     map: &mut [u32],
     top: u32,
-) -> Tried
+) -> Option<Held>
     requires room { Room es.old vs.old p.now heads.now nexts.now nodes.old map.old × Holds held es.old vs.old p.now heads.now nexts.now }
     requires top_lt_n { (top < held.n) × Indexed held.m held.n es.old heads.now nexts.now }
-    ensures { Left (try_merge_diamond (graph_of held es.old vs.old p.now) top) held es.old
+    ensures { Left (try_merge_diamond (graph_of held es.old vs.old p.now) top) es.old
         vs.old p.now heads.now nexts.now result es.new vs.new p.now }
 {
-    let n = held.n;
-    let m = held.m;
+    let Held { n, m, .. } = held;
     let c = index::collect(es, m, n, heads, nexts, 0, top as usize, nodes);
     if c < 2 {
-        return not_merged(held);
+        return None;
     }
     let b = first_follower(es, m, n, heads, nexts, nodes[0] as usize);
     if !diamond::is_diamond(es, m, n, heads, nexts, nodes, c, b) {
-        return not_merged(held);
+        return None;
     }
     let x = shared::shared_prefix(vs, p, n, nodes, c);
     let y = shared::shared_suffix(vs, p, n, nodes, c, x);
     if x + y == 0 {
-        return not_merged(held);
+        return None;
     }
-    merged(split_and_update(held, es, vs, p, heads, nodes, c, map, top, b, true, x, y))
+    Some(split_and_update(held, es, vs, p, heads, nodes, c, map, top, b, true, x, y))
 }
 
 // `least` is the length that the suffix needs after the prefix is taken off.
@@ -88,23 +68,22 @@ pub fn try_merge_tails(
     map: &mut [u32],
     top: u32,
     least: usize,
-) -> Tried
+) -> Option<Held>
     requires room { Room es.old vs.old p.now heads.now nexts.now nodes.old map.old × Holds held es.old vs.old p.now heads.now nexts.now }
     requires lt_least { (3 < least) × ((top < held.n) × Indexed held.m held.n es.old heads.now nexts.now) }
-    ensures { Left (try_merge_tails least (graph_of held es.old vs.old p.now) top) held
+    ensures { Left (try_merge_tails least (graph_of held es.old vs.old p.now) top)
         es.old vs.old p.now heads.now nexts.now result es.new vs.new
         p.now }
 {
-    let n = held.n;
-    let m = held.m;
+    let Held { n, m, .. } = held;
     let c = index::collect(es, m, n, heads, nexts, 0, top as usize, nodes);
     if !diamond::is_tails(es, m, n, heads, nexts, nodes, c) {
-        return not_merged(held);
+        return None;
     }
     let x = shared::shared_prefix(vs, p, n, nodes, c);
     let len = shared::shared_suffix(vs, p, n, nodes, c, x);
     if len < least {
-        return not_merged(held);
+        return None;
     }
-    merged(split_and_update(held, es, vs, p, heads, nodes, c, map, top, 0, false, x, len))
+    Some(split_and_update(held, es, vs, p, heads, nodes, c, map, top, 0, false, x, len))
 }

@@ -19,7 +19,7 @@ use Rattle.laws.proofs.Whole.{by_list}
 use Rattle.laws.proofs.Fuel.{Good}
 use Rattle.laws.proofs.Measures.{bytes-is, zip-tame}
 use Rattle.laws.proofs.ZipLaws.{Chained, src-moved, src-kept}
-use Rattle.laws.proofs.ZipCounts.{distinct-chain, below}
+use Rattle.laws.proofs.ZipCounts.{distinct-chain}
 use Rattle.tabs.proofs.Tabs.{length-tab, get_or-tab, tab-ext, tab-snoc}
 use Rattle.tabs.proofs.SumTabs.{map-tab, total-sum}
 use Rattle.tabs.proofs.ListTabs.{of-mem-tab}

@@ -33,10 +33,8 @@ pub fn write_chain(
     ensures { ChainWritten vs.now p.old used start nodes.now c result p.new }
 {
     let mut at = append_sequence(vs, p, used, start);
-    let mut i = 0;
-    while i < c {
-        at = append_sequence(vs, p, at, nodes[i]);
-        i += 1;
+    for v in &nodes[..c] {
+        at = append_sequence(vs, p, at, *v);
     }
     at
 }
@@ -80,21 +78,18 @@ pub fn merge_linear_chain(
     ensures { Joined held es.old vs.old p.old heads.now nexts.now
         nodes.now start c result es.new vs.new p.new map.new }
 {
-    let n = held.n;
-    let m = held.m;
     let used = held.used;
     let end = write_chain(vs, p, used, start, nodes, c);
     store::put_vertex(vs, start as usize, used as u32, (end - used) as u32);
     let last = nodes[c - 1] as usize;
-    move_edges(es, m, n, heads, nexts, last, start);
-    let left = compact::remove_vertices_by_id(es, vs, n, m, nodes, c, map);
+    move_edges(es, held.m, held.n, heads, nexts, last, start);
+    let left = compact::remove_vertices_by_id(es, vs, held.n, held.m, nodes, c, map);
     let base = 2 * (heads.len() / 2);
-    let packed = pool::pack(vs, left.n, p, base);
-    let kmer_size = held.k;
+    let used = pool::pack(vs, left.n, p, base);
     Held {
-        k: kmer_size,
         n: left.n,
         m: left.m,
-        used: packed,
+        used,
+        ..held
     }
 }

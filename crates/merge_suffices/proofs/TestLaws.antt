@@ -1,6 +1,6 @@
 -- The tests over the index and the pool are the definition's. Assumes nothing.
 use mathlib.Core.Path.{◌≡◌, refl, sym, ap, ◌∙◌}
-use mathlib.Core.Bool.{Bool, true, false, ◌&&◌}
+use mathlib.Core.Bool.{Bool, false, ◌&&◌}
 use mathlib.Core.List.{List}
 use Prim.Native.Nat.{ℕ, zero, suc, ◌+◌, ◌*◌, ◌<◌}
 use native.Mathlib.Omega.{arith}
@@ -11,7 +11,7 @@ use Rattle.defs.specs.Lists.{all_of, same_list}
 use Rattle.defs.specs.SeqGraph.{Graph, vertex_sequence, out_degree, in_degree}
 use Rattle.defs.specs.Rewrites.{is_merge}
 use Rattle.laws.proofs.ListLaws.{all_of-same}
-use Rattle.tabs.proofs.Tabs.{length-tab, and_then, and-else}
+use Rattle.tabs.proofs.Tabs.{length-tab}
 use Rattle.tabs.proofs.ListTabs.{of-mem-tab, head-tab}
 use Rattle.store.specs.Store.{part, seq_in, graph_in, nums_in}
 use Rattle.store.proofs.VertexLaws.{part-long, seq-at}
@@ -39,16 +39,6 @@ comparable {u = u} {v = v} T a b = record {
   u-pool = T.pool.at u a;
   v-pool = T.pool.at v b;
 }
-
--- the three parts of a test, one after another
-pub first-no : {a r : Bool} (b : Bool) → r ≡ a → r ≡ false → false ≡ a && b
-first-no b q t = and-else _ (sym q ∙ t)
-
-pub second-no : {a b r s : Bool} (c : Bool) → r ≡ a → r ≡ true → s ≡ b → s ≡ false → false ≡ a && (b && c)
-second-no c q t w u = and-else c (sym w ∙ u) ∙ and_then _ (sym q ∙ t)
-
-pub third : {a b c r s x : Bool} → r ≡ a → r ≡ true → s ≡ b → s ≡ true → x ≡ c → x ≡ a && (b && c)
-third q t w u z = z ∙ and_then _ (sym w ∙ u) ∙ and_then _ (sym q ∙ t)
 
 -- ---- the definition
 

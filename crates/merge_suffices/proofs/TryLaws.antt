@@ -3,14 +3,13 @@ use mathlib.Core.Path.{◌≡◌, refl, sym, ap, ◌∙◌, subst}
 use mathlib.Core.Bool.{Bool, true, false}
 use mathlib.Core.Option.{some}
 use mathlib.Core.List.{List, map, Memᴰ}
-use Prim.Native.Nat.{ℕ, ◌*◌, ◌-◌, ◌≤◌, ◌<◌}
+use Prim.Native.Nat.{ℕ, ◌*◌, ◌≤◌, ◌<◌}
 use native.Mathlib.Nat.{add-zero}
 use native.Mathlib.Omega.{arith}
 use lib.ListN.{length, get_or}
 use Rattle.defs.specs.Lists.{given}
 use Rattle.defs.specs.SeqGraph.{Graph, incoming_nodes}
 use Rattle.defs.specs.Rewrites.{is_merge, merges_suffices, try_merge_common_suffices}
-use Rattle.laws.proofs.ListLaws.{clash}
 use Rattle.laws.proofs.Edges.{of-mem-ins}
 use Rattle.tabs.proofs.ListTabs.{mem-tab}
 use Rattle.store.specs.Store.{nums_in}
@@ -18,6 +17,7 @@ use Rattle.compact.specs.Compact.{Below}
 use Rattle.compact.proofs.CompactLaws.{order-in}
 use Rattle.index.specs.Index.{edge_end, incident_edges, Indexed, Collected}
 use Rattle.index.proofs.IndexLaws.{incoming-is}
+use Rattle.std.specs.Prelude.{Some, None}
 use Rattle.memory.specs.Memory.{graph_of, Room, Holds, Left}
 use Rattle.memory.specs.declared.Held.{Held}
 use Rattle.memory.proofs.RoomLaws.{held-vertices, held-edges}
@@ -57,27 +57,25 @@ module _ {h : Held} {es vs p heads nexts nodes mp : List ℕ} (R : Room es vs p 
       pub mergeable : bottom < h.n → t ≡ true → Mergeable h es vs p nodes' c bottom
       mergeable b y = record { below = b; prevs = prevs-below; are = prevs-are; ok = sym answer ∙ y }
 
-      pub left_not : t ≡ false → Left (try_merge_common_suffices g bottom) h es vs p heads nexts record { done = false; held = h } es vs p
+      pub left_not : t ≡ false → Left (try_merge_common_suffices g bottom) es vs p heads nexts None es vs p
       unfolding try_merge_common_suffices merges_suffices given
       left_not y = let z = sym answer ∙ y in record {
         no = λ _. rw z;
-        same = λ _. refl;
         same-es = λ _. refl;
         same-vs = λ _. refl;
         same-p = λ _. refl;
-        yes = λ x. clash x refl;
-        holds = λ x. clash x refl;
+        yes = λ k x. absurd cc;
+        holds = λ k x. absurd cc;
       }
 
       pub left-done : {r : Held} {es' vs' p' : List ℕ} → t ≡ true → Merged h es vs p heads nexts bottom r es' vs' p'
-          → Left (try_merge_common_suffices g bottom) h es vs p heads nexts record { done = true; held = r } es' vs' p'
+          → Left (try_merge_common_suffices g bottom) es vs p heads nexts (Some r) es' vs' p'
       unfolding try_merge_common_suffices merges_suffices given
-      left-done y D = let z = sym answer ∙ y in record {
-        no = λ x. clash refl x;
-        same = λ x. clash refl x;
-        same-es = λ x. clash refl x;
-        same-vs = λ x. clash refl x;
-        same-p = λ x. clash refl x;
-        yes = λ _. rw z (ap some (sym D.is));
-        holds = λ _. D.holds;
+      left-done {r} {es'} {vs'} {p'} y D = let z = sym answer ∙ y in record {
+        no = λ x. absurd cc;
+        same-es = λ x. absurd cc;
+        same-vs = λ x. absurd cc;
+        same-p = λ x. absurd cc;
+        yes = λ k x. let e : r ≡ k = cc in rw z (ap some (sym D.is ∙ ap (λ (held : Held). graph_of held es' vs' p') e));
+        holds = λ k x. let e : r ≡ k = cc in subst (λ (held : Held). Holds held es' vs' p' heads nexts) e D.holds;
       }

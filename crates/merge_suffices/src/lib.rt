@@ -11,7 +11,7 @@ ghost use Rattle.memory.specs.Memory.{Room, Holds, Left, graph_of};
 ghost use Rattle.merge_suffices.specs.Merge.{Comparable, is_prev, MergeTestable, Merges, MergeWritable, MergeWritten, IntoReady, IntoDone, MergeEdgesReady, MergeEdgesDone, Mergeable, Merged};
 
 use compact::Counts;
-use memory::{Held, Tried};
+use memory::Held;
 
 // Whether u and v have the same sequence.
 fn same_sequence(vs: &[u32], p: &[u8], u: u32, v: u32) -> bool
@@ -19,10 +19,8 @@ fn same_sequence(vs: &[u32], p: &[u8], u: u32, v: u32) -> bool
     ensures { result ≡ same_list (seq_in vs.now p.now u) (seq_in vs.now p.now v) }
 {
     let n = store::vertex_len(vs, u);
-    if n != store::vertex_len(vs, v) {
-        return false;
-    }
-    pool::same_part(p, store::vertex_start(vs, u), store::vertex_start(vs, v), n)
+    n == store::vertex_len(vs, v)
+        && pool::same_part(p, store::vertex_start(vs, u), store::vertex_start(vs, v), n)
 }
 
 // Whether v has the bytes of `first`, one follower and a predecessor.
@@ -40,13 +38,9 @@ fn is_prev(
     requires { (first < n) × ((v < n) × MergeTestable n m es.now vs.now p.now heads.now nexts.now) }
     ensures { result ≡ is_prev m es.now vs.now p.now first v }
 {
-    if !same_sequence(vs, p, v, first) {
-        return false;
-    }
-    if !index::has_one(es, m, n, heads, nexts, 0, v as usize) {
-        return false;
-    }
-    0 < index::degree(es, m, n, heads, nexts, 1, v as usize)
+    same_sequence(vs, p, v, first)
+        && index::has_one(es, m, n, heads, nexts, 0, v as usize)
+        && 0 < index::degree(es, m, n, heads, nexts, 1, v as usize)
 }
 
 // Whether all of the first c of `nodes` are such, where the first of them gives the bytes.
@@ -65,12 +59,10 @@ fn all_prevs(
     ensures { result ≡ all_of (is_prev m es.now vs.now p.now (get_or nodes.now 0 0))
         (nums_in c nodes.now) }
 {
-    let mut i = 0;
-    while i < c {
+    for i in 0..c {
         if !is_prev(es, m, n, heads, nexts, vs, p, nodes[0], nodes[i]) {
             return false;
         }
-        i += 1;
     }
     true
 }
@@ -90,10 +82,7 @@ pub fn is_merge(
     requires { Below nodes.now c n × MergeTestable n m es.now vs.now p.now heads.now nexts.now }
     ensures { Merges n m es.now vs.now p.now nodes.now c result }
 {
-    if c == 0 {
-        return false;
-    }
-    all_prevs(es, m, n, heads, nexts, vs, p, nodes, c)
+    0 < c && all_prevs(es, m, n, heads, nexts, vs, p, nodes, c)
 }
 
 // Writes the sequence of `first` and then that of `bottom` to `used` on; where they end.
@@ -126,11 +115,9 @@ fn redirect_into(
 {
     let y = n as u32;
     let mut k = m;
-    let mut i = 0;
-    while i < c {
+    for i in 0..c {
         let v = nodes[i] as usize;
         k = redirect::redirect_edges(es, m, n, heads, nexts, 1, v, k, y, m, map);
-        i += 1;
     }
     k
 }
@@ -194,23 +181,18 @@ fn merge_common_suffices(
     ensures { Merged held es.old vs.old p.old heads.now nexts.now bottom result
         es.new vs.new p.new }
 {
-    let n = held.n;
-    let m = held.m;
-    let used = held.used;
-    let first = nodes[0];
-    let last = bottom as u32;
-    let end = write_merged(vs, p, used, first, last);
+    let Held { n, m, used, .. } = held;
+    let end = write_merged(vs, p, used, nodes[0], bottom as u32);
     store::put_vertex(vs, n, used as u32, (end - used) as u32);
     let k = redirect_merged(es, m, n, heads, nexts, nodes, c, bottom, map);
     let left = remove_merged(es, vs, n + 1, k, nodes, c, bottom, map);
     let base = 2 * (heads.len() / 2);
-    let packed = pool::pack(vs, left.n, p, base);
-    let kmer_size = held.k;
+    let used = pool::pack(vs, left.n, p, base);
     Held {
-        k: kmer_size,
         n: left.n,
         m: left.m,
-        used: packed,
+        used,
+        ..held
     }
 }
 
@@ -225,26 +207,18 @@ pub fn try_merge_common_suffices(
     nodes: &mut [u32],
     map: &mut [u32],
     bottom: usize,
-) -> Tried
+) -> Option<Held>
     requires { Room es.old vs.old p.old heads.now nexts.now nodes.old map.old
         × (Holds held es.old vs.old p.old heads.now nexts.now
         × (Indexed held.m held.n es.old heads.now nexts.now × (bottom < held.n))) }
-    ensures { Left (try_merge_common_suffices (graph_of held es.old vs.old p.old) bottom) held
+    ensures { Left (try_merge_common_suffices (graph_of held es.old vs.old p.old) bottom)
         es.old vs.old p.old heads.now nexts.now result es.new vs.new
         p.new }
 {
-    let n = held.n;
-    let m = held.m;
+    let Held { n, m, .. } = held;
     let c = index::collect(es, m, n, heads, nexts, 1, bottom, nodes);
     if !is_merge(es, m, n, heads, nexts, vs, p, nodes, c) {
-        return Tried {
-            done: false,
-            held: held,
-        };
+        return None;
     }
-    let h = merge_common_suffices(held, es, vs, p, heads, nexts, nodes, map, bottom, c);
-    Tried {
-        done: true,
-        held: h,
-    }
+    Some(merge_common_suffices(held, es, vs, p, heads, nexts, nodes, map, bottom, c))
 }

@@ -2,27 +2,7 @@
 #![tactic(auto)]
 
 ghost use Rattle.std.specs.Prelude.{◌≡◌, ◌+◌, ◌*◌, ◌-◌, ◌<◌};
-ghost use Rattle.redirect.specs.Redirect.{new_from, new_to, place, OneReady, OneDone, Redirectable, Redirected};
-
-fn new_from(off: usize, y: u32, x: u32) -> u32
-    ensures { result ≡ new_from off y x }
-{
-    if off == 0 { y } else { x }
-}
-
-fn new_to(off: usize, y: u32, x: u32) -> u32
-    ensures { result ≡ new_to off y x }
-{
-    if off == 0 { x } else { y }
-}
-
-// Where the mark says that an edge stands: one at or below `lo` is of an earlier use, and says nothing.
-fn place_of(mark: u32, lo: usize, m: usize) -> usize
-    ensures { result ≡ place lo m mark }
-{
-    let x = mark as usize;
-    if x <= lo { m } else { x - 1 }
-}
+ghost use Rattle.redirect.specs.Redirect.{OneReady, OneDone, Redirectable, Redirected};
 
 // Adds edge e with y as its end `off`, or joins it to the one that is there; the number of edges.
 fn redirect_edge(
@@ -39,9 +19,12 @@ fn redirect_edge(
     ensures { OneDone off y n lo m es.old e result es.new map.new }
 {
     let x = store::edge_end(es, e, 1 - off);
-    let at = place_of(map[x as usize], lo, m);
-    let d = store::carried(es, e);
-    let k = store::add_or_update_edge(es, m, at, new_from(off, y, x), new_to(off, y, x), d);
+    // a mark at or below `lo` is of an earlier use, and says nothing
+    let mark = map[x as usize] as usize;
+    let at = if mark <= lo { m } else { mark - 1 };
+    let from = if off == 0 { y } else { x };
+    let to = if off == 0 { x } else { y };
+    let k = store::add_or_update_edge(es, m, at, from, to, store::carried(es, e));
     map[x as usize] = (at + 1) as u32;
     k
 }

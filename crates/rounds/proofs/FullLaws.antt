@@ -1,15 +1,14 @@
 -- The whole of simplification. Assumes nothing.
-use mathlib.Core.Path.{◌≡◌, refl, sym, ap, ◌∙◌, subst}
+use mathlib.Core.Path.{◌≡◌, refl, sym, ◌∙◌, subst}
 use mathlib.Core.List.{List, []}
-use Prim.Native.Nat.{ℕ, ◌+◌, ◌*◌, ◌≤◌, ◌<◌}
+use Prim.Native.Nat.{ℕ, ◌≤◌}
 use native.Mathlib.Omega.{arith}
 use lib.ListN.{length}
 use Rattle.defs.specs.Zip as Z
 use Rattle.defs.specs.Zip.{zip_linear_chains}
-use Rattle.defs.specs.Simplify as S
 use Rattle.defs.specs.Simplify.{rounds_from, simplify_graph_full}
 use Rattle.index.specs.Index.{Indexed, Indexable}
-use Rattle.memory.specs.Memory.{graph_of, work_of, signature_room, Room, Holds, Ready, Scratch, Countable, Simplifiable}
+use Rattle.memory.specs.Memory.{signature_room, Ready, Scratch, Countable, Simplifiable}
 use Rattle.memory.specs.declared.Held.{Held}
 use Rattle.memory.specs.declared.Work.{Work}
 use Rattle.memory.proofs.RoomLaws.{held-vertices, held-edges, held-ends, room-kept, holds_kept}

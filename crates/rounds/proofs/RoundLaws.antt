@@ -2,7 +2,7 @@
 use mathlib.Core.Path.{◌≡◌, refl, sym, ap, ◌∙◌}
 use mathlib.Core.Bool.{true, false}
 use mathlib.Core.List.{List, []}
-use Prim.Native.Nat.{ℕ, zero, suc, ◌+◌, ◌*◌, ◌-◌, ◌≤◌, ◌<◌}
+use Prim.Native.Nat.{ℕ, suc, ◌+◌, ◌*◌, ◌-◌, ◌≤◌, ◌<◌}
 use native.Mathlib.Nat.{mul-le-mul_right, suc-mul}
 use native.Mathlib.Numerals.{add-one}
 use native.Mathlib.Omega.{arith}
@@ -23,7 +23,6 @@ use Rattle.signature.specs.Signature.{stored_signature, SignatureWritable, Signa
 use Rattle.signature.proofs.StoredLaws.{stored_same, none-stored, stored-long}
 use Rattle.signature.specs.declared.Signed.{Signed}
 use Rattle.rounds.specs.Rounds.{Once, Whole}
-use Rattle.rounds.specs.declared.Simplified.{Simplified}
 
 -- ---- the definition, case by case
 module _ (least k n : ℕ) (sig : List ℕ) (w : Z.Work) where

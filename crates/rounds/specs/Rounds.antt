@@ -1,6 +1,5 @@
 -- What rounds leave. Assumes nothing.
 use Rattle.std.specs.Prelude.{◌≡◌, List, [], ℕ, ◌+◌, ◌*◌, ◌≤◌}
-use Rattle.defs.specs.SeqGraph.{Graph}
 use Rattle.defs.specs.Simplify as S
 use Rattle.defs.specs.Simplify.{simplify_graph_once, rounds_from, simplify_graph_full, end_number}
 use Rattle.memory.specs.Memory.{graph_of, work_of, vertex_room, Holds, Ready}

@@ -6,6 +6,7 @@ ghost use Rattle.memory.specs.Memory.{graph_of, signature_room, Room, Holds, Rea
 ghost use Rattle.rounds.specs.Rounds.{ended, Once, Whole, Full};
 
 use memory::{Held, Work};
+use until::{Diamonds, Merges, Tails, transform_until_complete};
 
 // The least common suffix of tails that is split off (`Simplify.min_tail_suffix_len`).
 pub const MIN_TAIL_SUFFIX_LEN: usize = 10;
@@ -22,12 +23,11 @@ pub struct Simplified {
 fn end_with(w: Work, rounds: u32, end: u32) -> Simplified
     ensures { result ≡ ended w rounds end }
 {
-    let held = w.held;
     Simplified {
-        held: held,
+        held: w.held,
         rewrites: w.rewrites,
-        rounds: rounds,
-        end: end,
+        rounds,
+        end,
     }
 }
 
@@ -50,10 +50,10 @@ pub fn simplify_graph_once(
     ensures { Once least work es.old vs.old p.old result es.new vs.new
         p.new heads.new nexts.new nodes.new map.new }
 {
-    let a = until::transform_until_complete(1, least, work, es, vs, p, heads, nexts, nodes, map);
-    let b = until::transform_until_complete(2, least, a, es, vs, p, heads, nexts, nodes, map);
+    let a = transform_until_complete::<Diamonds>(least, work, es, vs, p, heads, nexts, nodes, map);
+    let b = transform_until_complete::<Tails>(least, a, es, vs, p, heads, nexts, nodes, map);
     let c = splits::split_until_complete(b, es, vs, p, heads, nexts, nodes, map, tried);
-    let d = until::transform_until_complete(4, least, c, es, vs, p, heads, nexts, nodes, map);
+    let d = transform_until_complete::<Merges>(least, c, es, vs, p, heads, nexts, nodes, map);
     zip_linear_chains::zip_linear_chains(d, es, vs, p, heads, nexts, nodes, map, starts)
 }
 
@@ -79,25 +79,22 @@ pub fn simplify_rounds(
         es.new vs.new p.new }
 {
     let mut w = work;
-    let mut n = 0u32;
     let mut old = 0;
-    while n < 100 {
+    for n in 0..100 {
         let before = w.rewrites;
         w = simplify_graph_once(w, least, es, vs, p, heads, nexts, nodes, map, starts, tried);
-        n += 1;
         if w.rewrites == before {
-            return end_with(w, n, 1);
+            return end_with(w, n + 1, 1);
         }
-        if 7 <= n {
+        if 6 <= n {
             let s = signature::replace_signature(sig, old, w.held, es, vs, p);
-            let same = s.same;
-            if same {
-                return end_with(w, n, 2);
+            if s.same {
+                return end_with(w, n + 1, 2);
             }
             old = s.at;
         }
     }
-    end_with(w, n, 3)
+    end_with(w, 100, 3)
 }
 
 // A zip, then the rounds.
@@ -120,10 +117,7 @@ pub fn simplify_graph_full(
         es.new vs.new p.new }
 {
     index::build_index(es, held.m, held.n, heads, nexts);
-    let work = Work {
-        held: held,
-        rewrites: 0,
-    };
+    let work = Work { held, rewrites: 0 };
     let zipped = zip_linear_chains::zip_linear_chains(
         work, es, vs, p, heads, nexts, nodes, map, starts,
     );

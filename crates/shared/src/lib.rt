@@ -9,10 +9,7 @@ pub fn has_byte(p: &[u8], start: usize, len: usize, i: usize, b: u8) -> bool
     requires { start + len ≤ length p.now }
     ensures { result ≡ ltb i len && eqb (get_or p.now (start + i) 0) b }
 {
-    if len <= i {
-        return false;
-    }
-    p[start + i] == b
+    i < len && p[start + i] == b
 }
 
 // Whether byte i from the back of the sequence from `start` on, of `len` bytes, is b; the first `skip` bytes do not count.
@@ -20,10 +17,7 @@ pub fn has_last(p: &[u8], start: usize, len: usize, skip: usize, i: usize, b: u8
     requires { (start + len ≤ length p.now) × (skip ≤ len) }
     ensures { result ≡ ltb i (len - skip) && eqb (get_or p.now (start + len - 1 - i) 0) b }
 {
-    if len - skip <= i {
-        return false;
-    }
-    p[start + len - 1 - i] == b
+    i < len - skip && p[start + len - 1 - i] == b
 }
 
 // How many bytes the sequences of the first c of `nodes` share at their start.
@@ -33,22 +27,18 @@ pub fn shared_prefix(vs: &[u32], p: &[u8], n: usize, nodes: &[u32], c: usize) ->
 {
     let start = store::vertex_start(vs, nodes[0]);
     let len = store::vertex_len(vs, nodes[0]);
-    let mut i = 0;
-    'prefix: while i < len {
+    for i in 0..len {
         let b = p[start + i];
-        let mut k = 1;
-        while k < c {
+        for k in 1..c {
             let v = nodes[k];
             let s = store::vertex_start(vs, v);
             let l = store::vertex_len(vs, v);
             if !has_byte(p, s, l, i, b) {
-                break 'prefix;
+                return i;
             }
-            k += 1;
         }
-        i += 1;
     }
-    i
+    len
 }
 
 // How many bytes the sequences of the first c of `nodes` share at their end, behind the first `skip` bytes of each.
@@ -60,20 +50,16 @@ pub fn shared_suffix(vs: &[u32], p: &[u8], n: usize, nodes: &[u32], c: usize, sk
     let len = store::vertex_len(vs, nodes[0]);
     let end = store::vertex_start(vs, nodes[0]) + len;
     let most = len - skip;
-    let mut i = 0;
-    'suffix: while i < most {
+    for i in 0..most {
         let b = p[end - 1 - i];
-        let mut k = 1;
-        while k < c {
+        for k in 1..c {
             let v = nodes[k];
             let s = store::vertex_start(vs, v);
             let l = store::vertex_len(vs, v);
             if !has_last(p, s, l, skip, i, b) {
-                break 'suffix;
+                return i;
             }
-            k += 1;
         }
-        i += 1;
     }
-    i
+    most
 }

@@ -6,6 +6,7 @@ use Prim.Native.Nat.{ℕ, zero, suc, ◌+◌, ◌*◌, ◌-◌, ◌≤◌, ◌<�
 use native.Mathlib.Nat.{add-zero, zero-add}
 use native.Mathlib.Numerals.{add-one}
 use native.Mathlib.Omega.{arith}
+use native.Mathlib.Decide.{ℕ_discrete}
 use lib.ListN.{length, get_or, set, take, drop, length-append, get_or-append}
 use lib.Seq.{get_or-set_same, get_or-set_other, ext_get_or, take-suc, get_or-append-add, length-take-le, take_all}
 use lib.Dec.{eqb, ltb}
@@ -271,8 +272,12 @@ module _ {sig : List ℕ} {old : ℕ} {h : Held} {es vs p : List ℕ} {r₁ r₂
       nums : nums_in r₄.at l₄ ≡ stored
       nums = nums-is l₄ stored r₄.at long (λ i b. all.is i b)
 
-      pub signed-other : (r₄.at ≡ old → ⊥) → Signature sig old h es vs p record { at = r₄.at; same = false } l₄
-      signed-other o = record { room = fits; is = nums; same = other_length sig old stored (λ z. o (long ∙ z)) }
-
-      pub signed_same : r₄.at ≡ old → Signature sig old h es vs p r₄ l₄
-      signed_same q = record { room = fits; is = nums; same = all.same ∙ same_whole sig old stored (sym long ∙ q) }
+      pub signed : {b : Bool} → (r₄.at ≡ old → b ≡ r₄.same) → ((r₄.at ≡ old → ⊥) → b ≡ false) → Signature sig old h es vs p record { at = r₄.at; same = b } l₄
+      signed whole other = record {
+        room = fits;
+        is = nums;
+        same = elim (ℕ_discrete r₄.at old) [
+          | yes q ↦ whole q ∙ all.same ∙ same_whole sig old stored (sym long ∙ q)
+          | no o ↦ other o ∙ other_length sig old stored (λ z. o (long ∙ z))
+        ];
+      }

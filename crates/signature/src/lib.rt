@@ -22,10 +22,7 @@ fn same_at(sig: &[u32], at: usize, x: u32, old: usize) -> bool
     requires { old ≤ length sig.now }
     ensures { result ≡ same_at sig.now old at x }
 {
-    if old <= at {
-        return false;
-    }
-    sig[at] == x
+    at < old && sig[at] == x
 }
 
 // Writes one number.
@@ -33,20 +30,9 @@ fn put(sig: &mut [u32], old: usize, s: Signed, x: u32) -> Signed
     requires { Writable sig.old old s 1 }
     ensures { WrittenOver sig.old old s (x ∷ []) result sig.new }
 {
-    let at = s.at;
-    let same = s.same;
-    let here = same_at(sig, at, x, old);
-    sig[at] = x;
-    if same {
-        return Signed {
-            at: at + 1,
-            same: here,
-        };
-    }
-    Signed {
-        at: at + 1,
-        same: false,
-    }
+    let same = s.same && same_at(sig, s.at, x, old);
+    sig[s.at] = x;
+    Signed { at: s.at + 1, same }
 }
 
 // Writes the bytes of a part.
@@ -55,10 +41,8 @@ fn put_bytes(sig: &mut [u32], old: usize, s: Signed, seq: &[u8]) -> Signed
     ensures { WrittenOver sig.old old s seq.now result sig.new }
 {
     let mut t = s;
-    let mut i = 0;
-    while i < seq.len() {
-        t = put(sig, old, t, seq[i] as u32);
-        i += 1;
+    for byte in seq {
+        t = put(sig, old, t, *byte as u32);
     }
     t
 }
@@ -81,10 +65,8 @@ fn put_vertices(sig: &mut [u32], old: usize, s: Signed, n: usize, vs: &[u32], p:
     ensures { WrittenOver sig.old old s (stored_vertices n vs.now p.now) result sig.new }
 {
     let mut t = s;
-    let mut v = 0;
-    while v < n {
+    for v in 0..n {
         t = put_vertex(sig, old, t, vs, p, v as u32);
-        v += 1;
     }
     t
 }
@@ -94,11 +76,7 @@ fn end_and_flag(es: &[u32], i: usize) -> u32
     requires { (4 * i + 4 ≤ length es.now) × (2 * get_or es.now (4 * i + 1) 0 + 1 < 4294967296) }
     ensures { result ≡ 2 * get_or es.now (4 * i + 1) 0 + bit (flag_is_ref (get_or es.now (4 * i + 3) 0)) }
 {
-    let to = store::edge_to(es, i);
-    if store::edge_is_ref(es, i) {
-        return 2 * to + 1;
-    }
-    2 * to
+    2 * store::edge_to(es, i) + u32::from(store::edge_is_ref(es, i))
 }
 
 // Writes the three numbers of edge i.
@@ -120,10 +98,8 @@ fn put_edges(sig: &mut [u32], old: usize, s: Signed, m: usize, es: &[u32]) -> Si
     ensures { WrittenOver sig.old old s (stored_edges m es.now) result sig.new }
 {
     let mut t = s;
-    let mut i = 0;
-    while i < m {
+    for i in 0..m {
         t = put_edge(sig, old, t, es, i);
-        i += 1;
     }
     t
 }
@@ -144,13 +120,8 @@ pub fn replace_signature(
     let counts = put(sig, old, first, held.m as u32);
     let vertices = put_vertices(sig, old, counts, held.n, vs, p);
     let s = put_edges(sig, old, vertices, held.m, es);
-    let at = s.at;
-    let same = s.same;
-    if at != old {
-        return Signed {
-            at: at,
-            same: false,
-        };
+    Signed {
+        same: s.same && s.at == old,
+        ..s
     }
-    Signed { at: at, same: same }
 }

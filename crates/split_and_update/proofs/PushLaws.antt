@@ -1,13 +1,12 @@
 -- Vertices and edges that are pushed behind the old ones. Assumes nothing.
 use mathlib.Core.Path.{◌≡◌, refl, sym, ap, ◌∙◌, subst}
-use mathlib.Core.Bool.{Bool, true, false, not}
+use mathlib.Core.Bool.{Bool, true, false}
 use mathlib.Core.List.{List, [], ◌∷◌, ◌++◌, append_assoc, append-nil}
-use Prim.Native.Nat.{ℕ, ◌+◌, ◌*◌, ◌-◌, ◌≤◌, ◌<◌}
+use Prim.Native.Nat.{ℕ, ◌+◌, ◌*◌, ◌≤◌, ◌<◌}
 use native.Mathlib.Omega.{arith}
 use native.Mathlib.Decide.{ℕ_discrete}
-use lib.ListN.{length, get_or, set, length-set, length-append, take, drop}
+use lib.ListN.{length, get_or, set, length-set, length-append}
 use lib.Seq.{get_or-set_same, get_or-set_other}
-use borrow.Author.Tests.{not-true, not-false}
 use Rattle.defs.specs.Lists.{bit}
 use Rattle.defs.specs.SeqGraph.{Edge}
 use Rattle.defs.specs.Rewrites.{non_empty, only_if}
@@ -16,7 +15,6 @@ use Rattle.tabs.proofs.Tabs.{tab-snoc, tab-ext}
 use Rattle.store.specs.Store.{edge, edges_in, put_edge, put_vertex, part, seq_in, seqs_in}
 use Rattle.store.proofs.EdgeLaws.{length-put, put-at, put-push}
 use Rattle.store.proofs.VertexLaws.{part-long, length-put-vertex, put-before}
-use Rattle.shared.proofs.PartLaws.{drop-part, take_part}
 use Rattle.split_and_update.specs.Pushed.{EdgesPushed, edge_if, VertsPushed, PartPushed}
 
 -- ---- edges
@@ -117,15 +115,3 @@ part-put {k} {vs} {vs'} {start} {q} z h e = record {
 -- a part of the pool stands where it was taken
 pub part-own : (p : List ℕ) (at n : ℕ) → at + n ≤ length p → part p at (length (part p at n)) ≡ part p at n
 part-own p at n b = ap (part p at) (part-long p at n b)
-
--- the part of a sequence that is handed on
-module _ (p : List ℕ) (start len x y : ℕ) (h : x + y ≤ len) (b : start + len ≤ length p) where
-  pub rest-is : take (len - y - x) (drop x (take (start + len - start) (drop start p))) ≡ part p (start + x) (len - y - x)
-  rest-is =
-      let z : start + len - start ≡ len = omega arith in
-      ap (λ (n : ℕ). take (len - y - x) (drop x (take n (drop start p)))) z
-      ∙ ap (take (len - y - x)) (drop-part p start len x (omega arith) b)
-      ∙ take_part p (start + x) (len - x) (len - y - x) (omega arith) (omega arith)
-
-  pub rest-length : length (take (len - y - x) (drop x (take (start + len - start) (drop start p)))) ≡ len - y - x
-  rest-length = ap length rest-is ∙ part-long p (start + x) (len - y - x) (omega arith)

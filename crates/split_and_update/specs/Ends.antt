@@ -1,5 +1,5 @@
 -- What the edges at the middles carry, and the new edges. Assumes nothing.
-use Rattle.std.specs.Prelude.{◌≡◌, Bool, true, false, cond, not, ◌||◌, List, [], ◌∷◌, ◌++◌, map, ℕ, ◌+◌, ◌*◌, ◌-◌, ◌≤◌, ◌<◌, length, get_or, eqb, ltb}
+use Rattle.std.specs.Prelude.{◌≡◌, Bool, true, false, cond, not, ◌||◌, List, [], ◌∷◌, ◌++◌, map, ℕ, ◌+◌, ◌*◌, ◌≤◌, ◌<◌, length, get_or, eqb, ltb}
 use Rattle.defs.specs.Lists.{bit, keep_if, any_of}
 use Rattle.defs.specs.SeqGraph.{Edge, EdgeData, new_edge, joined_data}
 use Rattle.defs.specs.Rewrites.{MidPlan, support_one, edges_to_middles, edges_from_middles, prefix_to_suffix_from, only_if}

@@ -2,7 +2,7 @@
 // (`split_and_update`). New vertices and edges stand behind the old ones; then the middles go.
 #![tactic(auto)]
 
-ghost use Rattle.std.specs.Prelude.{◌≡◌, cond, ◌&&◌, ◌+◌, ◌*◌, ◌-◌, ◌<◌, ◌≤◌, eqb, length};
+ghost use Rattle.std.specs.Prelude.{◌≡◌, cond, ◌+◌, ◌*◌, ◌-◌, ◌<◌, ◌≤◌, eqb, length};
 ghost use Rattle.defs.specs.Lists.{bit};
 ghost use Rattle.defs.specs.SeqGraph.{joined_data};
 ghost use Rattle.edge_data.specs.EdgeData.{carried_data};
@@ -36,18 +36,6 @@ pub struct Added {
     pub all: usize,
 }
 
-pub fn both(a: bool, b: bool) -> bool
-    ensures { result ≡ a && b }
-{
-    if a { b } else { false }
-}
-
-pub fn pick(test: bool, a: u32, b: u32) -> u32
-    ensures { result ≡ cond test a b }
-{
-    if test { a } else { b }
-}
-
 // What v's first edge at the end `off` carries. Where there is none: support 0, a reference edge where the edge into v is one, not capped.
 pub fn end_data(es: &[u32], m: usize, heads: &[u32], off: usize, v: u32) -> Carried
     requires { Entered m es.now heads.now off v }
@@ -59,10 +47,7 @@ pub fn end_data(es: &[u32], m: usize, heads: &[u32], off: usize, v: u32) -> Carr
     }
     let into = heads[2 * (v as usize) + 1] as usize;
     let flag = edge_data::new_flag(store::edge_is_ref(es, into));
-    Carried {
-        support: 0,
-        flag: flag,
-    }
+    Carried { support: 0, flag }
 }
 
 // A part of the pool that starts at `start` becomes the sequence of vertex k, unless it is empty; the number of vertices.
@@ -70,7 +55,7 @@ pub fn push_part(vs: &mut [u32], k: usize, start: usize, part: &[u8]) -> usize
     requires { (start + length part.now < 4294967296) × (0 < length part.now → 2 * k + 2 ≤ length vs.old) }
     ensures { PartPushed k vs.old start part.now result vs.new }
 {
-    if part.len() == 0 {
+    if part.is_empty() {
         return k;
     }
     store::put_vertex(vs, k, start as u32, part.len() as u32);
@@ -91,10 +76,7 @@ pub fn push_rest(
     requires k_in_bounds { x + y < len → 2 * k + 2 ≤ length vs.old }
     ensures { PartPushed k vs.old (start + x) (part p.now (start + x) (len - y - x)) result vs.new }
 {
-    let seq = &p[start..start + len];
-    let end = len - y;
-    let rest = &seq[x..end];
-    push_part(vs, k, start + x, rest)
+    push_part(vs, k, start + x, &p[start + x..start + len - y])
 }
 
 // What is left of each of the first c of `nodes`; the number of vertices.
@@ -111,12 +93,10 @@ pub fn push_rests(
     ensures { RestsPushed k vs.old p.now nodes.now c x y result vs.new }
 {
     let mut j = k;
-    let mut i = 0;
-    while i < c {
+    for i in 0..c {
         let start = store::vertex_start(vs, nodes[i]);
         let len = store::vertex_len(vs, nodes[i]);
         j = push_rest(vs, j, p, start, len, x, y);
-        i += 1;
     }
     j
 }
@@ -136,13 +116,11 @@ pub fn mids_ref(
     ensures { result ≡ any_ref off (plans_of m es.now heads.now (left_nodes vs.now cut nodes.now c)) }
 {
     let mut any = false;
-    let mut i = 0;
-    while i < c {
+    for i in 0..c {
         let v = nodes[i];
-        i += 1;
         if cut < store::vertex_len(vs, v) {
             let d = end_data(es, m, heads, off, v);
-            any = edge_data::either(any, edge_data::flag_is_ref(d.flag));
+            any |= edge_data::flag_is_ref(d.flag);
         }
     }
     any
@@ -165,10 +143,8 @@ pub fn prefix_to_suffix(
         support: 0,
         flag: 0,
     };
-    let mut i = 0;
-    while i < c {
+    for i in 0..c {
         let v = nodes[i];
-        i += 1;
         if store::vertex_len(vs, v) <= cut {
             let into = end_data(es, m, heads, 1, v);
             let out = end_data(es, m, heads, 0, v);
@@ -192,9 +168,9 @@ pub fn put_mid_edge(es: &mut [u32], k: usize, off: usize, u: u32, j: u32, s: u32
 {
     if off == 1 {
         store::put_edge(es, k, u, j, s, f);
-        return;
+    } else {
+        store::put_edge(es, k, j, u, s, f);
     }
-    store::put_edge(es, k, j, u, s, f);
 }
 
 // Edges between u and the middles that remain, which stand from `first` on; the number of edges.
@@ -217,10 +193,8 @@ pub fn push_mid_edges(
 {
     let mut at = k;
     let mut j = first;
-    let mut i = 0;
-    while i < c {
+    for i in 0..c {
         let v = nodes[i];
-        i += 1;
         if cut < store::vertex_len(vs, v) {
             let d = end_data(es, m, heads, off, v);
             put_mid_edge(es, at, off, u, j, d.support, d.flag);
@@ -261,10 +235,10 @@ pub fn add_edges(
     let direct = edge_data::flag_is_ref(d.flag);
     let to_mids = mids_ref(es, m, vs, heads, nodes, c, cut, 1);
     let from_mids = mids_ref(es, m, vs, heads, nodes, c, cut, 0);
-    let into = edge_data::new_flag(edge_data::either(to_mids, direct));
-    let out = edge_data::new_flag(edge_data::either(from_mids, direct));
-    let t = pick(w.prefixed, w.prefix, w.top);
-    let b = pick(w.suffixed, w.suffix, w.bottom);
+    let into = edge_data::new_flag(to_mids || direct);
+    let out = edge_data::new_flag(from_mids || direct);
+    let t = if w.prefixed { w.prefix } else { w.top };
+    let b = if w.suffixed { w.suffix } else { w.bottom };
     let once = twice_if(w.prefixed, d);
     let k1 = push_edge_if(es, m, w.prefixed, w.top, w.prefix, 1, into);
     let k2 = push_edge_if(es, k1, w.linked, w.suffix, w.bottom, 1, out);
@@ -288,15 +262,14 @@ pub fn add_vertices(
 {
     let start = store::vertex_start(vs, nodes[0]);
     let end = start + store::vertex_len(vs, nodes[0]);
-    let behind = start + x;
-    let suffix = push_part(vs, n, start, &p[start..behind]);
+    let suffix = push_part(vs, n, start, &p[start..start + x]);
     let from = end - y;
     let middles = push_part(vs, suffix, from, &p[from..end]);
     let all = push_rests(vs, middles, p, nodes, c, x, y);
     Added {
-        suffix: suffix,
-        middles: middles,
-        all: all,
+        suffix,
+        middles,
+        all,
     }
 }
 
@@ -313,16 +286,15 @@ pub fn new_places(
     requires { (n < 4294967296) × ((a.suffix < 4294967296) × (a.middles + c < 4294967296)) }
     ensures { result ≡ places_of top bottom ends n a c x y }
 {
-    let linked = both(0 < y, ends);
     Places {
-        top: top,
-        bottom: bottom,
+        top,
+        bottom,
         prefix: n as u32,
         suffix: a.suffix as u32,
         middles: a.middles as u32,
         prefixed: 0 < x,
         suffixed: 0 < y,
-        linked: linked,
+        linked: 0 < y && ends,
         consumed: a.all < a.middles + c,
     }
 }
@@ -347,17 +319,13 @@ pub fn split_and_update(
     ensures { SplitDone held es.old vs.old p.now nodes.now c top bottom ends x y result
         es.new vs.new }
 {
-    let n = held.n;
-    let m = held.m;
-    let a = add_vertices(vs, n, p, nodes, c, x, y);
-    let w = new_places(top, bottom, ends, n, a, c, x, y);
-    let d = add_edges(es, m, vs, heads, nodes, c, x + y, w);
-    let left = compact::remove_vertices_by_id(es, vs, a.all, d, nodes, c, map);
-    let kmer_size = held.k;
+    let a = add_vertices(vs, held.n, p, nodes, c, x, y);
+    let w = new_places(top, bottom, ends, held.n, a, c, x, y);
+    let m = add_edges(es, held.m, vs, heads, nodes, c, x + y, w);
+    let left = compact::remove_vertices_by_id(es, vs, a.all, m, nodes, c, map);
     Held {
-        k: kmer_size,
         n: left.n,
         m: left.m,
-        used: held.used,
+        ..held
     }
 }

@@ -383,5 +383,5 @@ module _ {m n s : ℕ} {es₀ heads nexts vs nodes : List ℕ} {c bottom : ℕ} 
 
 -- the number that the code counts on
 pub entries : {m n s : ℕ} {es₀ mp₀ heads vs nodes : List ℕ} {c bottom y x k : ℕ} {es mp : List ℕ} {i : ℕ} → x ≡ y
-    → AddingEdges m n s es₀ mp₀ heads vs nodes c bottom (y + 1) k es mp i → AddingEdges m n s es₀ mp₀ heads vs nodes c bottom (x + 1) k es mp i
+    → AddingEdges m n s es₀ mp₀ heads vs nodes c bottom y k es mp i → AddingEdges m n s es₀ mp₀ heads vs nodes c bottom x k es mp i
 entries q A = rw q A

@@ -12,7 +12,7 @@ use Rattle.defs.specs.SeqGraph.{Edge, Graph, Change, node_count, vertex_sequence
 use Rattle.defs.specs.SeqGraph.{with_additions, apply_change, add_or_update_edges}
 use Rattle.defs.specs.Rewrites.{is_split, split_suffix, splits_suffix, split_change, split_vertices, split_edges, try_split_common_suffix}
 use Rattle.laws.proofs.Walks.{by_test}
-use Rattle.laws.proofs.ListLaws.{by_order, clash, given-some}
+use Rattle.laws.proofs.ListLaws.{by_order, given-some}
 use Rattle.laws.proofs.Edges.{elem_of-true, of-mem-ins, order-grown}
 use Rattle.laws.proofs.Diamonds.{of-mem-outs}
 use Rattle.laws.proofs.Changes.{Local, edges-local, verts-local, bounded-grown}
@@ -32,8 +32,7 @@ use Rattle.memory.proofs.RoomLaws.{fit-vertices, fit_edges, fit-tame, held-verti
 use Rattle.shared.specs.Shared.{start_at, len_at, Suffix}
 use Rattle.merge_suffices.proofs.TryLaws.{prevs-are, prevs-below}
 use Rattle.split_tests.specs.SplitTests.{SplitTestable, suffix_of, BeforeBottom, suffix_by, Splits}
-use Rattle.split_tests.specs.declared.OptionSuffix.{OptionSuffix}
-use Rattle.split_tests.specs.declared.OptionSuffix.TheVariants.{Some, None}
+use Rattle.std.specs.Prelude.{Option as OptionOf, Some, None}
 use Rattle.split_tests.proofs.TestLaws as T
 use Rattle.split_suffix.specs.Split.{suffix_number, suffix_edges, suffix_verts, SplitEdgesReady, SplitEdgesDone, VertsReady, VertsDone, Ending, SplitTried}
 use Rattle.split_suffix.proofs.EdgeLoops.{number-low}
@@ -88,25 +87,24 @@ module _ {h : Held} {es vs p heads nexts nodes mp : List ℕ} (R : Room es vs p 
   split-to : {t : Bool} → is_split g bottom (nums_in c prevs) (suffix_of g (nums_in c prevs)) ≡ t → is_split g bottom before-bottom suffix ≡ t
   split-to e = ap (λ (l : List ℕ). is_split g bottom l (suffix_of g l)) (sym are) ∙ e
 
-  module _ {by : OptionSuffix} (S : Splits h.n h.m es vs p prevs c by) where
+  module _ {by : OptionOf ℕ} (S : Splits h.n h.m es vs p prevs c by) where
     splits-as : {o : Option ℕ} → suffix_by by ≡ o
         → given (is_split g bottom (nums_in c prevs) (suffix_of g (nums_in c prevs))) (length (suffix_of g (nums_in c prevs))) ≡ o
     splits-as q = sym (S.is h.k.0 bottom before) ∙ q
 
-    pub left_not : {mp' : List ℕ} → by ≡ None → SplitTried h es vs p heads nexts bottom record { done = false; held = h } es vs mp'
+    pub left_not : {mp' : List ℕ} → by ≡ None → SplitTried h es vs p heads nexts bottom None es vs mp'
     unfolding try_split_common_suffix splits_suffix split_suffix given
     left_not z = let e = split-to (given-none _ _ (splits-as (ap suffix_by z))) in record {
       left = record {
         no = λ _. rw e;
-        same = λ _. refl;
         same-es = λ _. refl;
         same-vs = λ _. refl;
         same-p = λ _. refl;
-        yes = λ x. clash x refl;
-        holds = λ x. clash x refl;
+        yes = λ k x. absurd cc;
+        holds = λ k x. absurd cc;
       };
-      numbered = λ x. clash x refl;
-      kept = λ x. clash x refl;
+      numbered = λ k x. absurd cc;
+      kept = λ k x. absurd cc;
     }
 
     module _ {s : ℕ} (found : by ≡ Some s) where
@@ -246,26 +244,27 @@ module _ {h : Held} {es vs p heads nexts nodes mp : List ℕ} (R : Room es vs p 
               verts-with : seqs_in j vs₁ p ≡ g.verts ++ change.verts
               verts-with = V₁.is p ∙ ap (λ (x : ℕ). seqs_in h.n vs p ++ suffix_verts vs p prevs x s c) qf ∙ ap (λ (x : List (List ℕ)). g.verts ++ x) verts-are
 
-          pub left-done : SplitTried h es vs p heads nexts bottom record {
-            done = true;
-            held =
-                record { k = h.k; n = r.n; m = r.m; used = h.used };
-          } es₂ vs₂ mp₂
+          abbrev after : Held
+          after = record { k = h.k; n = r.n; m = r.m; used = h.used }
+
+          holds-after : Holds after es₂ vs₂ p heads nexts
+          holds-after = record {
+            fit = rw removed-is fit-new;
+            within = D.within h.used (V₁.within h.used H.within
+                (omega (arith, qf, split-ending.long, H.within.at (get_or prevs 0 0) (below.at 0 (omega (arith, two))))));
+            used-room = H.used-room;
+          }
+
+          pub left-done : SplitTried h es vs p heads nexts bottom (Some after) es₂ vs₂ mp₂
           left-done = record {
             left = record {
-              no = λ x. clash refl x;
-              same = λ x. clash refl x;
-              same-es = λ x. clash refl x;
-              same-vs = λ x. clash refl x;
-              same-p = λ x. clash refl x;
-              yes = λ _. did ∙ ap some (sym removed-is);
-              holds = λ _. record {
-                fit = rw removed-is fit-new;
-                within = D.within h.used (V₁.within h.used H.within
-                    (omega (arith, qf, split-ending.long, H.within.at (get_or prevs 0 0) (below.at 0 (omega (arith, two))))));
-                used-room = H.used-room;
-              };
+              no = λ x. absurd cc;
+              same-es = λ x. absurd cc;
+              same-vs = λ x. absurd cc;
+              same-p = λ x. absurd cc;
+              yes = λ k x. let e : after ≡ k = cc in did ∙ ap some (sym removed-is ∙ ap (λ (held : Held). graph_of held es₂ vs₂ p) e);
+              holds = λ k x. let e : after ≡ k = cc in subst (λ (held : Held). Holds held es₂ vs₂ p heads nexts) e holds-after;
             };
-            numbered = λ _. record { room = omega (arith, low, D.numbered.room); is = λ v b. D.numbered.is v (omega (arith, low)) };
-            kept = λ _ u b. D.kept u (omega (arith, low)) ∙ ap (λ (l : List ℕ). keeps l u) are;
+            numbered = λ _ _. record { room = omega (arith, low, D.numbered.room); is = λ v b. D.numbered.is v (omega (arith, low)) };
+            kept = λ _ _ u b. D.kept u (omega (arith, low)) ∙ ap (λ (l : List ℕ). keeps l u) are;
           }

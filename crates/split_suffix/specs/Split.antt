@@ -1,5 +1,5 @@
 -- What splitting the predecessors of a vertex does to the slices. Assumes nothing.
-use Rattle.std.specs.Prelude.{◌≡◌, Bool, true, false, cond, List, [], ◌∷◌, ◌++◌, ℕ, zero, suc, ◌+◌, ◌*◌, ◌-◌, ◌≤◌, ◌<◌, length, get_or, ltb}
+use Rattle.std.specs.Prelude.{◌≡◌, Bool, Option as OptionOf, Some, false, cond, List, [], ◌∷◌, ◌++◌, ℕ, zero, suc, ◌+◌, ◌*◌, ◌-◌, ◌≤◌, ◌<◌, length, get_or, ltb}
 use Rattle.defs.specs.Lists.{tab, concat}
 use Rattle.defs.specs.SeqGraph.{Edge, incoming_nodes, keeps, add_or_update_edges}
 use Rattle.defs.specs.Rewrites.{try_split_common_suffix}
@@ -8,7 +8,6 @@ use Rattle.compact.specs.Compact.{Below}
 use Rattle.index.specs.Index.{Indexed}
 use Rattle.memory.specs.Memory.{graph_of, Left}
 use Rattle.memory.specs.declared.Held.{Held}
-use Rattle.memory.specs.declared.Tried.{Tried}
 use Rattle.redirect.specs.Redirect.{redirected_all}
 
 -- more than s bytes: a prefix is left
@@ -141,7 +140,7 @@ pub record Ending (vs : List ℕ) (v s : ℕ) : Type 0 where
   pub small : get_or vs (2 * v) 0 + get_or vs (2 * v + 1) 0 < 4294967296
 
 -- a split that was tried: besides the graph, the new numbers plus 1 in mp'
-pub record SplitTried (h : Held) (es vs p heads nexts : List ℕ) (bottom : ℕ) (r : Tried) (es' vs' mp' : List ℕ) : Type 0 where
-  pub left : Left (try_split_common_suffix (graph_of h es vs p) bottom) h es vs p heads nexts r es' vs' p
-  pub numbered : r.done ≡ true → Numbered h.n mp'
-  pub kept : r.done ≡ true → (u : ℕ) → u < h.n → kept_by mp' u ≡ keeps (incoming_nodes (graph_of h es vs p) bottom) u
+pub record SplitTried (h : Held) (es vs p heads nexts : List ℕ) (bottom : ℕ) (r : OptionOf Held) (es' vs' mp' : List ℕ) : Type 0 where
+  pub left : Left (try_split_common_suffix (graph_of h es vs p) bottom) es vs p heads nexts r es' vs' p
+  pub numbered : (done : Held) → r ≡ Some done → Numbered h.n mp'
+  pub kept : (done : Held) → r ≡ Some done → (u : ℕ) → u < h.n → kept_by mp' u ≡ keeps (incoming_nodes (graph_of h es vs p) bottom) u

@@ -4,19 +4,10 @@
 ghost use Rattle.std.specs.Prelude.{◌≡◌, ◌+◌, ◌*◌, ◌-◌, ◌<◌, get_or};
 ghost use Rattle.index.specs.Index.{Indexed};
 ghost use Rattle.memory.specs.Memory.{Room, Holds};
-ghost use Rattle.split_suffix.specs.Split.{entry_number, Linkable, LinksDone, BlockReady, BlockDone, SplitEdgesReady, SplitEdgesDone};
+ghost use Rattle.split_suffix.specs.Split.{Linkable, LinksDone, BlockReady, BlockDone, SplitEdgesReady, SplitEdgesDone};
 ghost use Rattle.split_suffix.specs.Split.{Cuttable, CutDone, VertsReady, VertsDone, Ending, SplitTried};
 
-use memory::{Held, Tried};
-use split_tests::OptionSuffix;
-
-// The vertex that takes over the edges into a predecessor, where y is its suffix vertex.
-fn entry_of(prefix: bool, y: u32) -> u32
-    requires { y + 1 < 4294967296 }
-    ensures { result ≡ entry_number prefix y }
-{
-    if prefix { y + 1 } else { y }
-}
+use memory::Held;
 
 // Adds the edge from the prefix vertex, y + 1, if there is one, to the suffix vertex y, and the edge from y to the bottom; the number of edges.
 fn link_suffix(es: &mut [u32], k: usize, y: u32, bottom: u32, prefix: bool, s: u32, f: u32) -> usize
@@ -55,7 +46,8 @@ fn split_edges(
     let s = store::edge_support(es, e);
     let f = store::edge_flag(es, e);
     let j = link_suffix(es, k, y, bottom, prefix, s, f);
-    let into = entry_of(prefix, y);
+    // what entered v enters its prefix vertex, if there is one
+    let into = y + u32::from(prefix);
     redirect::redirect_edges(es, m, n, heads, nexts, 1, u, j, into, j, map)
 }
 
@@ -79,13 +71,11 @@ fn add_edges(
     compact::fill(map, n, 0);
     let mut y = n as u32;
     let mut k = m;
-    let mut i = 0;
-    while i < c {
+    for i in 0..c {
         let v = nodes[i];
         let prefix = s < store::vertex_len(vs, v);
         k = split_edges(es, m, n, heads, nexts, v, y, bottom, prefix, k, map);
-        y = entry_of(prefix, y) + 1;
-        i += 1;
+        y += 1 + u32::from(prefix);
     }
     k
 }
@@ -111,10 +101,8 @@ fn add_vertices(vs: &mut [u32], n: usize, nodes: &[u32], c: usize, from: u32, s:
     ensures { VertsDone n vs.old nodes.now c from s result vs.new }
 {
     let mut k = n;
-    let mut i = 0;
-    while i < c {
+    for i in 0..c {
         k = split_vertex(vs, k, nodes[i], from, s);
-        i += 1;
     }
     k
 }
@@ -138,36 +126,23 @@ pub fn try_split_common_suffix(
     nodes: &mut [u32],
     map: &mut [u32],
     bottom: usize,
-) -> Tried
+) -> Option<Held>
     requires { Room es.old vs.old p.now heads.now nexts.now nodes.old map.old
         × (Holds held es.old vs.old p.now heads.now nexts.now
         × (Indexed held.m held.n es.old heads.now nexts.now × (bottom < held.n))) }
     ensures { SplitTried held es.old vs.old p.now heads.now nexts.now bottom result
         es.new vs.new map.new }
 {
-    let n = held.n;
-    let m = held.m;
+    let Held { n, m, .. } = held;
     let c = index::collect(es, m, n, heads, nexts, 1, bottom, nodes);
-    let suffix = split_tests::safe_to_split(es, m, n, heads, nexts, vs, p, nodes, c);
-    let OptionSuffix::Some(s) = suffix else {
-        return Tried {
-            done: false,
-            held: held,
-        };
-    };
+    let s = split_tests::safe_to_split(es, m, n, heads, nexts, vs, p, nodes, c)?;
     let from = suffix_start(vs, nodes[0], s);
     let k = add_edges(es, m, n, heads, nexts, vs, nodes, c, s, bottom as u32, map);
     let j = add_vertices(vs, n, nodes, c, from, s);
     let left = compact::remove_vertices_by_id(es, vs, j, k, nodes, c, map);
-    let kmer_size = held.k;
-    let h = Held {
-        k: kmer_size,
+    Some(Held {
         n: left.n,
         m: left.m,
-        used: held.used,
-    };
-    Tried {
-        done: true,
-        held: h,
-    }
+        ..held
+    })
 }

@@ -25,7 +25,7 @@ use Rattle.refs.specs.Refs.{RefSource}
 use Rattle.shared.specs.Shared.{Parts, start_at, len_at, seqs_at, Suffix}
 use Rattle.diamond.proofs.TestLaws.{all_of-no}
 use Rattle.split_tests.specs.SplitTests.{one_out, is_long, SplitTestable, Eliminates, suffix_of, BeforeBottom, SplitBy, Splits}
-use Rattle.split_tests.specs.declared.OptionSuffix.TheVariants.{Some, None}
+use Rattle.std.specs.Prelude.{Some, None}
 
 -- ---- the first reference source
 

@@ -1,5 +1,5 @@
 -- When the predecessors of a vertex are split. Assumes nothing.
-use Rattle.std.specs.Prelude.{◌≡◌, Bool, true, false, ℕ, ◌+◌, ◌*◌, ◌≤◌, ◌<◌, length, get_or, eqb}
+use Rattle.std.specs.Prelude.{◌≡◌, Bool, Option as OptionOf, Some, None, true, false, ℕ, ◌+◌, ◌*◌, ◌≤◌, ◌<◌, length, get_or, eqb}
 use Rattle.std.proofs.Math.Option.{Option, none, some}
 use mathlib.Core.List.{List, map, Memᴰ}
 use Rattle.defs.specs.Lists.{elem_of, common_suffix, given}
@@ -9,8 +9,6 @@ use Rattle.store.specs.Store.{graph_in, nums_in, Within}
 use Rattle.compact.specs.Compact.{Below}
 use Rattle.index.specs.Index.{edge_end, incident_edges, Indexed}
 use Rattle.shared.specs.Shared.{Suffix}
-use Rattle.split_tests.specs.declared.OptionSuffix.{OptionSuffix}
-use Rattle.split_tests.specs.declared.OptionSuffix.TheVariants.{Some, None}
 
 -- v has one follower
 abbrev pub one_out : ℕ → List ℕ → ℕ → Bool
@@ -41,7 +39,7 @@ pub record BeforeBottom (g : Graph) (bottom : ℕ) (l : List ℕ) : Type 0 where
   pub not_behind : (v : ℕ) → Memᴰ v l → elem_of v (outgoing_nodes g bottom) ≡ false
 
 -- the length of the suffix that they are split by, or none
-abbrev pub suffix_by : OptionSuffix → Option ℕ
+abbrev pub suffix_by : OptionOf ℕ → Option ℕ
 suffix_by (Some s) = some s
 suffix_by None = none
 
@@ -52,7 +50,7 @@ pub record SplitBy (m : ℕ) (es vs p nodes : List ℕ) (c s : ℕ) : Type 0 whe
   pub single : (i : ℕ) → i < c → one_out m es (get_or nodes i 0) ≡ true
 
 -- the answer is the definition's, whatever k and the bottom that the nodes stand before
-pub record Splits (n m : ℕ) (es vs p nodes : List ℕ) (c : ℕ) (r : OptionSuffix) : Type 0 where
+pub record Splits (n m : ℕ) (es vs p nodes : List ℕ) (c : ℕ) (r : OptionOf ℕ) : Type 0 where
   pub is : (k bottom : ℕ) → BeforeBottom (graph_in k n m es vs p) bottom (nums_in c nodes)
       → suffix_by r ≡ given (is_split (graph_in k n m es vs p) bottom (nums_in c nodes) (suffix_of (graph_in k n m es vs p) (nums_in c nodes)))
       (length (suffix_of (graph_in k n m es vs p) (nums_in c nodes)))

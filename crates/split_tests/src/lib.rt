@@ -8,13 +8,6 @@ ghost use Rattle.compact.specs.Compact.{Below};
 ghost use Rattle.index.specs.Index.{Indexed};
 ghost use Rattle.split_tests.specs.SplitTests.{one_out, is_long, SplitTestable, Eliminates, Splits};
 
-// The suffix that the predecessors of a vertex are split by, as its length, or none.
-#[derive(Clone, Copy)]
-pub enum OptionSuffix {
-    Some(usize),
-    None,
-}
-
 // Whether each of the first c of `nodes` has one follower.
 fn all_one_out(
     es: &[u32],
@@ -28,12 +21,10 @@ fn all_one_out(
     requires { Below nodes.now c n × Indexed m n es.now heads.now nexts.now }
     ensures { result ≡ all_of (one_out m es.now) (nums_in c nodes.now) }
 {
-    let mut i = 0;
-    while i < c {
+    for i in 0..c {
         if !index::has_one(es, m, n, heads, nexts, 0, nodes[i] as usize) {
             return false;
         }
-        i += 1;
     }
     true
 }
@@ -53,13 +44,11 @@ pub fn would_eliminate_ref_source(
     requires { (2 * n ≤ length vs.now) × (Below nodes.now c n × Indexed m n es.now heads.now nexts.now) }
     ensures { Eliminates n m es.now vs.now nodes.now c s result }
 {
-    let mut i = 0;
-    while i < c {
+    for i in 0..c {
         let v = nodes[i];
         if refs::is_ref_source(es, m, n, heads, nexts, v as usize) {
             return store::vertex_len(vs, v) == s;
         }
-        i += 1;
     }
     false
 }
@@ -69,17 +58,15 @@ fn all_long(vs: &[u32], n: usize, nodes: &[u32], c: usize, s: usize) -> bool
     requires { (2 * n ≤ length vs.now) × Below nodes.now c n }
     ensures { result ≡ all_of (is_long vs.now s) (nums_in c nodes.now) }
 {
-    let mut i = 0;
-    while i < c {
+    for i in 0..c {
         if store::vertex_len(vs, nodes[i]) != s {
             return false;
         }
-        i += 1;
     }
     true
 }
 
-// The suffix that the first c of `nodes`, predecessors of a vertex, are split by.
+// The suffix that the first c of `nodes`, predecessors of a vertex, are split by, as its length, or none.
 // That none of them is that vertex or follows it needs no test: there is no cycle.
 pub fn safe_to_split(
     es: &[u32],
@@ -91,25 +78,19 @@ pub fn safe_to_split(
     p: &[u8],
     nodes: &[u32],
     c: usize,
-) -> OptionSuffix
+) -> Option<usize>
     requires { SplitTestable n m es.now vs.now p.now heads.now nexts.now nodes.now c }
     ensures { Splits n m es.now vs.now p.now nodes.now c result }
 {
-    if c < 2 {
-        return OptionSuffix::None;
-    }
-    if !all_one_out(es, m, n, heads, nexts, nodes, c) {
-        return OptionSuffix::None;
+    if c < 2 || !all_one_out(es, m, n, heads, nexts, nodes, c) {
+        return None;
     }
     let s = shared::shared_suffix(vs, p, n, nodes, c, 0);
-    if s == 0 {
-        return OptionSuffix::None;
+    if s == 0
+        || would_eliminate_ref_source(es, m, n, heads, nexts, vs, nodes, c, s)
+        || all_long(vs, n, nodes, c, s)
+    {
+        return None;
     }
-    if would_eliminate_ref_source(es, m, n, heads, nexts, vs, nodes, c, s) {
-        return OptionSuffix::None;
-    }
-    if all_long(vs, n, nodes, c, s) {
-        return OptionSuffix::None;
-    }
-    OptionSuffix::Some(s)
+    Some(s)
 }

@@ -1,8 +1,8 @@
 -- Marks that follow their vertices. Assumes nothing.
-use mathlib.Core.Path.{◌≡◌, refl, sym, ap, ◌∙◌, subst}
-use mathlib.Core.Bool.{Bool, true, false, not}
+use mathlib.Core.Path.{◌≡◌, refl, sym, ap, ◌∙◌}
+use mathlib.Core.Bool.{Bool, true, false}
 use mathlib.Core.List.{List, [], ◌∷◌, map}
-use Prim.Native.Nat.{ℕ, zero, suc, ◌+◌, ◌*◌, ◌-◌, ◌≤◌, ◌<◌}
+use Prim.Native.Nat.{ℕ, zero, suc, ◌+◌, ◌≤◌, ◌<◌}
 use native.Mathlib.Numerals.{add-one}
 use native.Mathlib.Omega.{arith}
 use native.Mathlib.Decide.{ℕ_discrete}
@@ -10,14 +10,14 @@ use lib.ListN.{length, get_or, set, length-set}
 use lib.Seq.{get_or-set_same, get_or-set_other}
 use lib.Dec.{eqb}
 use borrow.Author.Tests.{eq-eqb, ne_eqb, eqb-true, eqb-false}
-use Rattle.defs.specs.Lists.{rank, elem_of, keep_if, bit}
+use Rattle.defs.specs.Lists.{rank, elem_of, keep_if}
 use Rattle.defs.specs.SeqGraph.{keeps, remap_numbers}
 use Rattle.laws.proofs.Walks.{by_test}
-use Rattle.laws.proofs.ListLaws.{clash, by_order, rank-yes, rank-no, rank_mono, rank_lt, rank-inj, keep_if-yes, keep_if-no}
+use Rattle.laws.proofs.ListLaws.{clash, by_order, rank-yes, rank-no, rank_lt, rank-inj, keep_if-yes, keep_if-no}
 use Rattle.tabs.proofs.Ranks.{rank_same}
-use Rattle.store.specs.Store.{is_set, kept_by, Numbered}
+use Rattle.store.specs.Store.{is_set, kept_by}
 use Rattle.compact.specs.Compact.{Cleared}
-use Rattle.splits.specs.Splits.{TriedMarks, Movable, MarksMoved}
+use Rattle.splits.specs.Splits.{TriedMarks, MarksMoved}
 
 -- ---- moving
 

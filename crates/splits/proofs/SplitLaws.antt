@@ -1,12 +1,11 @@
 -- The loops of the splits. Assumes nothing.
 use mathlib.Core.Path.{◌≡◌, refl, sym, ap, ◌∙◌, subst}
-use mathlib.Core.Bool.{Bool, true, false}
-use mathlib.Core.Option.{Option, none, some, some-injective}
-use mathlib.Core.List.{List, [], ◌∷◌, ◌++◌}
-use Prim.Native.Nat.{ℕ, zero, suc, ◌+◌, ◌*◌, ◌-◌, ◌≤◌, ◌<◌}
+use mathlib.Core.Bool.{false}
+use mathlib.Core.Option.{Option, some}
+use mathlib.Core.List.{List, [], ◌∷◌}
+use Prim.Native.Nat.{ℕ, zero, suc, ◌+◌, ◌-◌, ◌≤◌, ◌<◌}
 use native.Mathlib.Numerals.{add-one}
 use native.Mathlib.Omega.{arith}
-use native.Mathlib.Decide.{ℕ_discrete}
 use lib.ListN.{length, get_or, set, length-set, length-append}
 use lib.Seq.{get_or-set_same, get_or-set_other}
 use lib.Dec.{eqb}
@@ -14,23 +13,23 @@ use borrow.Author.Tests.{eqb-true, eqb-false}
 use Rattle.defs.specs.Lists.{rank, elem_of}
 use Rattle.defs.specs.SeqGraph.{Graph, node_count, incoming_nodes, keeps, remap_numbers, with_additions, apply_change, remove_vertices_by_id}
 use Rattle.defs.specs.Rewrites.{splits_suffix, split_change, try_split_common_suffix}
-use Rattle.defs.specs.Simplify.{Split, first_split, split_until_complete, fuel_for}
+use Rattle.defs.specs.Simplify.{first_split, split_until_complete, fuel_for}
 use Rattle.laws.proofs.Walks.{by_test}
 use Rattle.laws.proofs.ListLaws.{clash, given-some, rank_mono}
 use Rattle.laws.proofs.Nets.{order-restrict}
 use Rattle.laws.proofs.Measures.{weight, order-weight, enough-is, Tame}
 use Rattle.laws.proofs.Bound.{first_split-tame}
-use Rattle.laws.proofs.Whole.{again, first_split-zero, first_split-tried, first_split-none, first_split-some, split_all-none, split_all-some}
+use Rattle.laws.proofs.Whole.{first_split-zero, first_split-tried, first_split-none, first_split-some, split_all-none, split_all-some}
 use Rattle.tabs.proofs.Tabs.{one_less}
 use Rattle.tabs.proofs.Ranks.{rank_same}
 use Rattle.compact.specs.Compact.{Cleared}
 use Rattle.compact.proofs.CompactLaws.{order-in}
-use Rattle.store.specs.Store.{is_set, kept_by, Numbered}
+use Rattle.store.specs.Store.{is_set, kept_by}
 use Rattle.store.proofs.EdgeLaws.{set_is, set-not}
 use Rattle.index.specs.Index.{Indexed, Indexable}
-use Rattle.memory.specs.Memory.{graph_of, work_of, vertex_room, Room, Holds, Ready, Counted, Left}
+use Rattle.memory.specs.Memory.{graph_of, work_of, vertex_room, Ready, Counted, Left}
 use Rattle.memory.specs.declared.Held.{Held}
-use Rattle.memory.specs.declared.Tried.{Tried}
+use Rattle.std.specs.Prelude.{Option as OptionOf, Some, None}
 use Rattle.memory.specs.declared.Work.{Work}
 use Rattle.memory.proofs.RoomLaws.{held-vertices, held-edges, held-ends, room-kept, holds_kept}
 use Rattle.split_suffix.specs.Split.{SplitTried}
@@ -52,30 +51,33 @@ split-order g v g' d =
     left : node_count (apply_change g (split_change g v)) ≡ rank (keeps (incoming_nodes g v)) (node_count (with_additions (split_change g v) g))
     left = unfold apply_change remove_vertices_by_id split_change in (order-restrict (keeps (incoming_nodes g v)) (with_additions (split_change g v) g))
 
-module _ {h : Held} {es vs p heads nexts : List ℕ} {v : ℕ} {r : Tried} {es' vs' mp' : List ℕ} (S : SplitTried h es vs p heads nexts v r es' vs' mp') where
-  pub remarked-no : {tried : List ℕ} → r.done ≡ false → Remarked h es vs p heads nexts tried v r es' vs' tried
-  remarked-no t = record { left = S.left; same = λ _. refl; marks = λ s. clash s t }
+module _ {h : Held} {es vs p heads nexts : List ℕ} {v : ℕ} {r : OptionOf Held} {es' vs' mp' : List ℕ} (S : SplitTried h es vs p heads nexts v r es' vs' mp') where
+  pub remarked-no : {tried : List ℕ} → r ≡ None → Remarked h es vs p heads nexts tried v r es' vs' tried
+  remarked-no t = record { left = S.left; same = λ _. refl; marks = λ k s. absurd cc }
 
-  -- the vertices that stay come first, the new ones behind them
-  pub kept-first : r.done ≡ true → rank (kept_by mp') h.n ≤ r.held.n
-  kept-first t =
-      let gone = incoming_nodes (graph_of h es vs p) v in
-      omega (
-        arith,
-        rank_same (kept_by mp') (keeps gone) h.n (λ u b. S.kept t u b),
-        split-order (graph_of h es vs p) v (graph_of r.held es' vs' p) (S.left.yes t),
-        ap (rank (keeps gone)) (order-in h.k.0 h.n h.m es vs p),
-        order-in r.held.k.0 r.held.n r.held.m es' vs' p,
-      )
+  module _ {k : Held} (t : r ≡ Some k) where
+    -- the vertices that stay come first, the new ones behind them
+    pub kept-first : rank (kept_by mp') h.n ≤ k.n
+    kept-first =
+        let gone = incoming_nodes (graph_of h es vs p) v in
+        omega (
+          arith,
+          rank_same (kept_by mp') (keeps gone) h.n (λ u b. S.kept k t u b),
+          split-order (graph_of h es vs p) v (graph_of k es' vs' p) (S.left.yes k t),
+          ap (rank (keeps gone)) (order-in h.k.0 h.n h.m es vs p),
+          order-in k.k.0 k.n k.m es' vs' p,
+        )
 
-  pub remarked-yes : {tried tried₁ tried' : List ℕ} {j : ℕ} → r.done ≡ true → MarksMoved tried h.n mp' j tried₁
-      → Cleared tried₁ j r.held.n tried' → Remarked h es vs p heads nexts tried v r es' vs' tried'
-  remarked-yes {tried} {tried₁} {tried'} {j} t M C = record {
-    left = S.left;
-    same = λ s. clash t s;
-    marks = λ _ list K. marks-after h.n r.held.n j mp' (incoming_nodes (graph_of h es vs p) v) tried tried₁ tried' (S.kept t) M C
-        (omega (arith, M.count, kept-first t)) list K;
-  }
+    pub remarked-yes : {tried tried₁ tried' : List ℕ} {j : ℕ} → MarksMoved tried h.n mp' j tried₁
+        → Cleared tried₁ j k.n tried' → Remarked h es vs p heads nexts tried v r es' vs' tried'
+    remarked-yes {tried} {tried₁} {tried'} {j} M C = record {
+      left = S.left;
+      same = λ s. absurd cc;
+      marks = λ k' s list K. let e : k ≡ k' = cc in
+          subst (λ (x : Held). TriedMarks x.n tried' (remap_numbers (incoming_nodes (graph_of h es vs p) v) list)) e
+          (marks-after h.n k.n j mp' (incoming_nodes (graph_of h es vs p) v) tried tried₁ tried' (S.kept k t) M C
+          (omega (arith, M.count, kept-first)) list K);
+    }
 
 -- ---- the first split
 
@@ -147,10 +149,10 @@ module _ {h : Held} {es₀ vs₀ p nodes₀ mp₀ tried₀ : List ℕ} where
       };
     }
 
-    module _ (b : v < h.n) (o : get_or tried v 0 ≡ 0) (room : h.n ≤ length tried₀) {heads nexts : List ℕ} {r : Tried} {es' vs' tried' : List ℕ}
+    module _ (b : v < h.n) (o : get_or tried v 0 ≡ 0) (room : h.n ≤ length tried₀) {heads nexts : List ℕ} {r : OptionOf Held} {es' vs' tried' : List ℕ}
         (R : Remarked h es vs p heads nexts (set tried v 1) v r es' vs' tried') where
-      left : Left (try_split_common_suffix (graph_of h es₀ vs₀ p) v) h es vs p heads nexts r es' vs' p
-      left = subst (λ (x : Option Graph). Left x h es vs p heads nexts r es' vs' p) (λ j.
+      left : Left (try_split_common_suffix (graph_of h es₀ vs₀ p) v) es vs p heads nexts r es' vs' p
+      left = subst (λ (x : Option Graph). Left x es vs p heads nexts r es' vs' p) (λ j.
           try_split_common_suffix (graph_of h (S.same-es j) (S.same-vs j) p) v) R.left
 
       not_in : (list : List ℕ) → TriedMarks h.n tried list → elem_of v list ≡ false
@@ -159,7 +161,7 @@ module _ {h : Held} {es₀ vs₀ p nodes₀ mp₀ tried₀ : List ℕ} where
       marked : (list : List ℕ) → TriedMarks h.n tried list → TriedMarks h.n (set tried v 1) (v ∷ list)
       marked list K = more-marks v b (omega (arith, S.tried-len)) K
 
-      pub splitting-none : {nodes' mp' : List ℕ} → r.done ≡ false → length nodes' ≡ length nodes → length mp' ≡ length mp
+      pub splitting-none : {nodes' mp' : List ℕ} → r ≡ None → length nodes' ≡ length nodes → length mp' ≡ length mp
           → Splitting h es₀ vs₀ p nodes₀ mp₀ tried₀ es' vs' nodes' mp' tried' (v + 1)
       splitting-none t a c = record {
         high = omega arith;
@@ -177,32 +179,30 @@ module _ {h : Held} {es₀ vs₀ p nodes₀ mp₀ tried₀ : List ℕ} where
         };
       }
 
-      pub splitting-found : r.done ≡ true → SplitFirst h es₀ vs₀ p heads nexts tried₀ r es' vs' tried'
+      pub splitting-found : {found : Held} → r ≡ Some found → SplitFirst h es₀ vs₀ p heads nexts tried₀ r es' vs' tried'
       splitting-found t = record {
-        same = λ s. clash t s;
-        same-es = λ s. clash t s;
-        same-vs = λ s. clash t s;
-        no = λ s. clash t s;
-        yes = λ _ list K. let z = S.reached list K in record {
+        same-es = λ s. absurd cc;
+        same-vs = λ s. absurd cc;
+        no = λ s. absurd cc;
+        yes = λ k s list K. let z = S.reached list K in record {
           list = remap_numbers (incoming_nodes (graph_of h es₀ vs₀ p) v) (v ∷ z.now);
           is = sym z.is ∙ ap (first_split (graph_of h es₀ vs₀ p) z.now v) (one_less h.n v b)
-              ∙ first_split-some (graph_of h es₀ vs₀ p) z.now v (h.n - (v + 1)) (graph_of r.held es' vs' p) (not_in z.now z.marks)
-              (left.yes t);
-          at = subst (λ (x : Graph). TriedMarks r.held.n tried' (remap_numbers (incoming_nodes x v) (v ∷ z.now))) (λ j.
-              graph_of h (S.same-es j) (S.same-vs j) p) (R.marks t (v ∷ z.now) (marked z.now z.marks));
+              ∙ first_split-some (graph_of h es₀ vs₀ p) z.now v (h.n - (v + 1)) (graph_of k es' vs' p) (not_in z.now z.marks)
+              (left.yes k s);
+          at = subst (λ (x : Graph). TriedMarks k.n tried' (remap_numbers (incoming_nodes x v) (v ∷ z.now))) (λ j.
+              graph_of h (S.same-es j) (S.same-vs j) p) (R.marks k s (v ∷ z.now) (marked z.now z.marks));
         };
-        holds = λ s. left.holds s;
+        holds = left.holds;
       }
 
-    pub splitting-end : h.n ≤ v → (heads nexts : List ℕ) → SplitFirst h es₀ vs₀ p heads nexts tried₀ record { done = false; held = h } es vs tried
+    pub splitting-end : h.n ≤ v → (heads nexts : List ℕ) → SplitFirst h es₀ vs₀ p heads nexts tried₀ None es vs tried
     splitting-end b heads nexts = record {
-      same = λ _. refl;
       same-es = λ _. S.same-es;
       same-vs = λ _. S.same-vs;
       no = λ _ list K. let z = S.reached list K in sym z.is ∙ ap (first_split (graph_of h es₀ vs₀ p) z.now v) (nothing b)
           ∙ first_split-zero (graph_of h es₀ vs₀ p) z.now v;
-      yes = λ t. clash t refl;
-      holds = λ t. clash t refl;
+      yes = λ k s. absurd cc;
+      holds = λ k s. absurd cc;
     }
       where
         nothing : h.n ≤ v → h.n - v ≡ 0
@@ -239,14 +239,14 @@ module _ {w₀ : Work} {es₀ vs₀ p heads₀ : List ℕ} where
   }
 
   module _ {w : Work} {es vs heads nexts nodes mp tried : List ℕ} (D : SplittingRound w₀ es₀ vs₀ p heads₀ w es vs heads nexts nodes mp tried)
-      {r : Tried} {es' vs' tried' : List ℕ} (S : SplitFirst w.held es vs p heads nexts tried r es' vs' tried') where
+      {r : OptionOf Held} {es' vs' tried' : List ℕ} (S : SplitFirst w.held es vs p heads nexts tried r es' vs' tried') where
     abbrev G : Graph
     G = graph_of w.held es vs p
 
     order_is : node_count G ≡ w.held.n
     order_is = order-in w.held.k.0 w.held.n w.held.m es vs p
 
-    pub doing_end : {nodes' mp' : List ℕ} → r.done ≡ false → length nodes' ≡ length nodes → length mp' ≡ length mp
+    pub doing_end : {nodes' mp' : List ℕ} → r ≡ None → length nodes' ≡ length nodes → length mp' ≡ length mp
         → SplitAll w₀ es₀ vs₀ p w es' vs' heads nexts nodes' mp'
     doing_end t a b = record {
       ready = record {
@@ -263,47 +263,47 @@ module _ {w₀ : Work} {es₀ vs₀ p heads₀ : List ℕ} where
         stop zero h = absurd (omega (arith, order-weight G, order_is))
         stop (suc fuel) h = split_all-none fuel D.list (work_of w es vs p) (ap (first_split G D.list 0) order_is ∙ S.no t D.list D.marks)
 
-    module _ (t : r.done ≡ true) where
-      found : SplitFound (first_split G D.list 0 w.held.n) (graph_of r.held es' vs' p) r.held.n tried'
-      found = S.yes t D.list D.marks
+    module _ {k : Held} (t : r ≡ Some k) where
+      found : SplitFound (first_split G D.list 0 w.held.n) (graph_of k es' vs' p) k.n tried'
+      found = S.yes k t D.list D.marks
 
-      step : Tame G (graph_of r.held es' vs' p) × (w.held.n < r.held.n)
+      step : Tame G (graph_of k es' vs' p) × (w.held.n < k.n)
       step =
-          let z = first_split-tame G D.list 0 w.held.n record { graph = graph_of r.held es' vs' p; tried = found.list }
+          let z = first_split-tame G D.list 0 w.held.n record { graph = graph_of k es' vs' p; tried = found.list }
           D.ready.holds.fit.good found.is in
-          (z.0, omega (arith, z.1, order_is, order-in r.held.k.0 r.held.n r.held.m es' vs' p))
+          (z.0, omega (arith, z.1, order_is, order-in k.k.0 k.n k.m es' vs' p))
 
       pub doing-countable : Counted w₀.rewrites heads₀ → w.rewrites + 1 < 4294967296
-      doing-countable C = omega (arith, D.count, step.1, C.small, held-vertices (S.holds t), D.heads-len)
+      doing-countable C = omega (arith, D.count, step.1, C.small, held-vertices (S.holds k t), D.heads-len)
 
-      pub doing-less : vertex_room heads - r.held.n < vertex_room heads - w.held.n
-      doing-less = omega (arith, step.1, held-vertices (S.holds t))
+      pub doing-less : vertex_room heads - k.n < vertex_room heads - w.held.n
+      doing-less = omega (arith, step.1, held-vertices (S.holds k t))
 
-      pub doing-indexable : length es' ≡ length es → Indexable r.held.m r.held.n es' heads nexts
+      pub doing-indexable : length es' ≡ length es → Indexable k.m k.n es' heads nexts
       doing-indexable a = record {
-        room = omega (arith, held-edges (S.holds t), D.ready.room.es-room, a);
-        heads-room = omega (arith, held-vertices (S.holds t));
-        nexts-room = omega (arith, held-edges (S.holds t));
-        small = omega (arith, held-edges (S.holds t), D.ready.room.small);
-        ends = held-ends (S.holds t);
+        room = omega (arith, held-edges (S.holds k t), D.ready.room.es-room, a);
+        heads-room = omega (arith, held-vertices (S.holds k t));
+        nexts-room = omega (arith, held-edges (S.holds k t));
+        small = omega (arith, held-edges (S.holds k t), D.ready.room.small);
+        ends = held-ends (S.holds k t);
       }
 
-      pub doing-more : {heads' nexts' nodes' mp' : List ℕ} → Indexed r.held.m r.held.n es' heads' nexts' → length es' ≡ length es
+      pub doing-more : {heads' nexts' nodes' mp' : List ℕ} → Indexed k.m k.n es' heads' nexts' → length es' ≡ length es
           → length vs' ≡ length vs
           → length heads' ≡ length heads → length nexts' ≡ length nexts → length nodes' ≡ length nodes → length mp' ≡ length mp
-          → SplittingRound w₀ es₀ vs₀ p heads₀ record { held = r.held; rewrites = w.rewrites + 1 } es' vs' heads' nexts' nodes' mp' tried'
+          → SplittingRound w₀ es₀ vs₀ p heads₀ record { held = k; rewrites = w.rewrites + 1 } es' vs' heads' nexts' nodes' mp' tried'
       doing-more {heads'} {nexts'} {nodes'} {mp'} I a b d e f i = go D.fuel D.enough D.is
         where
           go : (fuel : ℕ) → weight G < fuel + w.held.n → split_until_complete fuel D.list (work_of w es vs p)
               ≡ split_until_complete (fuel_for (graph_of w₀.held es₀ vs₀ p)) [] (work_of w₀ es₀ vs₀ p)
-              → SplittingRound w₀ es₀ vs₀ p heads₀ record { held = r.held; rewrites = w.rewrites + 1 } es' vs' heads' nexts' nodes' mp' tried'
+              → SplittingRound w₀ es₀ vs₀ p heads₀ record { held = k; rewrites = w.rewrites + 1 } es' vs' heads' nexts' nodes' mp' tried'
           go zero h q = absurd (omega (arith, order-weight G, order_is))
           go (suc fuel) h q = record {
             ready = record {
               least-is = D.ready.least-is;
               room = room-kept D.ready.room a b refl d e f i;
               holds =
-                  holds_kept (S.holds t) d e;
+                  holds_kept (S.holds k t) d e;
               indexed = I;
             };
             heads-len = d ∙ D.heads-len;
@@ -311,8 +311,8 @@ module _ {w₀ : Work} {es₀ vs₀ p heads₀ : List ℕ} where
             marks = found.at;
             fuel = fuel;
             enough = omega (arith, step.0.light, step.1);
-            is = (λ j. split_until_complete fuel found.list record { graph = graph_of r.held es' vs' p; rewrites = add-one w.rewrites j })
-                ∙ sym (split_all-some fuel D.list (work_of w es vs p) record { graph = graph_of r.held es' vs' p; tried = found.list }
+            is = (λ j. split_until_complete fuel found.list record { graph = graph_of k es' vs' p; rewrites = add-one w.rewrites j })
+                ∙ sym (split_all-some fuel D.list (work_of w es vs p) record { graph = graph_of k es' vs' p; tried = found.list }
                 (ap (first_split G D.list 0) order_is ∙ found.is)) ∙ q;
             count = omega (arith, D.count, step.1);
           }

@@ -5,7 +5,7 @@ ghost use Rattle.std.specs.Prelude.{◌≡◌, ℕ, ◌+◌, ◌*◌, ◌<◌, �
 ghost use Rattle.memory.specs.Memory.{graph_of, vertex_room, Ready, Counted};
 ghost use Rattle.splits.specs.Splits.{Movable, MarksMoved, Remarked, SplitFirst, SplitAll};
 
-use memory::{Held, Tried, Work};
+use memory::{Held, Work};
 
 // The marks of the vertices that stay close up; how many these are.
 fn move_marks(tried: &mut [u8], n: usize, map: &[u32]) -> usize
@@ -13,12 +13,9 @@ fn move_marks(tried: &mut [u8], n: usize, map: &[u32]) -> usize
     ensures { MarksMoved tried.old n map.now result tried.new }
 {
     let mut j = 0;
-    let mut v = 0;
-    while v < n {
-        let u = v;
-        v += 1;
-        if map[u] != 0 {
-            tried[j] = tried[u];
+    for v in 0..n {
+        if map[v] != 0 {
+            tried[j] = tried[v];
             j += 1;
         }
     }
@@ -37,21 +34,16 @@ fn split_at(
     map: &mut [u32],
     tried: &mut [u8],
     v: usize,
-) -> Tried
+) -> Option<Held>
     requires { Ready 4 held es.old vs.old p.now heads.now nexts.now nodes.old map.old
         × ((v < held.n) × (vertex_room heads.now ≤ length tried.old)) }
     ensures { Remarked held es.old vs.old p.now heads.now nexts.now
         tried.old v result es.new vs.new tried.new }
 {
-    let t = split_suffix::try_split_common_suffix(held, es, vs, p, heads, nexts, nodes, map, v);
-    let done = t.done;
-    if !done {
-        return t;
-    }
-    let h = t.held;
+    let h = split_suffix::try_split_common_suffix(held, es, vs, p, heads, nexts, nodes, map, v)?;
     let kept = move_marks(tried, held.n, map);
     compact::clear_marks(tried, kept, h.n);
-    t
+    Some(h)
 }
 
 // The split at the first vertex that is not marked and allows it; each vertex that is tried on the way is marked.
@@ -65,29 +57,20 @@ fn first_split(
     nodes: &mut [u32],
     map: &mut [u32],
     tried: &mut [u8],
-) -> Tried
+) -> Option<Held>
     requires { Ready 4 held es.old vs.old p.now heads.now nexts.now nodes.old map.old × (vertex_room heads.now ≤ length tried.old) }
     ensures { SplitFirst held es.old vs.old p.now heads.now nexts.now
         tried.old result es.new vs.new tried.new }
 {
-    let n = held.n;
-    let mut v = 0;
-    while v < n {
-        let u = v;
-        v += 1;
-        if tried[u] == 0 {
-            tried[u] = 1;
-            let t = split_at(held, es, vs, p, heads, nexts, nodes, map, tried, u);
-            let done = t.done;
-            if done {
-                return t;
+    for v in 0..held.n {
+        if tried[v] == 0 {
+            tried[v] = 1;
+            if let Some(h) = split_at(held, es, vs, p, heads, nexts, nodes, map, tried, v) {
+                return Some(h);
             }
         }
     }
-    Tried {
-        done: false,
-        held: held,
-    }
+    None
 }
 
 // Splits until no vertex that was not tried allows one.
@@ -107,20 +90,14 @@ pub fn split_until_complete(
     ensures { SplitAll work es.old vs.old p.now result es.new vs.new
         heads.new nexts.new nodes.new map.new }
 {
-    let held = work.held;
-    compact::clear_marks(tried, 0, held.n);
+    compact::clear_marks(tried, 0, work.held.n);
     let mut w = work;
-    loop {
-        let t = first_split(w.held, es, vs, p, heads, nexts, nodes, map, tried);
-        let done = t.done;
-        if !done {
-            return w;
-        }
-        let h = t.held;
-        index::build_index(es, h.m, h.n, heads, nexts);
+    while let Some(held) = first_split(w.held, es, vs, p, heads, nexts, nodes, map, tried) {
+        index::build_index(es, held.m, held.n, heads, nexts);
         w = Work {
-            held: h,
+            held,
             rewrites: w.rewrites + 1,
         };
     }
+    w
 }

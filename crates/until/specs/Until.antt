@@ -1,10 +1,9 @@
 -- Rewrites by kind, and what doing one until no vertex allows it leaves. Assumes nothing.
-use Rattle.std.specs.Prelude.{◌≡◌, Bool, List, [], ◌∷◌, ℕ, ◌+◌, ◌≤◌, eqb}
+use Rattle.std.specs.Prelude.{◌≡◌, List, ℕ, ◌+◌, ◌≤◌}
 use Rattle.std.proofs.Math.Option.{Option, none}
-use Rattle.defs.specs.Lists.{any_of}
 use Rattle.defs.specs.SeqGraph.{Graph}
 use Rattle.defs.specs.Rewrites.{try_merge_diamond, try_merge_tails, try_merge_common_suffices}
-use Rattle.defs.specs.Simplify.{RewriteKind, zip, diamond, tails, split, merge, rewrite_kind_number, transform_until_complete, fuel_for}
+use Rattle.defs.specs.Simplify.{RewriteKind, zip, diamond, tails, split, merge, transform_until_complete, fuel_for}
 use Rattle.memory.specs.Memory.{graph_of, work_of, vertex_room, Ready}
 use Rattle.memory.specs.declared.Work.{Work}
 
@@ -16,13 +15,8 @@ rewrite_of tails least g v = try_merge_tails least g v
 rewrite_of split least g v = none
 rewrite_of merge least g v = try_merge_common_suffices g v
 
--- whether n is the number of a kind that a vertex alone allows
-unfoldable pub is_transform : ℕ → Bool
-is_transform n = any_of (λ (rewrite : RewriteKind). eqb n (rewrite_kind_number rewrite)) (diamond ∷ tails ∷ merge ∷ [])
-
--- the rewrites of the kind that has the number `kind`
-pub record Completed (kind least : ℕ) (w : Work) (es vs p : List ℕ) (r : Work) (es' vs' p' heads' nexts' nodes' mp' : List ℕ) : Type 0 where
+-- the rewrites of the kind
+pub record Completed (kind : RewriteKind) (least : ℕ) (w : Work) (es vs p : List ℕ) (r : Work) (es' vs' p' heads' nexts' nodes' mp' : List ℕ) : Type 0 where
   pub ready : Ready least r.held es' vs' p' heads' nexts' nodes' mp'
-  pub is : (rewrite : RewriteKind) → rewrite_kind_number rewrite ≡ kind
-      → work_of r es' vs' p' ≡ transform_until_complete (rewrite_of rewrite least) (fuel_for (graph_of w.held es vs p)) (work_of w es vs p)
+  pub is : work_of r es' vs' p' ≡ transform_until_complete (rewrite_of kind least) (fuel_for (graph_of w.held es vs p)) (work_of w es vs p)
   pub most : r.rewrites ≤ w.rewrites + vertex_room heads'

@@ -1,13 +1,14 @@
 -- The loops of a zip. Assumes nothing.
 use mathlib.Core.Path.{◌≡◌, refl, sym, ap, ◌∙◌}
 use mathlib.Core.List.{List, ◌++◌}
-use Prim.Native.Nat.{ℕ, ◌+◌, ◌*◌, ◌-◌, ◌≤◌, ◌<◌}
+use Prim.Native.Nat.{ℕ, ◌+◌, ◌*◌, ◌≤◌, ◌<◌}
 use native.Mathlib.Omega.{arith}
 use native.Mathlib.Decide.{ℕ_discrete}
-use lib.ListN.{length, get_or, set, length-set}
-use lib.Seq.{get_or-set_same, get_or-set_other}
-use Rattle.tabs.proofs.Tabs.{tab-ext, set_more}
-use Rattle.tabs.proofs.ListTabs.{tab-append}
+use lib.ListN.{length, get_or, set, take, length-set, length-append}
+use lib.Seq.{get_or-set_same, get_or-set_other, length-take-le}
+use Rattle.tabs.proofs.Tabs.{tab-ext, set_more, take-tab}
+use Rattle.std.proofs.lemmas.Slice.{take-put_mid}
+use borrow.Rule.Slice.PartMut.{put_mid, post_of}
 use Rattle.tabs.proofs.SumTabs.{map-tab}
 use Rattle.store.specs.Store.{edge, edge_in, EndsBelow}
 use Rattle.zip_linear_chains.specs.Loops.{EachItsOwn, edge_with_from, AllEdgesMoved, NodesAppended}
@@ -86,30 +87,18 @@ moving-all-end {m} {es₀} {froms} {e} {es} L h = record {
 
 -- ---- append_nodes
 
-pub record AppendingNodes (k c : ℕ) (dst₀ src : List ℕ) (i : ℕ) (dst : List ℕ) : Type 0 where
-  pub high : i ≤ c
-  pub len : length dst ≡ length dst₀
-  pub old : (j : ℕ) → j < k → get_or dst j 0 ≡ get_or dst₀ j 0
-  pub done : (j : ℕ) → j < i → get_or dst (k + j) 0 ≡ get_or src j 0
-
-pub appending-start : (k c : ℕ) (dst src : List ℕ) → AppendingNodes k c dst src 0 dst
-appending-start k c dst src = record { high = omega arith; len = refl; old = λ j b. refl; done = λ j b. absurd (omega arith) }
-
-pub appending-more : {k c : ℕ} {dst₀ src : List ℕ} {i : ℕ} {dst : List ℕ} → AppendingNodes k c dst₀ src i dst → i < c → k + c ≤ length dst₀
-    → (x : ℕ) → x ≡ get_or src i 0 → AppendingNodes k c dst₀ src (i + 1) (set dst (k + i) x)
-appending-more {k} {c} {dst₀} {src} {i} {dst} A h r x q = record {
-  high = omega arith;
-  len = length-set dst (k + i) x ∙ A.len;
-  old = λ j b. get_or-set_other dst (k + i) j x 0 (λ w. omega arith) ∙ A.old j b;
-  done = λ j b. elim (ℕ_discrete j i) [
-    | yes y ↦ rw y (get_or-set_same dst (k + i) x 0 (omega (arith, A.len)) ∙ q)
-    | no ne ↦ get_or-set_other dst (k + i) (k + j) x 0 (λ w. ne (omega arith)) ∙ A.done j (omega arith)
-  ];
-}
-
-pub appending-end : {k c : ℕ} {dst₀ src : List ℕ} {i : ℕ} {dst : List ℕ} → AppendingNodes k c dst₀ src i dst → c ≤ i → NodesAppended k c dst₀ src dst
-appending-end {k} {c} {dst₀} {src} {i} {dst} A h = record {
-  is = tab-append k c (λ (j : ℕ). get_or dst j 0)
-      ∙ (λ t. tab-ext k (λ (j : ℕ). get_or dst j 0) (λ (j : ℕ). get_or dst₀ j 0) A.old t
-      ++ tab-ext c (λ (j : ℕ). get_or dst (k + j) 0) (λ (j : ℕ). get_or src j 0) (λ j b. A.done j (omega arith)) t);
-}
+-- a part of dst becomes the first c of src
+pub appended : (k c j : ℕ) (dst src ys : List ℕ) → k + c ≤ length dst → c ≤ length src → ys ≡ take c src → NodesAppended k c dst src (put_mid k j dst ys)
+appended k c j dst src ys room h q =
+    let l : length ys ≡ c = ap length q ∙ length-take-le c src h in
+    record {
+      is = sym (take-tab (put_mid k j dst ys) 0 (k + c) (omega (
+        arith,
+        l,
+        length-append (take k dst) (ys ++ post_of k j dst),
+        length-append ys (post_of k j dst),
+        length-take-le k dst (omega arith),
+      )))
+          ∙ take-put_mid k j dst ys (k + c) (omega arith) (omega arith)
+          ∙ (λ t. take-tab dst 0 k (omega arith) t ++ (q ∙ take-tab src 0 c h) t);
+    }

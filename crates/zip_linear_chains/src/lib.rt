@@ -17,10 +17,8 @@ fn own_froms(froms: &mut [u32], n: usize)
     requires { (n ≤ length froms.old) × (n < 4294967296) }
     ensures { EachItsOwn n froms.new }
 {
-    let mut v = 0;
-    while v < n {
+    for v in 0..n {
         froms[v] = v as u32;
-        v += 1;
     }
 }
 
@@ -29,11 +27,9 @@ fn move_all_edges(es: &mut [u32], m: usize, n: usize, froms: &[u32])
     requires { (4 * m ≤ length es.old) × ((n ≤ length froms.now) × EndsBelow n m es.old) }
     ensures { AllEdgesMoved m es.old froms.now es.new }
 {
-    let mut e = 0;
-    while e < m {
+    for e in 0..m {
         let v = store::edge_from(es, e) as usize;
         store::put_edge_from(es, e, froms[v]);
-        e += 1;
     }
 }
 
@@ -42,11 +38,7 @@ fn append_nodes(dst: &mut [u32], k: usize, src: &[u32], c: usize)
     requires { (k + c ≤ length dst.old) × (c ≤ length src.now) }
     ensures { NodesAppended k c dst.old src.now dst.new }
 {
-    let mut i = 0;
-    while i < c {
-        dst[k + i] = src[i];
-        i += 1;
-    }
+    dst[k..k + c].copy_from_slice(&src[..c]);
 }
 
 // The edges out of the vertex at `last` of `rest` will leave s.
@@ -93,16 +85,13 @@ fn absorb_chain(
     if c == 0 {
         return past;
     }
-    let last = c - 1;
-    let at = past.at;
-    let gone = past.gone;
-    let end = merge_linear_chain::write_chain(vs, p, at, s, rest, c);
-    store::put_vertex(vs, s as usize, at as u32, (end - at) as u32);
-    append_nodes(nodes, gone, rest, c);
-    hand_over(froms, rest, last, s);
+    let end = merge_linear_chain::write_chain(vs, p, past.at, s, rest, c);
+    store::put_vertex(vs, s as usize, past.at as u32, (end - past.at) as u32);
+    append_nodes(nodes, past.gone, rest, c);
+    hand_over(froms, rest, c - 1, s);
     Absorbed {
         at: end,
-        gone: gone + c,
+        gone: past.gone + c,
         chains: past.chains + 1,
     }
 }
@@ -126,16 +115,13 @@ fn absorb_chains(
     ensures { AllAbsorbed held es.now vs.old p.old heads.now result
         vs.new p.new nodes.new froms.new }
 {
-    let used = held.used;
     let mut all = Absorbed {
-        at: used,
+        at: held.used,
         gone: 0,
         chains: 0,
     };
-    let mut v = 0;
-    while v < held.n {
+    for v in 0..held.n {
         let s = v as u32;
-        v += 1;
         all = absorb_chain(
             all, es, held.m, held.n, vs, p, heads, nexts, nodes, rest, froms, s,
         );
@@ -160,28 +146,23 @@ pub fn zip_linear_chains(
         heads.new nexts.new nodes.new map.new }
 {
     let held = work.held;
-    let n = held.n;
-    let m = held.m;
-    own_froms(froms, n);
+    own_froms(froms, held.n);
     let all = absorb_chains(held, es, vs, p, heads, nexts, nodes, map, froms);
-    let gone = all.gone;
-    let chains = all.chains;
-    if chains == 0 {
+    if all.chains == 0 {
         return work;
     }
-    move_all_edges(es, m, n, froms);
-    let left = compact::remove_vertices_by_id(es, vs, n, m, nodes, gone, map);
+    move_all_edges(es, held.m, held.n, froms);
+    let left = compact::remove_vertices_by_id(es, vs, held.n, held.m, nodes, all.gone, map);
     let base = 2 * (heads.len() / 2);
-    let packed = pool::pack(vs, left.n, p, base);
+    let used = pool::pack(vs, left.n, p, base);
     index::build_index(es, left.m, left.n, heads, nexts);
-    let kmer_size = held.k;
     Work {
         held: Held {
-            k: kmer_size,
             n: left.n,
             m: left.m,
-            used: packed,
+            used,
+            ..held
         },
-        rewrites: work.rewrites + chains,
+        rewrites: work.rewrites + all.chains,
     }
 }

@@ -1,10 +1,7 @@
 -- `chain::is_linear_chain_start` meets its contract.
 use native.Mathlib.Omega.{arith}
-use mathlib.Core.Path.{refl, sym, ◌∙◌}
-use borrow.Author.Tests.{not-true, not-false}
-use Prim.Native.Nat.{◌+◌, ◌*◌, ◌-◌}
+use mathlib.Core.Path.{sym, ◌∙◌}
 use Rattle.chain.proofs.ChainLaws.{start-no, start-yes, start-by, one-head}
-use borrow.Author.Rules.{rules}
 use Rattle.chain.proofs.is_linear_chain_start.Goals as goal
 
 pub returns-then-not-has_one : goal.returns-then-not-has_one

@@ -1,20 +1,10 @@
 -- `chain::trace_linear_chain` meets its contract.
 use native.Mathlib.Omega.{arith}
 use mathlib.Core.Path.{refl, sym, ◌∙◌}
-use borrow.Author.Tests.{not-true, not-false}
-use Prim.Native.Nat.{◌+◌, ◌*◌, ◌-◌}
-use mathlib.Core.Path.{ap}
-use lib.ListN.{get_or}
-use native.Mathlib.Nat.{add-zero}
-use Rattle.chain.proofs.ChainLaws.{
-  Tracing,
-  tracing-start,
-  tracing-none,
-  tracing-stop,
-  tracing-more,
-  tracing-end,
-  one_out_lem,
-}
+use Prim.Native.Nat.{ℕ}
+use mathlib.Core.Path.{subst}
+use Rattle.chain.specs.Chain.{Traced}
+use Rattle.chain.proofs.ChainLaws.{tracing-start, tracing-none, tracing-stop, tracing-more, tracing-end, one_out_lem}
 use Rattle.chain.proofs.trace_linear_chain.Goals as goal
 
 pub loop-c-init : goal.loop-c-init
@@ -25,7 +15,7 @@ returns-then-not-has_one c =
     tracing-none
     c.requires.1.1
     c.loop-c.invariant
-    c.loop-c-test.true
+    (omega arith)
     (sym c.if-not-has_one.true ∙ c.has_one.ensures)
 
 pub edge_to-next-requires : goal.edge_to-next-requires
@@ -56,7 +46,7 @@ returns-then-not-chain_goes_on c =
     tracing-stop
     c.requires.1.1
     c.loop-c.invariant
-    c.loop-c-test.true
+    (omega arith)
     (one_out_lem c.requires.1.1 _ c.loop-c.invariant.last-below
     (sym c.if-not-has_one.false ∙ c.has_one.ensures)) refl
     c.edge_to-next.ensures
@@ -68,7 +58,7 @@ loop-c-preserved c =
     tracing-more
     c.requires.1.1
     c.loop-c.invariant
-    c.loop-c-test.true
+    (omega arith)
     c.requires.1.0
     (one_out_lem c.requires.1.1 _ c.loop-c.invariant.last-below
     (sym c.if-not-has_one.false ∙ c.has_one.ensures)) refl
@@ -78,4 +68,6 @@ loop-c-preserved c =
 
 pub returns : goal.returns
 returns c =
-    tracing-end c.requires.1.1 c.loop-c.invariant c.loop-c-test.false
+    subst
+    (λ (x : ℕ). Traced c.args.m c.args.n c.args.es.now c.args.start x c.loop-c.out) (omega arith)
+    (tracing-end c.requires.1.1 c.loop-c.invariant (omega arith))

@@ -1,11 +1,8 @@
 -- `diamond::all_enter` meets its contract.
 use native.Mathlib.Omega.{arith}
 use mathlib.Core.Path.{sym, ◌∙◌}
-use Prim.Native.Nat.{ℕ, ◌-◌, ◌*◌}
-use lib.Dec.{eqb}
 use borrow.Author.Tests.{ne_eqb}
-use Rattle.index.specs.Index.{edge_end}
-use Rattle.index.proofs.AdjLaws.{Testing, testing-fails, testing-end}
+use Rattle.index.proofs.AdjLaws.{testing-fails, testing-end}
 use Rattle.diamond.proofs.TestLaws.{enter-start, enter-more, enter-on}
 use Rattle.diamond.proofs.all_enter.Goals as goal
 

@@ -1,12 +1,8 @@
 -- What each turn of the loop keeps.
-use native.Mathlib.Omega.{arith}
-use mathlib.Core.Path.{sym, ◌∙◌}
-use Prim.Native.Nat.{ℕ, ◌-◌, ◌*◌}
+use Prim.Native.Nat.{ℕ, ◌-◌}
 use lib.Dec.{eqb}
-use borrow.Author.Tests.{ne_eqb}
 use Rattle.index.specs.Index.{edge_end}
-use Rattle.index.proofs.AdjLaws.{Testing, testing-fails, testing-end}
-use Rattle.diamond.proofs.TestLaws.{enter-start, enter-more, enter-on}
+use Rattle.index.proofs.AdjLaws.{Testing}
 use Rattle.diamond.proofs.all_enter.Given as goal
 
 abbrev pub invariant-loop-e : goal.invariant-loop-e

@@ -1,19 +1,13 @@
 -- `diamond::all_middles` meets its contract.
 use native.Mathlib.Omega.{arith}
-use mathlib.Core.Path.{◌≡◌, sym, ◌∙◌}
-use mathlib.Core.Bool.{true}
-use Prim.Native.Nat.{ℕ, ◌-◌, ◌≤◌, ◌<◌}
-use lib.ListN.{get_or}
-use borrow.Author.Tests.{not-true, not-false}
-use borrow.Author.Count.{below_none, below_more}
-use Rattle.diamond.specs.Diamond.{is_middle}
+use mathlib.Core.Path.{sym, ◌∙◌}
 use Rattle.diamond.proofs.TestLaws.{all_of-yes, all_of-no}
 use Rattle.diamond.proofs.all_middles.Goals as goal
 
 pub returns-then-not-is_middle : goal.returns-then-not-is_middle
 returns-then-not-is_middle c =
     sym
-    (all_of-no _ _ _ _ c.loop-i-test.true
+    (all_of-no _ _ _ _ (omega arith)
     (sym c.is_middle.ensures ∙ c.if-not-is_middle.true))
 
 pub returns : goal.returns

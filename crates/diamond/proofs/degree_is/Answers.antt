@@ -1,8 +1,6 @@
 -- `diamond::degree_is` meets its contract.
 use native.Mathlib.Omega.{arith}
-use Prim.Native.Nat.{◌+◌, ◌*◌, ◌-◌}
-use Rattle.index.specs.Index.{edge_end}
-use Rattle.index.proofs.AdjLaws.{ListWalked, walked_start, walked_more}
+use Rattle.index.proofs.AdjLaws.{walked_start, walked_more}
 use Rattle.diamond.proofs.TestLaws.{count_past, count-end}
 use Rattle.diamond.proofs.degree_is.Goals as goal
 

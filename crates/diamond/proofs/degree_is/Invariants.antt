@@ -1,9 +1,7 @@
 -- What each turn of the loop keeps.
-use native.Mathlib.Omega.{arith}
-use Prim.Native.Nat.{◌+◌, ◌*◌, ◌-◌}
+use Prim.Native.Nat.{◌-◌}
 use Rattle.index.specs.Index.{edge_end}
-use Rattle.index.proofs.AdjLaws.{ListWalked, walked_start, walked_more}
-use Rattle.diamond.proofs.TestLaws.{count_past, count-end}
+use Rattle.index.proofs.AdjLaws.{ListWalked}
 use Rattle.diamond.proofs.degree_is.Given as goal
 
 abbrev pub invariant-loop-e : goal.invariant-loop-e

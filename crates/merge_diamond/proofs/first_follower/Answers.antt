@@ -1,9 +1,6 @@
 -- `merge_diamond::first_follower` meets its contract.
-use native.Mathlib.Omega.{arith}
 use mathlib.Core.Path.{◌∙◌, refl}
-use Prim.Native.Nat.{◌*◌}
 use Rattle.merge_diamond.proofs.MergeLaws.{follower-there, follower-none}
-use borrow.Author.Rules.{rules}
 use Rattle.merge_diamond.proofs.first_follower.Goals as goal
 
 pub returns-then-e-m : goal.returns-then-e-m

@@ -1,32 +1,19 @@
 -- `merge_diamond::try_merge_diamond` meets its contract.
 use native.Mathlib.Omega.{arith}
-use borrow.Author.Tests.{not-true, not-false}
-use Rattle.merge_diamond.proofs.FollowLaws.{
-  collectable,
-  follows,
-  first-node,
-  nodes-below,
-  bottom-first,
-  parts,
-  sum-small,
-}
+use Rattle.merge_diamond.proofs.FollowLaws.{follows, first-node, nodes-below, bottom-first, parts}
 use Rattle.merge_diamond.proofs.MergeLaws.{
-  left_as,
   few-left,
   other-left,
   unshared-left,
   diamond-ready,
   diamond-left,
 }
-use borrow.Author.Rules.{rules}
 use Rattle.merge_diamond.proofs.try_merge_diamond.Goals as goal
 
 pub returns-then-c-lt2 : goal.returns-then-c-lt2
 returns-then-c-lt2 c =
-    left_as
-    c.not_merged.ensures
-    (few-left (follows c.requires.room.0 c.requires.room.1 c.requires.top_lt_n.1 c.requires.top_lt_n.0
-    (omega (arith, c.collect-c.auto.out)) c.collect-c.ensures) c.if-c-lt2.true)
+    few-left (follows c.requires.room.0 c.requires.room.1 c.requires.top_lt_n.1 c.requires.top_lt_n.0
+    (omega (arith, c.collect-c.auto.out)) c.collect-c.ensures) c.if-c-lt2.true
 
 pub first_follower-b-requires : goal.first_follower-b-requires
 first_follower-b-requires c = (
@@ -49,11 +36,9 @@ is_diamond-requires c = (
 
 pub returns-then-not-is_diamond : goal.returns-then-not-is_diamond
 returns-then-not-is_diamond c =
-    left_as
-    c.not_merged-then-not-is_diamond.ensures
-    (other-left (follows c.requires.room.0 c.requires.room.1 c.requires.top_lt_n.1 c.requires.top_lt_n.0
+    other-left (follows c.requires.room.0 c.requires.room.1 c.requires.top_lt_n.1 c.requires.top_lt_n.0
     (omega (arith, c.collect-c.auto.out)) c.collect-c.ensures) c.if-c-lt2.false
-    c.first_follower-b.ensures c.is_diamond.ensures c.if-not-is_diamond.true)
+    c.first_follower-b.ensures c.is_diamond.ensures c.if-not-is_diamond.true
 
 pub shared_prefix-x-requires : goal.shared_prefix-x-requires
 shared_prefix-x-requires c =
@@ -71,13 +56,11 @@ shared_suffix-y-requires c = record {
 
 pub returns-then-x-y-eq0 : goal.returns-then-x-y-eq0
 returns-then-x-y-eq0 c =
-    left_as
-    c.not_merged-then-x-y-eq0.ensures
-    (unshared-left (follows c.requires.room.0 c.requires.room.1 c.requires.top_lt_n.1 c.requires.top_lt_n.0
+    unshared-left (follows c.requires.room.0 c.requires.room.1 c.requires.top_lt_n.1 c.requires.top_lt_n.0
     (omega (arith, c.collect-c.auto.out)) c.collect-c.ensures) c.if-c-lt2.false
     c.first_follower-b.ensures c.is_diamond.ensures
     c.shared_prefix-x.ensures c.shared_suffix-y.ensures
-    c.if-not-is_diamond.false c.if-x-y-eq0.true)
+    c.if-not-is_diamond.false c.if-x-y-eq0.true
 
 pub split_and_update-requires : goal.split_and_update-requires
 split_and_update-requires c =
@@ -94,11 +77,9 @@ split_and_update-requires c =
 
 pub returns : goal.returns
 returns c =
-    left_as
-    c.merged.ensures
-    (diamond-left (follows c.requires.room.0 c.requires.room.1 c.requires.top_lt_n.1 c.requires.top_lt_n.0
+    diamond-left (follows c.requires.room.0 c.requires.room.1 c.requires.top_lt_n.1 c.requires.top_lt_n.0
     (omega (arith, c.collect-c.auto.out)) c.collect-c.ensures) c.if-c-lt2.false
     c.first_follower-b.ensures c.is_diamond.ensures
     c.shared_prefix-x.ensures c.shared_suffix-y.ensures
     c.if-not-is_diamond.false (omega (arith, c.if-x-y-eq0.false))
-    c.split_and_update.ensures)
+    c.split_and_update.ensures

@@ -1,9 +1,7 @@
 -- `merge_diamond::try_merge_tails` meets its contract.
 use native.Mathlib.Omega.{arith}
-use borrow.Author.Tests.{not-true, not-false}
-use Rattle.merge_diamond.proofs.FollowLaws.{collectable, follows, nodes-below, parts}
-use Rattle.merge_diamond.proofs.MergeLaws.{left_as, no-tails-left, two, short-left, tails-ready, tails-left}
-use borrow.Author.Rules.{rules}
+use Rattle.merge_diamond.proofs.FollowLaws.{follows, nodes-below, parts}
+use Rattle.merge_diamond.proofs.MergeLaws.{no-tails-left, two, short-left, tails-ready, tails-left}
 use Rattle.merge_diamond.proofs.try_merge_tails.Goals as goal
 
 pub is_tails-requires : goal.is_tails-requires
@@ -15,11 +13,9 @@ is_tails-requires c = (
 
 pub returns-then-not-is_tails : goal.returns-then-not-is_tails
 returns-then-not-is_tails c =
-    left_as
-    c.not_merged.ensures
-    (no-tails-left (follows c.requires.room.0 c.requires.room.1 c.requires.lt_least.1.1 c.requires.lt_least.1.0
+    no-tails-left (follows c.requires.room.0 c.requires.room.1 c.requires.lt_least.1.1 c.requires.lt_least.1.0
     (omega (arith, c.collect-c.auto.out)) c.collect-c.ensures) c.is_tails.ensures
-    c.args.least c.if-not-is_tails.true)
+    c.args.least c.if-not-is_tails.true
 
 pub shared_prefix-x-requires : goal.shared_prefix-x-requires
 shared_prefix-x-requires c =
@@ -48,12 +44,10 @@ shared_suffix-len-requires c = record {
 
 pub returns-then-len-least : goal.returns-then-len-least
 returns-then-len-least c =
-    left_as
-    c.not_merged-then-len-least.ensures
-    (short-left (follows c.requires.room.0 c.requires.room.1 c.requires.lt_least.1.1 c.requires.lt_least.1.0
+    short-left (follows c.requires.room.0 c.requires.room.1 c.requires.lt_least.1.1 c.requires.lt_least.1.0
     (omega (arith, c.collect-c.auto.out)) c.collect-c.ensures) c.is_tails.ensures
     c.args.least c.if-not-is_tails.false c.shared_prefix-x.ensures
-    c.shared_suffix-len.ensures c.if-len-least.true)
+    c.shared_suffix-len.ensures c.if-len-least.true
 
 pub split_and_update-requires : goal.split_and_update-requires
 split_and_update-requires c =
@@ -70,10 +64,8 @@ split_and_update-requires c =
 
 pub returns : goal.returns
 returns c =
-    left_as
-    c.merged.ensures
-    (tails-left (follows c.requires.room.0 c.requires.room.1 c.requires.lt_least.1.1 c.requires.lt_least.1.0
+    tails-left (follows c.requires.room.0 c.requires.room.1 c.requires.lt_least.1.1 c.requires.lt_least.1.0
     (omega (arith, c.collect-c.auto.out)) c.collect-c.ensures) c.is_tails.ensures
     c.args.least c.if-not-is_tails.false c.shared_prefix-x.ensures
     c.shared_suffix-len.ensures c.requires.lt_least.0 c.if-len-least.false
-    c.split_and_update.ensures)
+    c.split_and_update.ensures

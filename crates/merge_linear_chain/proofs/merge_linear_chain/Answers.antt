@@ -1,18 +1,7 @@
 -- `merge_linear_chain::merge_linear_chain` meets its contract.
 use native.Mathlib.Omega.{arith}
-use mathlib.Core.Path.{refl, sym, ap, ◌∙◌}
-use Prim.Native.Nat.{◌+◌, ◌*◌, ◌-◌, ◌/◌}
-use Rattle.merge_linear_chain.proofs.JoinLaws.{
-  join-writable,
-  end-high,
-  join-compactable,
-  join-below,
-  last-below,
-  join-packable,
-  joined-all,
-}
-use Rattle.memory.proofs.RoomLaws.{held-vertices}
-use borrow.Author.Rules.{rules}
+use mathlib.Core.Path.{refl, ◌∙◌}
+use Rattle.merge_linear_chain.proofs.JoinLaws.{join-writable, end-high, join-compactable, join-below, join-packable, joined-all}
 use Rattle.merge_linear_chain.proofs.merge_linear_chain.Goals as goal
 
 pub write_chain-end-requires : goal.write_chain-end-requires
@@ -35,8 +24,8 @@ remove_vertices_by_id-left-requires c = (
   join-below c.requires.0 c.requires.1.0 c.requires.1.1.1,
 )
 
-pub pack-packed-requires : goal.pack-packed-requires
-pack-packed-requires c =
+pub pack-used-requires : goal.pack-used-requires
+pack-used-requires c =
     join-packable
     c.requires.0
     c.requires.1.0
@@ -59,5 +48,5 @@ returns c =
     c.put_vertex.ensures
     c.move_edges.ensures refl
     c.remove_vertices_by_id-left.ensures
-    c.pack-packed.ensures
-    c.pack-packed.auto.p
+    c.pack-used.ensures
+    c.pack-used.auto.p

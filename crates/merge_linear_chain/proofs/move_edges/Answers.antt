@@ -2,8 +2,7 @@
 use native.Mathlib.Omega.{arith}
 use Rattle.merge_linear_chain.proofs.MoveLaws.{later}
 use mathlib.Core.Path.{refl}
-use Prim.Native.Nat.{◌*◌, ◌-◌}
-use Rattle.merge_linear_chain.proofs.MoveLaws.{MovingEdges, moving-start, moving-more, moving-end}
+use Rattle.merge_linear_chain.proofs.MoveLaws.{moving-start, moving-more, moving-end}
 use Rattle.merge_linear_chain.proofs.move_edges.Goals as goal
 
 pub loop-e-init : goal.loop-e-init

@@ -1,9 +1,6 @@
 -- What each turn of the loop keeps.
-use native.Mathlib.Omega.{arith}
-use Rattle.merge_linear_chain.proofs.MoveLaws.{later}
-use mathlib.Core.Path.{refl}
-use Prim.Native.Nat.{◌*◌, ◌-◌}
-use Rattle.merge_linear_chain.proofs.MoveLaws.{MovingEdges, moving-start, moving-more, moving-end}
+use Prim.Native.Nat.{◌-◌}
+use Rattle.merge_linear_chain.proofs.MoveLaws.{MovingEdges}
 use Rattle.merge_linear_chain.proofs.move_edges.Given as goal
 
 abbrev pub invariant-loop-e : goal.invariant-loop-e

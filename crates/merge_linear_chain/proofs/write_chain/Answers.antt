@@ -1,9 +1,8 @@
 -- `merge_linear_chain::write_chain` meets its contract.
 use native.Mathlib.Omega.{arith}
-use Prim.Native.Nat.{◌-◌}
+use Prim.Native.Nat.{◌<◌}
+use lib.Seq.{get_or-take, length-take-le}
 use Rattle.merge_linear_chain.proofs.WriteLaws.{
-  Writing,
-  first-copyable,
   writable_then,
   writing_start,
   next-copyable,
@@ -12,30 +11,33 @@ use Rattle.merge_linear_chain.proofs.WriteLaws.{
 }
 use Rattle.merge_linear_chain.proofs.write_chain.Goals as goal
 
-pub loop-i-init : goal.loop-i-init
-loop-i-init c =
+pub loop-v-init : goal.loop-v-init
+loop-v-init c =
     writing_start
     c.requires
     c.append_sequence-at.ensures
     c.append_sequence-at.auto.p
 
-pub append_sequence-at-requires-in-loop-i : goal.append_sequence-at-requires-in-loop-i
-append_sequence-at-requires-in-loop-i c =
-    next-copyable
+pub append_sequence-at-requires-in-loop-v : goal.append_sequence-at-requires-in-loop-v
+append_sequence-at-requires-in-loop-v c =
+    let h : c.loop-v.v-index < c.args.c = omega (arith, length-take-le c.args.c c.args.nodes.now (omega arith)) in
+    rw (get_or-take c.args.c c.args.nodes.now c.loop-v.v-index 0 h)
+    (next-copyable
     (writable_then c.requires c.append_sequence-at.ensures
     c.append_sequence-at.auto.p)
-    c.loop-i.invariant
-    c.loop-i-test.true
+    c.loop-v.invariant
+    h)
 
-pub loop-i-preserved : goal.loop-i-preserved
-loop-i-preserved c =
+pub loop-v-preserved : goal.loop-v-preserved
+loop-v-preserved c =
+    let h : c.loop-v.v-index < c.args.c = omega (arith, length-take-le c.args.c c.args.nodes.now (omega arith)) in
     writing_more
     (writable_then c.requires c.append_sequence-at.ensures
     c.append_sequence-at.auto.p)
-    c.loop-i.invariant
-    c.loop-i-test.true
-    c.append_sequence-at-in-loop-i.ensures
-    c.append_sequence-at-in-loop-i.auto.p
+    c.loop-v.invariant
+    h
+    (rw (get_or-take c.args.c c.args.nodes.now c.loop-v.v-index 0 h) at c.append_sequence-at-in-loop-v.ensures)
+    c.append_sequence-at-in-loop-v.auto.p
 
 pub returns : goal.returns
 returns c =
@@ -43,5 +45,5 @@ returns c =
     c.requires
     c.append_sequence-at.ensures
     c.append_sequence-at.auto.p
-    c.loop-i.invariant
-    c.loop-i-test.false
+    c.loop-v.invariant
+    (omega (arith, length-take-le c.args.c c.args.nodes.now (omega arith)))

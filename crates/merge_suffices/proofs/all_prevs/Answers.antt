@@ -1,19 +1,13 @@
 -- `merge_suffices::all_prevs` meets its contract.
 use native.Mathlib.Omega.{arith}
-use mathlib.Core.Path.{◌≡◌, sym, ◌∙◌}
-use mathlib.Core.Bool.{true}
-use Prim.Native.Nat.{ℕ, ◌-◌, ◌≤◌, ◌<◌}
-use lib.ListN.{get_or}
-use borrow.Author.Count.{below_none, below_more}
-use borrow.Author.Tests.{not-true, not-false}
+use mathlib.Core.Path.{sym, ◌∙◌}
 use Rattle.diamond.proofs.TestLaws.{all_of-yes, all_of-no}
-use Rattle.merge_suffices.specs.Merge.{is_prev}
 use Rattle.merge_suffices.proofs.all_prevs.Goals as goal
 
 pub returns-then-not-is_prev : goal.returns-then-not-is_prev
 returns-then-not-is_prev c =
     sym
-    (all_of-no _ _ _ _ c.loop-i-test.true (sym c.is_prev.ensures ∙ c.if-not-is_prev.true))
+    (all_of-no _ _ _ _ (omega arith) (sym c.is_prev.ensures ∙ c.if-not-is_prev.true))
 
 pub returns : goal.returns
 returns c = sym (all_of-yes _ _ _ (λ k h. c.loop-i.invariant.1 k (omega arith)))

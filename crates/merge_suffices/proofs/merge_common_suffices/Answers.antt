@@ -1,7 +1,6 @@
 -- `merge_suffices::merge_common_suffices` meets its contract.
 use native.Mathlib.Omega.{arith}
 use mathlib.Core.Path.{refl, ◌∙◌}
-use Rattle.memory.proofs.RoomLaws.{held-vertices}
 use Rattle.merge_suffices.proofs.MergeLaws.{
   merge-writable,
   end-high,
@@ -10,7 +9,6 @@ use Rattle.merge_suffices.proofs.MergeLaws.{
   merge-packable,
   merged,
 }
-use borrow.Author.Rules.{rules}
 use Rattle.merge_suffices.proofs.merge_common_suffices.Goals as goal
 
 pub write_merged-end-requires : goal.write_merged-end-requires
@@ -43,8 +41,8 @@ remove_merged-left-requires c = (
   ),
 )
 
-pub pack-packed-requires : goal.pack-packed-requires
-pack-packed-requires c =
+pub pack-used-requires : goal.pack-used-requires
+pack-used-requires c =
     merge-packable
     c.requires.0
     c.requires.1.0
@@ -67,5 +65,5 @@ returns c =
     c.redirect_merged-k.ensures
     c.put_vertex.ensures
     c.remove_merged-left.ensures
-    c.pack-packed.ensures
-    c.pack-packed.auto.p
+    c.pack-used.ensures
+    c.pack-used.auto.p

@@ -1,7 +1,5 @@
 -- `merge_suffices::redirect_merged` meets its contract.
-use native.Mathlib.Omega.{arith}
 use Rattle.merge_suffices.proofs.EdgeLoops.{into-ready, out-ready, edges-done}
-use borrow.Author.Rules.{rules}
 use Rattle.merge_suffices.proofs.redirect_merged.Goals as goal
 
 pub redirect_into-k-requires : goal.redirect_into-k-requires

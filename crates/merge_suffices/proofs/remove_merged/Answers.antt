@@ -1,10 +1,7 @@
 -- `merge_suffices::remove_merged` meets its contract.
 use native.Mathlib.Omega.{arith}
-use mathlib.Core.Path.{◌∙◌}
-use lib.ListN.{length-set}
-use Rattle.compact.proofs.CompactLaws.{removed, compactable-kept}
+use Rattle.compact.proofs.CompactLaws.{removed}
 use Rattle.merge_suffices.proofs.WriteLaws.{marked_more}
-use borrow.Author.Rules.{rules}
 use Rattle.merge_suffices.proofs.remove_merged.Goals as goal
 
 pub returns : goal.returns

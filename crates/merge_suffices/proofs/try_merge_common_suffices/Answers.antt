@@ -1,10 +1,7 @@
 -- `merge_suffices::try_merge_common_suffices` meets its contract.
-use native.Mathlib.Omega.{arith}
 use mathlib.Core.Path.{refl}
-use borrow.Author.Tests.{not-true, not-false}
 use Rattle.memory.proofs.RoomLaws.{room-kept}
-use Rattle.merge_suffices.proofs.TryLaws.{testable, collect-room, prevs-below, mergeable, left_not, left-done}
-use borrow.Author.Rules.{rules}
+use Rattle.merge_suffices.proofs.TryLaws.{testable, prevs-below, mergeable, left_not, left-done}
 use Rattle.merge_suffices.proofs.try_merge_common_suffices.Goals as goal
 
 pub is_merge-requires : goal.is_merge-requires
@@ -24,8 +21,8 @@ returns-then-not-is_merge c =
     c.is_merge.ensures
     c.if-not-is_merge.true
 
-pub merge_common_suffices-h-requires : goal.merge_common_suffices-h-requires
-merge_common_suffices-h-requires c = (
+pub merge_common_suffices-requires : goal.merge_common_suffices-requires
+merge_common_suffices-requires c = (
   room-kept c.requires.0 refl refl refl refl refl c.collect-c.auto.out refl,
   (
     c.requires.1.0,
@@ -47,4 +44,4 @@ returns c =
     c.collect-c.auto.out
     c.is_merge.ensures
     c.if-not-is_merge.false
-    c.merge_common_suffices-h.ensures
+    c.merge_common_suffices.ensures

@@ -1,6 +1,5 @@
 -- `merge_suffices::write_merged` meets its contract.
-use Rattle.merge_suffices.proofs.WriteLaws.{first-apart, second-apart, written}
-use borrow.Author.Rules.{rules}
+use Rattle.merge_suffices.proofs.WriteLaws.{written}
 use Rattle.merge_suffices.proofs.write_merged.Goals as goal
 
 pub returns : goal.returns

@@ -1,7 +1,7 @@
 -- `redirect::redirect_edge` meets its contract.
 use native.Mathlib.Omega.{arith}
-use Rattle.redirect.proofs.RedirectLaws.{joinable, other-below, edge-small, one-done}
-use borrow.Author.Rules.{rules}
+use Rattle.std.proofs.lemmas.Grind.{common_steps}
+use Rattle.redirect.proofs.RedirectLaws.{one-done}
 use Rattle.redirect.proofs.redirect_edge.Goals as goal
 
 pub returns : goal.returns
@@ -9,8 +9,8 @@ returns c =
     one-done
     c.requires
     c.edge_end-x.ensures
-    c.place_of-at.ensures
-    c.new_from.ensures
-    c.new_to.ensures
-    c.carried-d.ensures
+    (grind (arith, common_steps))
+    (grind (arith, common_steps))
+    (grind (arith, common_steps))
+    c.carried.ensures
     c.add_or_update_edge-k.ensures.1

@@ -1,14 +1,6 @@
 -- `redirect::redirect_edges` meets its contract.
 use native.Mathlib.Omega.{arith}
-use Prim.Native.Nat.{◌+◌, ◌*◌, ◌-◌}
-use Rattle.redirect.proofs.RedirectLaws.{
-  Redirecting,
-  redirecting-start,
-  redirecting-edge,
-  redirecting-on,
-  redirecting-more,
-  redirecting-end,
-}
+use Rattle.redirect.proofs.RedirectLaws.{redirecting-start, redirecting-edge, redirecting-on, redirecting-more, redirecting-end}
 use Rattle.redirect.proofs.redirect_edges.Goals as goal
 
 pub loop-e-init : goal.loop-e-init

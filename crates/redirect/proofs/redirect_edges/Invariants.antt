@@ -1,14 +1,6 @@
 -- What each turn of the loop keeps.
-use native.Mathlib.Omega.{arith}
-use Prim.Native.Nat.{◌+◌, ◌*◌, ◌-◌}
-use Rattle.redirect.proofs.RedirectLaws.{
-  Redirecting,
-  redirecting-start,
-  redirecting-edge,
-  redirecting-on,
-  redirecting-more,
-  redirecting-end,
-}
+use Prim.Native.Nat.{◌-◌}
+use Rattle.redirect.proofs.RedirectLaws.{Redirecting}
 use Rattle.redirect.proofs.redirect_edges.Given as goal
 
 abbrev pub invariant-loop-e : goal.invariant-loop-e

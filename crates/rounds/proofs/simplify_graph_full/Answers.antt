@@ -10,7 +10,6 @@ use Rattle.rounds.proofs.FullLaws.{
   full-sig,
   full-all,
 }
-use borrow.Author.Rules.{rules}
 use Rattle.rounds.proofs.simplify_graph_full.Goals as goal
 
 pub build_index-requires : goal.build_index-requires

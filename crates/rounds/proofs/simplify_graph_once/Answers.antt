@@ -1,34 +1,23 @@
 -- `rounds::simplify_graph_once` meets its contract.
 use native.Mathlib.Omega.{arith}
-use mathlib.Core.Path.{refl, sym, ◌∙◌}
-use Rattle.defs.specs.Lists.{any_of}
-use Rattle.defs.specs.Simplify.{rewrite_kind_number}
-use Rattle.until.specs.Until.{is_transform}
+use mathlib.Core.Path.{◌∙◌}
 use Rattle.rounds.proofs.OnceLaws.{with-least, any-least, zip-ready, once}
-use Rattle.memory.proofs.RoomLaws.{held-vertices}
-use borrow.Author.Rules.{rules}
 use Rattle.rounds.proofs.simplify_graph_once.Goals as goal
 
 pub transform_until_complete-a-requires : goal.transform_until_complete-a-requires
-transform_until_complete-a-requires c = (
-  unfold is_transform any_of rewrite_kind_number in refl,
-  (c.requires.0, record { small = omega (arith, c.requires.1.0.small) }),
-)
+transform_until_complete-a-requires c = (c.requires.0, record { small = omega (arith, c.requires.1.0.small) })
 
 pub transform_until_complete-b-requires : goal.transform_until_complete-b-requires
 transform_until_complete-b-requires c = (
-  unfold is_transform any_of rewrite_kind_number in refl,
-  (
-    c.transform_until_complete-a.ensures.ready,
-    record {
-      small = omega (
-        arith,
-        c.transform_until_complete-a.ensures.most,
-        c.requires.1.0.small,
-        c.transform_until_complete-a.auto.heads,
-      );
-    },
-  ),
+  c.transform_until_complete-a.ensures.ready,
+  record {
+    small = omega (
+      arith,
+      c.transform_until_complete-a.ensures.most,
+      c.requires.1.0.small,
+      c.transform_until_complete-a.auto.heads,
+    );
+  },
 )
 
 pub split_until_complete-c-requires : goal.split_until_complete-c-requires
@@ -57,25 +46,22 @@ split_until_complete-c-requires c = (
 
 pub transform_until_complete-d-requires : goal.transform_until_complete-d-requires
 transform_until_complete-d-requires c = (
-  unfold is_transform any_of rewrite_kind_number in refl,
-  (
-    with-least c.requires.0.least-is c.split_until_complete-c.ensures.ready,
-    record {
-      small = omega (
-        arith,
-        c.transform_until_complete-a.ensures.most,
-        c.transform_until_complete-b.ensures.most,
-        c.split_until_complete-c.ensures.most,
-        c.requires.1.0.small,
-        c.transform_until_complete-a.auto.heads,
-        c.transform_until_complete-b.auto.heads
-            ∙ c.transform_until_complete-a.auto.heads,
-        c.split_until_complete-c.auto.heads
-            ∙ c.transform_until_complete-b.auto.heads
-            ∙ c.transform_until_complete-a.auto.heads,
-      );
-    },
-  ),
+  with-least c.requires.0.least-is c.split_until_complete-c.ensures.ready,
+  record {
+    small = omega (
+      arith,
+      c.transform_until_complete-a.ensures.most,
+      c.transform_until_complete-b.ensures.most,
+      c.split_until_complete-c.ensures.most,
+      c.requires.1.0.small,
+      c.transform_until_complete-a.auto.heads,
+      c.transform_until_complete-b.auto.heads
+          ∙ c.transform_until_complete-a.auto.heads,
+      c.split_until_complete-c.auto.heads
+          ∙ c.transform_until_complete-b.auto.heads
+          ∙ c.transform_until_complete-a.auto.heads,
+    );
+  },
 )
 
 pub zip_linear_chains-requires : goal.zip_linear_chains-requires

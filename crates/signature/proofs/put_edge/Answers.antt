@@ -1,7 +1,5 @@
 -- `signature::put_edge` meets its contract.
-use native.Mathlib.Omega.{arith}
-use mathlib.Core.Path.{◌∙◌}
-use Rattle.signature.proofs.SignLaws.{room-less, room-behind, over-then, edge-over}
+use Rattle.signature.proofs.SignLaws.{edge-over}
 use Rattle.signature.proofs.put_edge.Goals as goal
 
 pub returns : goal.returns

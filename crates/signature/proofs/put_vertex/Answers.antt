@@ -1,8 +1,5 @@
 -- `signature::put_vertex` meets its contract.
-use native.Mathlib.Omega.{arith}
-use Prim.Native.Nat.{◌+◌, ◌*◌, ◌-◌}
-use Rattle.signature.proofs.SignLaws.{vertex-room, vertex-over}
-use borrow.Author.Rules.{rules}
+use Rattle.signature.proofs.SignLaws.{vertex-over}
 use Rattle.signature.proofs.put_vertex.Goals as goal
 
 pub returns : goal.returns

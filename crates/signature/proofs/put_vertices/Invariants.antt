@@ -1,13 +1,9 @@
 -- What each turn of the loop keeps.
-use native.Mathlib.Omega.{arith}
-use Prim.Native.Nat.{ℕ, ◌-◌}
+use Prim.Native.Nat.{ℕ}
 use Rattle.store.specs.Store.{seq_in}
 use Rattle.signature.specs.Signature.{stored_vertex}
-use Rattle.signature.proofs.SignLaws.{Items, items-start, items-step, items-room, items-end}
+use Rattle.signature.proofs.SignLaws.{Items}
 use Rattle.signature.proofs.put_vertices.Given as goal
 
 abbrev pub invariant-loop-v : goal.invariant-loop-v
 invariant-loop-v l = Items l.n (λ (u : ℕ). stored_vertex (seq_in l.vs l.p u)) l.initial.sig l.old l.initial.t l.sig l.t l.v
-
-abbrev pub decreases-loop-v : goal.decreases-loop-v
-decreases-loop-v l = l.n - l.v

@@ -1,8 +1,7 @@
 -- `signature::replace_signature` meets its contract.
-use native.Mathlib.Omega.{arith}
-use mathlib.Core.Path.{◌∙◌}
-use Rattle.signature.proofs.SignLaws.{room-less, room-behind, vertices-room, edges_room, signed-other, signed_same}
-use borrow.Author.Rules.{rules}
+use mathlib.Core.Path.{refl, sym, ◌∙◌}
+use borrow.Author.Tests.{eq-eqb, ne_eqb}
+use Rattle.signature.proofs.SignLaws.{vertices-room, edges_room, signed}
 use Rattle.signature.proofs.replace_signature.Goals as goal
 
 pub put_vertices-vertices-requires : goal.put_vertices-vertices-requires
@@ -14,22 +13,24 @@ put_edges-s-requires c =
     let same-long = c.put_vertices-vertices.auto.sig ∙ c.put-counts.auto.sig ∙ c.put-first.auto.sig in
     (c.requires.edges, edges_room c.requires c.put-first.ensures c.put-counts.ensures c.put_vertices-vertices.ensures same-long)
 
-pub returns-then-at-old : goal.returns-then-at-old
-returns-then-at-old c =
-    signed-other
+pub returns-then-s : goal.returns-then-s
+returns-then-s c =
+    signed
     c.requires
     c.put-first.ensures
     c.put-counts.ensures
     c.put_vertices-vertices.ensures
     c.put_edges-s.ensures
-    c.if-at-old.true
+    (λ q. eq-eqb _ _ q ∙ sym c.if-s.true)
+    (λ o. ne_eqb _ _ o)
 
-pub returns : goal.returns
-returns c =
-    signed_same
+pub returns-else-s : goal.returns-else-s
+returns-else-s c =
+    signed
     c.requires
     c.put-first.ensures
     c.put-counts.ensures
     c.put_vertices-vertices.ensures
     c.put_edges-s.ensures
-    c.if-at-old.false
+    (λ q. refl)
+    (λ o. c.if-s.false)

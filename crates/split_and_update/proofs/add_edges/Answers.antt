@@ -1,7 +1,8 @@
 -- `split_and_update::add_edges` meets its contract.
+use native.Mathlib.Omega.{arith}
+use Rattle.std.proofs.lemmas.Grind.{common_steps}
 use mathlib.Core.Path.{refl}
 use Rattle.split_and_update.proofs.AddLaws.{room₁, room₂, asks₃, room₄, asks₅, pushed-all}
-use borrow.Author.Rules.{rules}
 use Rattle.split_and_update.proofs.add_edges.Goals as goal
 
 pub push_edge_if-k1-requires : goal.push_edge_if-k1-requires
@@ -43,12 +44,12 @@ returns c =
     c.flag_is_ref-direct.ensures
     c.mids_ref-to_mids.ensures
     c.mids_ref-from_mids.ensures
-    c.either.ensures
+    (grind (arith, common_steps))
     c.new_flag-into.ensures
-    c.either-2.ensures
+    (grind (arith, common_steps))
     c.new_flag-out.ensures refl refl refl refl refl refl
-    c.pick-t.ensures
-    c.pick-t.ensures
-    c.pick-b.ensures
-    c.pick-b.ensures
+    (grind (arith, common_steps))
+    (grind (arith, common_steps))
+    (grind (arith, common_steps))
+    (grind (arith, common_steps))
     c.twice_if-once.ensures refl refl

@@ -1,21 +1,5 @@
 -- `split_and_update::add_vertices` meets its contract.
-use native.Mathlib.Omega.{arith}
-use Rattle.shared.proofs.SharedLoops.{in-verts}
-use Rattle.split_and_update.proofs.VertLaws.{
-  inside,
-  long₀,
-  small₀,
-  first_part,
-  from_is,
-  last-part,
-  ask₁,
-  part₁,
-  ask₂,
-  part₂,
-  rests,
-  verts-added,
-}
-use borrow.Author.Rules.{rules}
+use Rattle.split_and_update.proofs.VertLaws.{first_part, from_is, last-part, ask₁, part₁, ask₂, part₂, rests, verts-added}
 use Rattle.split_and_update.proofs.add_vertices.Goals as goal
 
 pub push_part-suffix-requires : goal.push_part-suffix-requires

@@ -1,6 +1,5 @@
 -- `split_and_update::push_edge_if` meets its contract.
 use Rattle.split_and_update.proofs.PushLaws.{pushed-not, pushed-yes, room-yes}
-use borrow.Author.Rules.{rules}
 use Rattle.split_and_update.proofs.push_edge_if.Goals as goal
 
 pub returns-then-not-test : goal.returns-then-not-test

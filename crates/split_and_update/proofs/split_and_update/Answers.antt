@@ -1,7 +1,5 @@
 -- `split_and_update::split_and_update` meets its contract.
-use native.Mathlib.Omega.{arith}
 use Rattle.split_and_update.proofs.SplitLaws.{vertable, placeable, edgeable, compactable, split_done}
-use borrow.Author.Rules.{rules}
 use Rattle.split_and_update.proofs.split_and_update.Goals as goal
 
 pub add_vertices-a-requires : goal.add_vertices-a-requires
@@ -11,8 +9,8 @@ pub new_places-w-requires : goal.new_places-w-requires
 new_places-w-requires c =
     placeable c.requires c.add_vertices-a.ensures
 
-pub add_edges-d-requires : goal.add_edges-d-requires
-add_edges-d-requires c =
+pub add_edges-m-requires : goal.add_edges-m-requires
+add_edges-m-requires c =
     edgeable c.requires c.add_vertices-a.ensures _ c.new_places-w.ensures
 
 pub remove_vertices_by_id-left-requires : goal.remove_vertices_by_id-left-requires
@@ -21,7 +19,7 @@ remove_vertices_by_id-left-requires c =
     c.requires
     c.add_vertices-a.ensures _
     c.new_places-w.ensures
-    c.add_edges-d.ensures
+    c.add_edges-m.ensures
 
 pub returns : goal.returns
 returns c =
@@ -29,5 +27,5 @@ returns c =
     c.requires
     c.add_vertices-a.ensures _
     c.new_places-w.ensures
-    c.add_edges-d.ensures
+    c.add_edges-m.ensures
     c.remove_vertices_by_id-left.ensures

@@ -1,7 +1,6 @@
 -- `split_suffix::add_vertices` meets its contract.
 use native.Mathlib.Omega.{arith}
-use Prim.Native.Nat.{◌-◌}
-use Rattle.split_suffix.proofs.VertexLoops.{Stacking, stacking-start, stacking-cut, stacking-more, stacking-end}
+use Rattle.split_suffix.proofs.VertexLoops.{stacking-start, stacking-cut, stacking-more}
 use Rattle.split_suffix.proofs.add_vertices.Goals as goal
 
 pub loop-i-init : goal.loop-i-init
@@ -9,13 +8,13 @@ loop-i-init c = stacking-start c.requires
 
 pub split_vertex-k-requires : goal.split_vertex-k-requires
 split_vertex-k-requires c =
-    stacking-cut c.requires c.loop-i.invariant c.loop-i-test.true
+    stacking-cut c.requires c.loop-i.invariant (omega arith)
 
 pub loop-i-preserved : goal.loop-i-preserved
 loop-i-preserved c =
     stacking-more
     c.requires
     c.loop-i.invariant
-    c.loop-i-test.true
+    (omega arith)
     c.split_vertex-k.ensures
     c.split_vertex-k.auto.vs

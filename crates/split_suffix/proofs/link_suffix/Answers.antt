@@ -1,9 +1,7 @@
 -- `split_suffix::link_suffix` meets its contract.
-use native.Mathlib.Omega.{arith}
 use mathlib.Core.Path.{ap, ◌∙◌}
 use Rattle.defs.specs.Lists.{bit}
 use Rattle.split_suffix.proofs.EdgeLoops.{links-two, links-one}
-use borrow.Author.Rules.{rules}
 use Rattle.split_suffix.proofs.link_suffix.Goals as goal
 
 pub returns-then-prefix : goal.returns-then-prefix

@@ -1,8 +1,7 @@
 -- `split_suffix::split_edges` meets its contract.
 use native.Mathlib.Omega.{arith}
-use Prim.Native.Nat.{◌*◌}
 use Rattle.split_suffix.proofs.EdgeLoops.{block-link, block-redirectable, block-done}
-use borrow.Author.Rules.{rules}
+use Rattle.std.proofs.lemmas.Grind.{common_steps}
 use Rattle.split_suffix.proofs.split_edges.Goals as goal
 
 pub link_suffix-j-requires : goal.link_suffix-j-requires
@@ -15,7 +14,7 @@ redirect_edges-requires c =
     c.edge_support-s.ensures
     c.edge_flag-f.ensures
     c.link_suffix-j.ensures
-    c.entry_of-into.ensures
+    (grind (arith, common_steps))
     c.link_suffix-j.auto.es
 
 pub returns : goal.returns
@@ -25,5 +24,5 @@ returns c =
     c.edge_support-s.ensures
     c.edge_flag-f.ensures
     c.link_suffix-j.ensures
-    c.entry_of-into.ensures
+    (grind (arith, common_steps))
     c.redirect_edges.ensures

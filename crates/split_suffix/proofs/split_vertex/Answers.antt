@@ -1,7 +1,5 @@
 -- `split_suffix::split_vertex` meets its contract.
-use native.Mathlib.Omega.{arith}
-use Rattle.split_suffix.proofs.VertexLoops.{cut-room, cuts-one, cuts-room, cuts-two}
-use borrow.Author.Rules.{rules}
+use Rattle.split_suffix.proofs.VertexLoops.{cuts-one, cuts-two}
 use Rattle.split_suffix.proofs.split_vertex.Goals as goal
 
 pub returns-then-len-s : goal.returns-then-len-s

@@ -1,23 +1,9 @@
 -- `split_suffix::try_split_common_suffix` meets its contract.
-use native.Mathlib.Omega.{arith}
-use Rattle.memory.proofs.RoomLaws.{held-vertices}
-use Rattle.merge_suffices.proofs.TryLaws.{collect-room}
-use Rattle.split_suffix.proofs.SplitLaws.{
-  split-testable,
-  left_not,
-  split-ending,
-  first-room,
-  split-edges-ready,
-  split-verts-ready,
-  split-compactable,
-  split_below,
-  left-done,
-}
-use borrow.Author.Rules.{rules}
+use Rattle.split_suffix.proofs.SplitLaws.{split-testable, left_not, split-ending, split-edges-ready, split-verts-ready, split-compactable, split_below, left-done}
 use Rattle.split_suffix.proofs.try_split_common_suffix.Goals as goal
 
-pub safe_to_split-suffix-requires : goal.safe_to_split-suffix-requires
-safe_to_split-suffix-requires c =
+pub safe_to_split-requires : goal.safe_to_split-requires
+safe_to_split-requires c =
     split-testable
     c.requires.0
     c.requires.1.0
@@ -25,16 +11,16 @@ safe_to_split-suffix-requires c =
     c.collect-c.ensures
     c.collect-c.auto.out
 
-pub returns-in_default : goal.returns-in_default
-returns-in_default c =
-    left_not
+pub returns-in_err-s : goal.returns-in_err-s
+returns-in_err-s c = rw c.from_residual.ensures
+    (left_not
     c.requires.0
     c.requires.1.0
     c.requires.1.1.0
     c.collect-c.ensures
     c.collect-c.auto.out
-    c.safe_to_split-suffix.ensures
-    c.in_default.is
+    c.safe_to_split.ensures
+    c.in_err-s.was)
 
 pub suffix_start-from-requires : goal.suffix_start-from-requires
 suffix_start-from-requires c =
@@ -44,8 +30,8 @@ suffix_start-from-requires c =
     c.requires.1.1.0
     c.collect-c.ensures
     c.collect-c.auto.out
-    c.safe_to_split-suffix.ensures
-    c.in-Some.is
+    c.safe_to_split.ensures
+    c.in_ok-s.was
 
 pub add_edges-k-requires : goal.add_edges-k-requires
 add_edges-k-requires c =
@@ -55,8 +41,8 @@ add_edges-k-requires c =
     c.requires.1.1.0
     c.collect-c.ensures
     c.collect-c.auto.out
-    c.safe_to_split-suffix.ensures
-    c.in-Some.is
+    c.safe_to_split.ensures
+    c.in_ok-s.was
     c.requires.1.1.1
 
 pub add_vertices-j-requires : goal.add_vertices-j-requires
@@ -67,18 +53,18 @@ add_vertices-j-requires c =
     c.requires.1.1.0
     c.collect-c.ensures
     c.collect-c.auto.out
-    c.safe_to_split-suffix.ensures
-    c.in-Some.is
+    c.safe_to_split.ensures
+    c.in_ok-s.was
 
 pub remove_vertices_by_id-left-requires : goal.remove_vertices_by_id-left-requires
 remove_vertices_by_id-left-requires c = (
   split-compactable c.requires.0 c.requires.1.0 c.requires.1.1.0 c.collect-c.ensures
-      c.collect-c.auto.out c.safe_to_split-suffix.ensures c.in-Some.is
+      c.collect-c.auto.out c.safe_to_split.ensures c.in_ok-s.was
       c.add_edges-k.ensures c.add_vertices-j.ensures c.suffix_start-from.ensures
       c.add_edges-k.auto.es c.add_vertices-j.auto.vs
       c.add_edges-k.auto.map,
   split_below c.requires.0 c.requires.1.0 c.requires.1.1.0 c.collect-c.ensures
-      c.collect-c.auto.out c.safe_to_split-suffix.ensures c.in-Some.is
+      c.collect-c.auto.out c.safe_to_split.ensures c.in_ok-s.was
       c.add_edges-k.ensures c.add_vertices-j.ensures c.suffix_start-from.ensures,
 )
 
@@ -90,8 +76,8 @@ returns c =
     c.requires.1.1.0
     c.collect-c.ensures
     c.collect-c.auto.out
-    c.safe_to_split-suffix.ensures
-    c.in-Some.is
+    c.safe_to_split.ensures
+    c.in_ok-s.was
     c.add_edges-k.ensures
     c.add_vertices-j.ensures
     c.suffix_start-from.ensures

@@ -1,19 +1,13 @@
 -- `split_tests::all_one_out` meets its contract.
 use native.Mathlib.Omega.{arith}
-use mathlib.Core.Path.{◌≡◌, sym, ◌∙◌}
-use mathlib.Core.Bool.{true}
-use Prim.Native.Nat.{ℕ, ◌-◌, ◌≤◌, ◌<◌}
-use lib.ListN.{get_or}
-use borrow.Author.Count.{below_none, below_more}
-use borrow.Author.Tests.{not-true, not-false}
+use mathlib.Core.Path.{sym, ◌∙◌}
 use Rattle.diamond.proofs.TestLaws.{all_of-yes, all_of-no}
-use Rattle.split_tests.specs.SplitTests.{one_out}
 use Rattle.split_tests.proofs.all_one_out.Goals as goal
 
 pub returns-then-not-has_one : goal.returns-then-not-has_one
 returns-then-not-has_one c =
     sym
-    (all_of-no _ _ _ _ c.loop-i-test.true (sym c.has_one.ensures ∙ c.if-not-has_one.true))
+    (all_of-no _ _ _ _ (omega arith) (sym c.has_one.ensures ∙ c.if-not-has_one.true))
 
 pub returns : goal.returns
 returns c = sym (all_of-yes _ _ _ (λ k h. c.loop-i.invariant.1 k (omega arith)))

@@ -1,18 +1,6 @@
 -- `zip_linear_chains::absorb_chain` meets its contract.
 use native.Mathlib.Omega.{arith}
-use borrow.Author.Tests.{not-true, not-false}
-use Prim.Native.Nat.{◌-◌}
-use Rattle.zip_linear_chains.proofs.AbsorbLaws.{
-  absorb-no-start,
-  absorb-none,
-  some-c,
-  fit-nodes,
-  absorb-writable,
-  last-below,
-  end-high,
-  absorb-done,
-}
-use borrow.Author.Rules.{rules}
+use Rattle.zip_linear_chains.proofs.AbsorbLaws.{absorb-no-start, absorb-none, fit-nodes, absorb-writable, end-high, absorb-done}
 use Rattle.zip_linear_chains.proofs.absorb_chain.Goals as goal
 
 pub returns-then-not-is_linear_chain_start : goal.returns-then-not-is_linear_chain_start

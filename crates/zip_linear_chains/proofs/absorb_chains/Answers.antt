@@ -1,14 +1,6 @@
 -- `zip_linear_chains::absorb_chains` meets its contract.
 use native.Mathlib.Omega.{arith}
-use Prim.Native.Nat.{◌-◌}
-use Rattle.zip_linear_chains.proofs.AllAbsorbedLaws.{
-  Absorbing,
-  loop-start,
-  loop-small,
-  loop-ready,
-  loop-more,
-  loop-end,
-}
+use Rattle.zip_linear_chains.proofs.AllAbsorbedLaws.{loop-start, loop-ready, loop-more, loop-end}
 use Rattle.zip_linear_chains.proofs.absorb_chains.Goals as goal
 
 pub loop-v-init : goal.loop-v-init
@@ -29,7 +21,7 @@ absorb_chain-all-requires c =
     c.requires.1.1.1.0
     c.requires.1.1.1.1
     c.loop-v.invariant
-    c.loop-v-test.true
+    (omega arith)
 
 pub loop-v-preserved : goal.loop-v-preserved
 loop-v-preserved c =
@@ -40,7 +32,7 @@ loop-v-preserved c =
     c.requires.1.1.1.0
     c.requires.1.1.1.1
     c.loop-v.invariant
-    c.loop-v-test.true
+    (omega arith)
     c.absorb_chain-all.ensures
     c.absorb_chain-all.auto.vs
     c.absorb_chain-all.auto.p
@@ -57,4 +49,4 @@ returns c =
     c.requires.1.1.1.0
     c.requires.1.1.1.1
     c.loop-v.invariant
-    c.loop-v-test.false
+    (omega arith)

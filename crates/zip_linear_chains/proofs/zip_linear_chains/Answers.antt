@@ -1,28 +1,15 @@
 -- `zip_linear_chains::zip_linear_chains` meets its contract.
 use native.Mathlib.Omega.{arith}
 use mathlib.Core.Path.{refl, ◌∙◌}
-use Prim.Native.Nat.{◌-◌}
-use borrow.Author.Rules.{rules}
-use Rattle.zip_linear_chains.proofs.ZippedLaws.{
-  n_room,
-  n-small,
-  zip-none,
-  zip-compactable,
-  zip-below,
-  zip-packable,
-  zip-indexable,
-  zip-countable,
-  zip-zipped,
-}
-use borrow.Author.Rules.{rules}
+use Rattle.zip_linear_chains.proofs.ZippedLaws.{zip-none, zip-compactable, zip-below, zip-packable, zip-countable, zip-zipped}
 use Rattle.zip_linear_chains.proofs.zip_linear_chains.Goals as goal
 
-pub returns-then-chains-eq0 : goal.returns-then-chains-eq0
-returns-then-chains-eq0 c =
+pub returns-then-all-eq0 : goal.returns-then-all-eq0
+returns-then-all-eq0 c =
     zip-none
     c.requires.0
     c.absorb_chains-all.ensures
-    c.if-chains-eq0.true
+    c.if-all-eq0.true
     c.absorb_chains-all.auto.nodes
     c.absorb_chains-all.auto.rest
 
@@ -37,8 +24,8 @@ remove_vertices_by_id-left-requires c = (
       c.move_all_edges.ensures c.move_all_edges.auto.es,
 )
 
-pub pack-packed-requires : goal.pack-packed-requires
-pack-packed-requires c =
+pub pack-used-requires : goal.pack-used-requires
+pack-used-requires c =
     zip-packable
     c.requires.0
     c.absorb_chains-all.ensures
@@ -58,7 +45,7 @@ overflow_add-result c =
           c.absorb_chains-all.auto.vs c.absorb_chains-all.auto.p
           c.absorb_chains-all.auto.nodes c.move_all_edges.ensures
           c.move_all_edges.auto.es c.remove_vertices_by_id-left.ensures
-          c.pack-packed.ensures c.pack-packed.auto.p,
+          c.pack-used.ensures c.pack-used.auto.p,
     )
 
 pub returns : goal.returns
@@ -72,13 +59,13 @@ returns c =
     c.move_all_edges.ensures
     c.move_all_edges.auto.es
     c.remove_vertices_by_id-left.ensures
-    c.pack-packed.ensures
-    c.pack-packed.auto.p
+    c.pack-used.ensures
+    c.pack-used.auto.p
     c.build_index.ensures
     c.build_index.auto.heads
     c.build_index.auto.nexts
     c.remove_vertices_by_id-left.auto.es
-    c.pack-packed.auto.vs
+    c.pack-used.auto.vs
     c.remove_vertices_by_id-left.auto.vs
     (c.remove_vertices_by_id-left.auto.map
     ∙ c.absorb_chains-all.auto.rest)
