@@ -2,17 +2,17 @@
 use mathlib.Core.Path.{◌≡◌, refl, sym, ap, ◌∙◌}
 use mathlib.Core.Option.{Option, none, some}
 use mathlib.Core.List.{List, [], ◌∷◌, ◌++◌, map, map-append}
-use Prim.Native.Nat.{ℕ, zero, suc, ◌+◌, ◌*◌, ◌-◌, ◌≤◌, ◌<◌}
+use Prim.Native.Nat.{ℕ, zero, suc, ◌+◌, ◌*◌, ◌≤◌, ◌<◌}
 use native.Mathlib.Numerals.{add-one}
 use native.Mathlib.Omega.{arith}
-use lib.ListN.{length, get_or, set, take, drop, length-append, length-drop, length-set}
+use lib.ListN.{length, get_or, take, drop, length-append}
 use borrow.Author.Tests.{le-leb, lt-leb}
-use lib.Seq.{get_or-take, length-take-le, paste, paste-zero, paste-suc, length-paste, take_at, drop-append-add, drop-drop, get_or-drop}
-use Rattle.defs.specs.Lists.{tab, concat, sum}
+use lib.Seq.{get_or-take, length-take-le, paste, take_at, drop-append-add, drop-drop}
+use Rattle.defs.specs.Lists.{concat}
 use Rattle.laws.proofs.ListLaws.{by_order}
 use Rattle.tabs.proofs.Tabs.{tab-snoc, tab-zero}
 use Rattle.tabs.proofs.SumTabs.{sum-none, sum_more, sum_below, concat-snoc}
-use Rattle.store.specs.Store.{part, seq_in, nums_in}
+use Rattle.store.specs.Store.{seq_in, nums_in}
 use Rattle.store.proofs.VertexLaws.{part-long}
 use Rattle.spell.specs.Spell.{Puttable, SequencePut, spelled_in, Listed, BytesWritten, Answered, count_of, count_in, with_front, Told}
 use Rattle.store.specs.Store.{nodes_length}
@@ -27,11 +27,11 @@ put_is {vs} {p} {v} {out} {out'} {at} s l e = record { end = omega arith; is = e
 
 -- ---- the first c nodes, one by one
 
-front_below : {nodes : List ℕ} {c i : ℕ} → c ≤ length nodes → i < length (take c nodes) → i < c
-front_below {nodes} {c} r h = omega (arith, length-take-le c nodes r)
+front_below : (nodes : List ℕ) {c i : ℕ} → c ≤ length nodes → i < length (take c nodes) → i < c
+front_below nodes {c} r h = omega (arith, length-take-le c nodes r)
 
-front-node : {nodes : List ℕ} {c i : ℕ} → c ≤ length nodes → i < length (take c nodes) → get_or (take c nodes) i 0 ≡ get_or nodes i 0
-front-node {nodes} {c} {i} r h = get_or-take c nodes i 0 (front_below r h)
+front-node : (nodes : List ℕ) {c i : ℕ} → c ≤ length nodes → i < length (take c nodes) → get_or (take c nodes) i 0 ≡ get_or nodes i 0
+front-node nodes {c} {i} r h = get_or-take c nodes i 0 (front_below nodes r h)
 
 -- ---- the lengths
 
@@ -44,11 +44,11 @@ adding-start vs nodes c = record { is = sym (sum-none (λ (i : ℕ). get_or vs (
 module _ {vs p nodes : List ℕ} {c : ℕ} (L : Listed vs p nodes c) {len i l : ℕ} (A : AddingNodes vs nodes c len i) (h : i < length (take c nodes))
     (q : l ≡ get_or vs (2 * get_or (take c nodes) i 0 + 1) 0) where
   node-len : l ≡ get_or vs (2 * get_or nodes i 0 + 1) 0
-  node-len = q ∙ ap (λ (v : ℕ). get_or vs (2 * v + 1) 0) (front-node L.nodes-room h)
+  node-len = q ∙ ap (λ (v : ℕ). get_or vs (2 * v + 1) 0) (front-node nodes L.nodes-room h)
 
   pub adding-small : len + l ≤ length p
   adding-small =
-      omega (arith, A.is, L.total, node-len, sum_below c i (λ (i : ℕ). get_or vs (2 * get_or nodes i 0 + 1) 0) (front_below L.nodes-room h))
+      omega (arith, A.is, L.total, node-len, sum_below c i (λ (i : ℕ). get_or vs (2 * get_or nodes i 0 + 1) 0) (front_below nodes L.nodes-room h))
 
   pub adding-more : AddingNodes vs nodes c (len + l) (i + 1)
   adding-more = record { is = omega (arith, A.is, node-len, sum_more i (λ (i : ℕ). get_or vs (2 * get_or nodes i 0 + 1) 0)) }
@@ -94,7 +94,7 @@ paste-behind d out₀ s at n q = λ j. (take_at d (drop at out₀) at q j ++ tak
 module _ {vs p nodes : List ℕ} {c : ℕ} {out₀ : List ℕ} (L : Listed vs p nodes c) (room : nodes_length vs nodes c ≤ length out₀) {out :
     List ℕ} {at i : ℕ} (S : Spelling vs p nodes c out₀ out at i) where
   pub spelling-puttable : i < length (take c nodes) → Puttable vs p (get_or (take c nodes) i 0) out at
-  spelling-puttable h = let b : i < c = front_below L.nodes-room h in rw (front-node L.nodes-room h) (record {
+  spelling-puttable h = let b : i < c = front_below nodes L.nodes-room h in rw (front-node nodes L.nodes-room h) (record {
     vs-room = L.vs-room i b;
     within = L.within i b;
     room = omega (arith, S.end, S.len, sum_below c i (λ (i : ℕ). get_or vs (2 * get_or nodes i 0 + 1) 0) b);
@@ -114,7 +114,7 @@ module _ {vs p nodes : List ℕ} {c : ℕ} {out₀ : List ℕ} (L : Listed vs p 
 
   pub spelling-more : {out' : List ℕ} {at' : ℕ} → i < length (take c nodes) → SequencePut vs p (get_or (take c nodes) i 0) out at at' out'
       → length out' ≡ length out → Spelling vs p nodes c out₀ out' at' (i + 1)
-  spelling-more h P q = node-put (front_below L.nodes-room h) (rw (front-node L.nodes-room h) at P) q
+  spelling-more h P q = node-put (front_below nodes L.nodes-room h) (rw (front-node nodes L.nodes-room h) at P) q
 
   pub spelling-end : i ≤ length (take c nodes) → length (take c nodes) ≤ i → BytesWritten (spelled_in vs p nodes c) out₀ at out
   spelling-end b h =

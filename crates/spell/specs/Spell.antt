@@ -3,7 +3,7 @@ use Rattle.std.specs.Prelude.{◌≡◌, cond, List, ◌++◌, map, ℕ, ◌+◌
 use Rattle.std.specs.Prelude as std
 use Rattle.std.proofs.Math.Option.{Option, none, some}
 use Rattle.std.proofs.Math.Seq.{paste}
-use Rattle.defs.specs.Lists.{tab, concat, sum}
+use Rattle.defs.specs.Lists.{concat}
 use Rattle.store.specs.Store.{nodes_length}
 use Rattle.store.specs.Store.{seq_in, nums_in}
 
