@@ -28,26 +28,6 @@ remove_marked-requires c =
     c.requires.0
     (c.mark_unreached.auto.map ∙ c.fill.auto.dst)
 
-pub shape_of-es : goal.shape_of-es
-shape_of-es c = c.remove_marked.auto.es
-
-pub shape_of-vs : goal.shape_of-vs
-shape_of-vs c = c.remove_marked.auto.vs
-
-pub shape_of-nodes : goal.shape_of-nodes
-shape_of-nodes c =
-    c.mark_unreached.auto.nodes
-
-pub shape_of-map : goal.shape_of-map
-shape_of-map c =
-    c.remove_marked.auto.map
-    ∙ c.mark_unreached.auto.map
-    ∙ c.fill.auto.dst
-
-pub shape_of-tried : goal.shape_of-tried
-shape_of-tried c =
-    c.mark_unreached.auto.tried
-
 pub returns : goal.returns
 returns c =
     reduced-as
