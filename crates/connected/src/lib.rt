@@ -67,7 +67,18 @@ pub fn remove_vertices_not_connected_to_ref(
         return held;
     };
     compact::fill(map, n, 0);
-    mark_unreached(es, m, n, heads, nexts, Direction::Either, s, nodes, map, tried);
+    mark_unreached(
+        es,
+        m,
+        n,
+        heads,
+        nexts,
+        Direction::Either,
+        s,
+        nodes,
+        map,
+        tried,
+    );
     orphans::remove_marked(held, es, vs, map)
 }
 
@@ -92,7 +103,29 @@ pub fn remove_paths_not_connected_to_ref(
     let n = held.n;
     let m = held.m;
     compact::fill(map, n, 0);
-    mark_unreached(es, m, n, heads, nexts, Direction::Along, s, nodes, map, tried);
-    mark_unreached(es, m, n, heads, nexts, Direction::Against, t, nodes, map, tried);
+    mark_unreached(
+        es,
+        m,
+        n,
+        heads,
+        nexts,
+        Direction::Along,
+        s,
+        nodes,
+        map,
+        tried,
+    );
+    mark_unreached(
+        es,
+        m,
+        n,
+        heads,
+        nexts,
+        Direction::Against,
+        t,
+        nodes,
+        map,
+        tried,
+    );
     orphans::remove_marked(held, es, vs, map)
 }

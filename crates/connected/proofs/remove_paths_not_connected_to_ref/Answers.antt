@@ -4,7 +4,6 @@ use mathlib.Core.Path.{◌∙◌}
 use Rattle.reach.proofs.ReachLaws.{walkable-kept}
 use Rattle.orphans.proofs.OrphanLaws.{reduced-as}
 use Rattle.connected.proofs.ConnectedLaws.{paths-stay}
-use borrow.Author.Rules.{rules}
 use Rattle.compact.proofs.CompactLaws.{compactable-kept}
 use Rattle.connected.proofs.remove_paths_not_connected_to_ref.Goals as goal
 

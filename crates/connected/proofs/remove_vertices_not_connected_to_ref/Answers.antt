@@ -4,7 +4,6 @@ use mathlib.Core.Path.{◌∙◌}
 use Rattle.refs.proofs.RefLaws.{source-below}
 use Rattle.orphans.proofs.OrphanLaws.{reduced-as}
 use Rattle.connected.proofs.ConnectedLaws.{reduced-same, no-source-stays, connected-stay}
-use borrow.Author.Rules.{rules}
 use Rattle.compact.proofs.CompactLaws.{compactable-kept}
 use Rattle.connected.proofs.remove_vertices_not_connected_to_ref.Goals as goal
 
