@@ -31,10 +31,7 @@ fn zip_all(
         p.new heads.new nexts.new nodes.new map.new }
 {
     index::build_index(es, held.m, held.n, heads, nexts);
-    let work = Work {
-        held: held,
-        rewrites: 0,
-    };
+    let work = Work { held, rewrites: 0 };
     zip_linear_chains::zip_linear_chains(work, es, vs, p, heads, nexts, nodes, map, starts)
 }
 
@@ -79,8 +76,7 @@ pub fn before_choice(
         es.new vs.new p.new }
 {
     let z = zip_all(held, es, vs, p, heads, nexts, nodes, map, starts);
-    let zipped = z.held;
-    let a = keep_connected(zipped, es, vs, heads, nexts, nodes, map, tried);
+    let a = keep_connected(z.held, es, vs, heads, nexts, nodes, map, tried);
     let s = rounds::simplify_graph_full(
         a,
         rounds::MIN_TAIL_SUFFIX_LEN,
@@ -95,9 +91,8 @@ pub fn before_choice(
         tried,
         sig,
     );
-    let simplified = s.held;
     Work {
-        held: simplified,
+        held: s.held,
         rewrites: z.rewrites + s.rewrites,
     }
 }

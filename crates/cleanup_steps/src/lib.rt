@@ -33,11 +33,9 @@ pub struct CleanedUp {
 fn just_reference(w: Work) -> CleanedUp
     ensures { result ≡ uncleaned w }
 {
-    let held = w.held;
-    let status = SeqGraphCleanupStatus::JustAssembledReference;
     CleanedUp {
-        held: held,
-        status: status,
+        held: w.held,
+        status: SeqGraphCleanupStatus::JustAssembledReference,
         rewrites: w.rewrites,
     }
 }
@@ -64,9 +62,8 @@ fn keep_between(
     ensures { After work (some s) (some t) es.old vs.old p.old heads.old
         nexts.old result es.new vs.new p.new }
 {
-    let held = work.held;
     let b = connected::remove_paths_not_connected_to_ref(
-        held, s, t, es, vs, heads, nexts, nodes, map, tried,
+        work.held, s, t, es, vs, heads, nexts, nodes, map, tried,
     );
     let z = rounds::simplify_graph_full(
         b,
@@ -82,14 +79,10 @@ fn keep_between(
         tried,
         sig,
     );
-    let simplified = z.held;
-    let cleaned = dummy_vertex::add_dummy_vertex(simplified, es, vs);
-    let status = SeqGraphCleanupStatus::AssembledSomeVariation;
-    let rewrites = work.rewrites + z.rewrites;
     CleanedUp {
-        held: cleaned,
-        status: status,
-        rewrites: rewrites,
+        held: dummy_vertex::add_dummy_vertex(z.held, es, vs),
+        status: SeqGraphCleanupStatus::AssembledSomeVariation,
+        rewrites: work.rewrites + z.rewrites,
     }
 }
 
@@ -148,9 +141,8 @@ pub fn cleanup_seq_graph(
     let w = choice::before_choice(
         held, es, vs, p, heads, nexts, nodes, map, starts, tried, sig,
     );
-    let h = w.held;
-    let m = h.m;
-    let n = h.n;
+    let m = w.held.m;
+    let n = w.held.n;
     index::build_index(es, m, n, heads, nexts);
     let source = refs::reference_source_vertex(es, m, n, heads, nexts);
     let sink = refs::reference_sink_vertex(es, m, n, heads, nexts);

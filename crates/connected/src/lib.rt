@@ -6,11 +6,12 @@ ghost use Rattle.defs.specs.SeqGraph.{Graph};
 ghost use Rattle.defs.specs.Cleanup.{remove_vertices_not_connected_to_ref, remove_paths_not_connected_to_ref};
 ghost use Rattle.compact.specs.Compact.{Compactable};
 ghost use Rattle.index.specs.Index.{Indexed};
-ghost use Rattle.reach.specs.Reach.{Walkable};
+ghost use Rattle.reach.specs.Reach.{kind_of, Walkable};
 ghost use Rattle.orphans.specs.Orphans.{Reduced};
 ghost use Rattle.connected.specs.Connected.{Missed, Unreached};
 
 use memory::Held;
+use reach::Direction;
 use refs::OptionVertex;
 
 // Those of n vertices without a mark go: they get 1 in `map`.
@@ -18,33 +19,30 @@ fn mark_missed(marks: &[u8], n: usize, map: &mut [u32])
     requires { (n ≤ length marks.now) × (n ≤ length map.old) }
     ensures { Missed n marks.now map.old map.new }
 {
-    let mut v = 0;
-    while v < n {
-        let u = v;
-        v += 1;
-        if marks[u] == 0 {
-            map[u] = 1;
+    for v in 0..n {
+        if marks[v] == 0 {
+            map[v] = 1;
         }
     }
 }
 
-// Those of n vertices that a walk of this kind from s does not reach go, too.
+// Those of n vertices that a walk in this direction from s does not reach go, too.
 fn mark_unreached(
     es: &[u32],
     m: usize,
     n: usize,
     heads: &[u32],
     nexts: &[u32],
-    kind: u32,
+    direction: Direction,
     s: usize,
     nodes: &mut [u32],
     map: &mut [u32],
     tried: &mut [u8],
 )
     requires { (s < n) × ((n ≤ length map.old) × (Indexed m n es.now heads.now nexts.now × Walkable n tried.old nodes.old)) }
-    ensures { Unreached kind m n es.now s map.old map.new }
+    ensures { Unreached (kind_of direction) m n es.now s map.old map.new }
 {
-    reach::mark_reached(es, m, n, heads, nexts, false, kind, s, tried, nodes);
+    reach::mark_reached(es, m, n, heads, nexts, false, direction, s, tried, nodes);
     mark_missed(tried, n, map);
 }
 
@@ -69,7 +67,18 @@ pub fn remove_vertices_not_connected_to_ref(
         return held;
     };
     compact::fill(map, n, 0);
-    mark_unreached(es, m, n, heads, nexts, 2, s, nodes, map, tried);
+    mark_unreached(
+        es,
+        m,
+        n,
+        heads,
+        nexts,
+        Direction::Either,
+        s,
+        nodes,
+        map,
+        tried,
+    );
     orphans::remove_marked(held, es, vs, map)
 }
 
@@ -94,7 +103,29 @@ pub fn remove_paths_not_connected_to_ref(
     let n = held.n;
     let m = held.m;
     compact::fill(map, n, 0);
-    mark_unreached(es, m, n, heads, nexts, 0, s, nodes, map, tried);
-    mark_unreached(es, m, n, heads, nexts, 1, t, nodes, map, tried);
+    mark_unreached(
+        es,
+        m,
+        n,
+        heads,
+        nexts,
+        Direction::Along,
+        s,
+        nodes,
+        map,
+        tried,
+    );
+    mark_unreached(
+        es,
+        m,
+        n,
+        heads,
+        nexts,
+        Direction::Against,
+        t,
+        nodes,
+        map,
+        tried,
+    );
     orphans::remove_marked(held, es, vs, map)
 }

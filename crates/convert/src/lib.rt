@@ -21,14 +21,11 @@ pub fn additional_sequences(
     requires { Trimmable n vs.old × Indexed m n es.now heads.now nexts.now }
     ensures { Trimmed m n es.now vs.old vs.new }
 {
-    let mut v = 0;
-    while v < n {
-        let u = v;
-        v += 1;
-        if (heads[2 * u + 1] as usize) < m {
-            let start = store::start_number(vs, u);
-            let len = store::len_number(vs, u);
-            store::put_vertex(vs, u, start + (len - 1), 1);
+    for v in 0..n {
+        if (heads[2 * v + 1] as usize) < m {
+            let start = store::start_number(vs, v);
+            let len = store::len_number(vs, v);
+            store::put_vertex(vs, v, start + (len - 1), 1);
         }
     }
 }
@@ -38,11 +35,8 @@ fn put_places(order: &[u32], n: usize, place: &mut [u32])
     requires { Permutation n order.now × ((n ≤ length place.old) × (n < 4294967296)) }
     ensures { Places n order.now place.new }
 {
-    let mut i = 0;
-    while i < n {
-        let v = order[i] as usize;
-        place[v] = i as u32;
-        i += 1;
+    for i in 0..n {
+        place[order[i] as usize] = i as u32;
     }
 }
 
@@ -51,15 +45,13 @@ fn copy_edges(es: &[u32], order: &[u32], m: usize, out: &mut [u32])
     requires { EdgesCopyable m es.now order.now out.old }
     ensures { edges_in m out.new ≡ tab m (λ (i : ℕ). edge_in es.now (get_or order.now i 0)) }
 {
-    let mut i = 0;
-    while i < m {
+    for i in 0..m {
         let e = order[i] as usize;
         let a = store::edge_from(es, e);
         let b = store::edge_to(es, e);
         let s = store::edge_support(es, e);
         let r = store::edge_flag(es, e);
         store::put_edge(out, i, a, b, s, r);
-        i += 1;
     }
 }
 

@@ -16,11 +16,5 @@ pub fn add_dummy_vertex(held: Held, es: &mut [u32], vs: &mut [u32]) -> Held
     }
     store::put_vertex(vs, 1, 0, 0);
     store::put_edge(es, 0, 0, 1, 0, 1);
-    let kmer_size = held.k;
-    Held {
-        k: kmer_size,
-        n: 2,
-        m: 1,
-        used: held.used,
-    }
+    Held { n: 2, m: 1, ..held }
 }

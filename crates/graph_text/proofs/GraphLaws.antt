@@ -13,7 +13,7 @@ use Rattle.defs.specs.Simplify.{sequence_bytes, End, quiet, repeated, full, end_
 use Rattle.tabs.proofs.Tabs.{length-tab, get_or-tab, tab-ext}
 use Rattle.tabs.proofs.SumTabs.{map-tab}
 use Rattle.defs.specs.Forms.{sgr1}
-use Rattle.store.specs.Store.{edge_in, seq_in, part, graph_in}
+use Rattle.store.specs.Store.{edge_in, seq_in, graph_in}
 use Rattle.store.proofs.VertexLaws.{part-long}
 use Rattle.pool.specs.Pool.{bytes_in}
 use Rattle.pool.proofs.PoolLaws.{bytes_below}
@@ -23,7 +23,7 @@ use Rattle.text.specs.Printed.{ascii, field, signed, surplus, printed_sequence, 
 use Rattle.text.specs.Printed.{printed_graph, printed_refusal}
 use Rattle.text.specs.Put.{TextPut}
 use Rattle.text.proofs.TextLaws.{put_then, put_as, put-most, Lines, lines_long, lines_at}
-use Rattle.graph_text.specs.GraphText.{end_with_number, simplified_in, size_in, VertexFits, vertices_most, graph_most, VerticesFit, Printable, LinesPut}
+use Rattle.graph_text.specs.GraphText.{end_with_number, size_in, VertexFits, vertices_most, VerticesFit, Printable, LinesPut}
 
 -- ---- lines
 

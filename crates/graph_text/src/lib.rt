@@ -30,13 +30,11 @@ fn put_end(text: &mut [u8], at: usize, end: u32) -> usize
     requires { at + 8 ≤ length text.old }
     ensures { TextPut 8 (ascii (end_name (end_with_number end))) text.old at result text.new }
 {
-    if end == 1 {
-        return text::put_bytes(text, at, b"quiet");
+    match end {
+        1 => text::put_bytes(text, at, b"quiet"),
+        2 => text::put_bytes(text, at, b"repeated"),
+        _ => text::put_bytes(text, at, b"full"),
     }
-    if end == 2 {
-        return text::put_bytes(text, at, b"repeated");
-    }
-    text::put_bytes(text, at, b"full")
 }
 
 fn put_second_line(text: &mut [u8], at: usize, rewrites: u32, rounds: u32, end: u32) -> usize
@@ -69,10 +67,8 @@ fn put_vertices(text: &mut [u8], at: usize, vs: &[u32], p: &[u8], n: usize) -> u
         (concat (tab n (λ v. vertex_line v (seq_in vs.now p.now v)))) text.old at result text.new }
 {
     let mut to = at;
-    let mut v = 0;
-    while v < n {
+    for v in 0..n {
         to = put_vertex(text, to, vs, p, v as u32);
-        v += 1;
     }
     to
 }
@@ -83,9 +79,10 @@ fn put_ref(text: &mut [u8], at: usize, reference: bool) -> usize
     ensures { TextPut 2 (cond reference (ascii " r") (ascii " -")) text.old at result text.new }
 {
     if reference {
-        return text::put_bytes(text, at, b" r");
+        text::put_bytes(text, at, b" r")
+    } else {
+        text::put_bytes(text, at, b" -")
     }
-    text::put_bytes(text, at, b" -")
 }
 
 // c for a capped edge, and the line's end.
@@ -94,9 +91,10 @@ fn put_capped(text: &mut [u8], at: usize, capped: bool) -> usize
     ensures { TextPut 2 (cond capped (ascii "c\n") (ascii "\n")) text.old at result text.new }
 {
     if capped {
-        return text::put_bytes(text, at, b"c\n");
+        text::put_bytes(text, at, b"c\n")
+    } else {
+        text::put_bytes(text, at, b"\n")
     }
-    text::put_bytes(text, at, b"\n")
 }
 
 fn put_edge(text: &mut [u8], at: usize, es: &[u32], i: usize) -> usize
@@ -115,10 +113,8 @@ fn put_edges(text: &mut [u8], at: usize, es: &[u32], m: usize) -> usize
     ensures { TextPut (38 * m) (concat (tab m (λ i. edge_line (edge_in es.now i)))) text.old at result text.new }
 {
     let mut to = at;
-    let mut i = 0;
-    while i < m {
+    for i in 0..m {
         to = put_edge(text, to, es, i);
-        i += 1;
     }
     to
 }
@@ -145,10 +141,8 @@ pub fn put_lines(text: &mut [u8], at: usize, held: Held, es: &[u32], vs: &[u32],
     requires { Printable held es.now vs.now p.now text.old × (at ≤ 138) }
     ensures { LinesPut held es.now vs.now p.now text.old at result text.new }
 {
-    let n = held.n;
-    let m = held.m;
-    let to = put_vertices(text, at, vs, p, n);
-    put_edges(text, to, es, m)
+    let to = put_vertices(text, at, vs, p, held.n);
+    put_edges(text, to, es, held.m)
 }
 
 pub fn put_refusal(text: &mut [u8], number: u32) -> usize

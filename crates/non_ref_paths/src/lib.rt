@@ -8,11 +8,12 @@ ghost use Rattle.defs.specs.Cleanup.{without_non_ref_edges, clean_non_ref_paths,
 ghost use Rattle.store.specs.Store.{edge_in, EndsBelow};
 ghost use Rattle.compact.specs.Compact.{Compactable};
 ghost use Rattle.index.specs.Index.{Indexed, Indexable};
-ghost use Rattle.reach.specs.Reach.{Walkable};
+ghost use Rattle.reach.specs.Reach.{kind_of, Walkable};
 ghost use Rattle.orphans.specs.Orphans.{Reduced};
 ghost use Rattle.non_ref_paths.specs.CleanNonRef.{stays_by, EdgesKept, EdgesDropped};
 
 use memory::Held;
+use reach::Direction;
 use refs::OptionVertex;
 
 // An edge stays that is a reference edge, or whose end `off` has no mark; off 0 is the end that it leaves, 1 the end that it enters.
@@ -20,10 +21,7 @@ fn edge_stays(es: &[u32], e: usize, off: usize, n: usize, marks: &[u8]) -> bool
     requires { (4 * e + 4 ≤ length es.now) × ((off ≤ 1) × ((get_or es.now (4 * e + off) 0 < n) × (n ≤ length marks.now))) }
     ensures { result ≡ stays_by off marks.now (edge_in es.now e) }
 {
-    if store::edge_is_ref(es, e) {
-        return true;
-    }
-    marks[store::edge_end(es, e, off) as usize] == 0
+    store::edge_is_ref(es, e) || marks[store::edge_end(es, e, off) as usize] == 0
 }
 
 // Closes m edges up over those that do not stay, in place; the number left.
@@ -31,11 +29,8 @@ fn keep_edges(es: &mut [u32], m: usize, off: usize, n: usize, marks: &[u8]) -> u
     requires { (4 * m ≤ length es.old) × ((off ≤ 1) × (EndsBelow n m es.old × (n ≤ length marks.now))) }
     ensures { EdgesKept off n m es.old marks.now result es.new }
 {
-    let mut i = 0;
     let mut j = 0;
-    while i < m {
-        let e = i;
-        i += 1;
+    for e in 0..m {
         if edge_stays(es, e, off, n, marks) {
             let a = store::edge_from(es, e);
             let b = store::edge_to(es, e);
@@ -48,23 +43,24 @@ fn keep_edges(es: &mut [u32], m: usize, off: usize, n: usize, marks: &[u8]) -> u
     j
 }
 
-// Edges that are not reference edges go if such edges lead on from them: of kind 1 to s, of kind 0 back to s. The number left.
+// Edges that are not reference edges go if a walk from s over such edges in this direction takes them: against them, those that lead to s,
+// along them, those that s leads to. The number left.
 fn drop_edges(
     es: &mut [u32],
     m: usize,
     n: usize,
     heads: &mut [u32],
     nexts: &mut [u32],
-    kind: u32,
+    direction: Direction,
     s: usize,
     nodes: &mut [u32],
     tried: &mut [u8],
 ) -> usize
-    requires { (s < n) × ((kind ≤ 1) × ((m < 4294967296) × (Indexed m n es.old heads.old nexts.old × Walkable n tried.old nodes.old))) }
-    ensures { EdgesDropped kind m n es.old s result es.new × Indexed result n es.new heads.new nexts.new }
+    requires { (s < n) × ((kind_of direction ≤ 1) × ((m < 4294967296) × (Indexed m n es.old heads.old nexts.old × Walkable n tried.old nodes.old))) }
+    ensures { EdgesDropped (kind_of direction) m n es.old s result es.new × Indexed result n es.new heads.new nexts.new }
 {
-    reach::mark_reached(es, m, n, heads, nexts, true, kind, s, tried, nodes);
-    let left = keep_edges(es, m, kind as usize, n, tried);
+    reach::mark_reached(es, m, n, heads, nexts, true, direction, s, tried, nodes);
+    let left = keep_edges(es, m, direction as usize, n, tried);
     index::build_index(es, left, n, heads, nexts);
     left
 }
@@ -89,15 +85,19 @@ fn clean_between(
         vs.old result es.new vs.new }
 {
     let n = held.n;
-    let a = drop_edges(es, held.m, n, heads, nexts, 1, s, nodes, tried);
-    let b = drop_edges(es, a, n, heads, nexts, 0, t, nodes, tried);
-    let kmer_size = held.k;
-    let left = Held {
-        k: kmer_size,
-        n: n,
-        m: b,
-        used: held.used,
-    };
+    let a = drop_edges(
+        es,
+        held.m,
+        n,
+        heads,
+        nexts,
+        Direction::Against,
+        s,
+        nodes,
+        tried,
+    );
+    let b = drop_edges(es, a, n, heads, nexts, Direction::Along, t, nodes, tried);
+    let left = Held { m: b, ..held };
     orphans::remove_singleton_orphan_vertices(left, es, vs, heads, nexts, map)
 }
 

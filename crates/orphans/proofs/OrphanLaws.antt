@@ -8,6 +8,7 @@ use Prim.Native.Nat.{ℕ, zero, suc, ◌+◌, ◌≤◌, ◌<◌}
 use native.Mathlib.Omega.{arith}
 use native.Mathlib.Decide.{ℕ_discrete}
 use lib.Dec.{eqb}
+use mir.Val.{bool_byte}
 use lib.ListN.{length, set, length-set}
 use borrow.Author.Tests.{eqb-true, eqb-false, eq-eqb, ne_eqb}
 use Rattle.defs.specs.Lists.{keep_if, rank, any_of, elem_of, up_from}
@@ -41,11 +42,6 @@ second-no : (a : Bool) {b : Bool} (c : Bool) → b ≡ false → false ≡ a && 
 second-no true c q = rw q
 second-no false c q = refl
 
-third-no : (a b : Bool) {c : Bool} → c ≡ false → false ≡ a && (b && c)
-third-no true true q = sym q
-third-no true false q = refl
-third-no false b q = refl
-
 module _ (m n : ℕ) (es : List ℕ) (v : ℕ) where
   pub orphan-entered : {d : ℕ} → d ≡ length (incident_edges (edge_end 1 es) m v) → (d ≡ 0 → ⊥) → Orphan m n es v false
   unfolding is_orphan
@@ -62,19 +58,12 @@ module _ (m n : ℕ) (es : List ℕ) (v : ℕ) where
       at k vs p = second-no (eqb (in_degree (graph_in k n m es vs p) v) 0) (not (is_ref_source (graph_in k n m es vs p) v))
           (ne_eqb (out_degree (graph_in k n m es vs p) v) 0 (λ z. ne (q ∙ sym (out-degree-is k n m es vs p v) ∙ z)))
 
-  pub orphan-source : RefSource m n es v true → Orphan m n es v false
+  pub orphan-by-source : {c d : ℕ} {r : Bool} → c ≡ length (incident_edges (edge_end 1 es) m v) → c ≡ 0
+      → d ≡ length (incident_edges (edge_end 0 es) m v) → d ≡ 0 → RefSource m n es v r → Orphan m n es v (not r)
   unfolding is_orphan
-  orphan-source S = record { is = at }
+  orphan-by-source {r = r} a x b y S = record { is = at }
     where
-      at : (k : ℕ) (vs p : List ℕ) → false ≡ is_orphan (graph_in k n m es vs p) v
-      at k vs p = third-no (eqb (in_degree (graph_in k n m es vs p) v) 0) (eqb (out_degree (graph_in k n m es vs p) v) 0) (ap not (sym (S.is k vs p)))
-
-  pub orphan-yes : {c d : ℕ} → c ≡ length (incident_edges (edge_end 1 es) m v) → c ≡ 0 → d ≡ length (incident_edges (edge_end 0 es) m v) → d ≡ 0
-      → RefSource m n es v false → Orphan m n es v true
-  unfolding is_orphan
-  orphan-yes a x b y S = record { is = at }
-    where
-      at : (k : ℕ) (vs p : List ℕ) → true ≡ is_orphan (graph_in k n m es vs p) v
+      at : (k : ℕ) (vs p : List ℕ) → not r ≡ is_orphan (graph_in k n m es vs p) v
       at k vs p = rw (
         eq-eqb (in_degree (graph_in k n m es vs p) v) 0 (in-degree-is k n m es vs p v ∙ sym a ∙ x),
         eq-eqb (out_degree (graph_in k n m es vs p) v) 0 (out-degree-is k n m es vs p v ∙ sym b ∙ y),
@@ -88,8 +77,12 @@ pub record MarkingOrphans (m n : ℕ) (es mp₀ mp : List ℕ) (i : ℕ) : Type 
   pub len : length mp ≡ length mp₀
   pub at : (v : ℕ) → v < i → Orphan m n es v (not (unmarked mp v))
 
-orphan-as : {m n : ℕ} {es : List ℕ} {v : ℕ} {r b : Bool} → r ≡ b → Orphan m n es v r → Orphan m n es v b
+pub orphan-as : {m n : ℕ} {es : List ℕ} {v : ℕ} {r b : Bool} → r ≡ b → Orphan m n es v r → Orphan m n es v b
 orphan-as q O = rw q at O
+
+byte-marks : (r : Bool) → r ≡ not (eqb (bool_byte r) 0)
+byte-marks true = refl
+byte-marks false = refl
 
 not-swap : (a : Bool) {b : Bool} → not a ≡ b → a ≡ not b
 not-swap true q = rw (← q)
@@ -99,21 +92,14 @@ module _ {m n : ℕ} {es mp₀ : List ℕ} where
   pub marking-start : MarkingOrphans m n es mp₀ mp₀ 0
   marking-start = record { high = omega arith; len = refl; at = λ v b. absurd (omega arith) }
 
-  more : {mp : List ℕ} {i : ℕ} (x : ℕ) → MarkingOrphans m n es mp₀ mp i → i < n → n ≤ length mp₀ → Orphan m n es i (not (eqb x 0))
-      → MarkingOrphans m n es mp₀ (set mp i x) (i + 1)
-  more {mp} {i} x M b room O = record {
+  pub marking-more : {mp : List ℕ} {i : ℕ} {r : Bool} (x : ℕ) → MarkingOrphans m n es mp₀ mp i → i < n → n ≤ length mp₀ → Orphan m n es i r
+      → x ≡ bool_byte r → MarkingOrphans m n es mp₀ (set mp i x) (i + 1)
+  marking-more {mp} {i} {r} x M b room O q = record {
     high = omega arith;
     len = length-set mp i x ∙ M.len;
-    at = set_more (λ v y. Orphan m n es v (not (eqb y 0))) mp i x (omega (arith, M.len)) M.at O;
+    at = set_more (λ v y. Orphan m n es v (not (eqb y 0))) mp i x (omega (arith, M.len)) M.at
+        (orphan-as (byte-marks r ∙ ap (λ (y : ℕ). not (eqb y 0)) (sym q)) O);
   }
-
-  pub marking-yes : {mp : List ℕ} {i : ℕ} {r : Bool} → MarkingOrphans m n es mp₀ mp i → i < n → n ≤ length mp₀ → Orphan m n es i r → r ≡ true
-      → MarkingOrphans m n es mp₀ (set mp i 1) (i + 1)
-  marking-yes M b room O t = more 1 M b room (orphan-as t O)
-
-  pub marking-no : {mp : List ℕ} {i : ℕ} {r : Bool} → MarkingOrphans m n es mp₀ mp i → i < n → n ≤ length mp₀ → Orphan m n es i r → r ≡ false
-      → MarkingOrphans m n es mp₀ (set mp i 0) (i + 1)
-  marking-no M b room O t = more 0 M b room (orphan-as t O)
 
   pub marking-end : {mp : List ℕ} {i : ℕ} → MarkingOrphans m n es mp₀ mp i → n ≤ i → OrphansMarked m n es mp
   marking-end {mp} M l = record { at = λ k vs p v b. not-swap (unmarked mp v) ((M.at v (omega arith)).is k vs p) }

@@ -15,16 +15,9 @@ fn is_orphan(es: &[u32], m: usize, n: usize, heads: &[u32], nexts: &[u32], v: us
     requires { (v < n) × Indexed m n es.now heads.now nexts.now }
     ensures { Orphan m n es.now v result }
 {
-    if index::degree(es, m, n, heads, nexts, 1, v) != 0 {
-        return false;
-    }
-    if index::degree(es, m, n, heads, nexts, 0, v) != 0 {
-        return false;
-    }
-    if refs::is_ref_source(es, m, n, heads, nexts, v) {
-        return false;
-    }
-    true
+    index::degree(es, m, n, heads, nexts, 1, v) == 0
+        && index::degree(es, m, n, heads, nexts, 0, v) == 0
+        && !refs::is_ref_source(es, m, n, heads, nexts, v)
 }
 
 // Of n vertices the lone ones get 1, the others 0.
@@ -32,15 +25,8 @@ fn mark_orphans(es: &[u32], m: usize, n: usize, heads: &[u32], nexts: &[u32], ma
     requires { (n ≤ length map.old) × Indexed m n es.now heads.now nexts.now }
     ensures { OrphansMarked m n es.now map.new }
 {
-    let mut v = 0;
-    while v < n {
-        let u = v;
-        v += 1;
-        if is_orphan(es, m, n, heads, nexts, u) {
-            map[u] = 1;
-        } else {
-            map[u] = 0;
-        }
+    for v in 0..n {
+        map[v] = u32::from(is_orphan(es, m, n, heads, nexts, v));
     }
 }
 
@@ -51,12 +37,10 @@ pub fn remove_marked(held: Held, es: &mut [u32], vs: &mut [u32], map: &mut [u32]
         es.new vs.new }
 {
     let c = compact::compact_vertices(es, vs, held.n, held.m, map);
-    let kmer_size = held.k;
     Held {
-        k: kmer_size,
         n: c.n,
         m: c.m,
-        used: held.used,
+        ..held
     }
 }
 

@@ -32,11 +32,8 @@ pub fn edge_without_overlap(rec: &[u8], k: KmerSize) -> bool
     let form = form::form_of(rec);
     let e = record::edge_count(rec, form);
     let at = form::bytes_at(form, record::vertex_count(rec, form), e);
-    let mut i = 0;
-    while i < e {
-        let j = i;
-        i += 1;
-        if !edge_overlaps(rec, form, k, at, j) {
+    for i in 0..e {
+        if !edge_overlaps(rec, form, k, at, i) {
             return true;
         }
     }

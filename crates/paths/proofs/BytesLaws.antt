@@ -14,7 +14,7 @@ use Rattle.compact.proofs.CompactLaws.{order-in}
 use Rattle.memory.specs.Memory.{graph_of}
 use Rattle.memory.specs.declared.Held.{Held}
 use Rattle.spell.specs.Spell.{spelled_in, Answered, Told}
-use Rattle.spell.specs.declared.OptionBytes.TheVariants.{Some, None}
+use Rattle.std.specs.Prelude.{Some, None}
 use Rattle.spell.proofs.SpellLaws.{told_none, told-some, answered-as}
 use Rattle.paths.specs.Paths.{EdgePath, PathNodes, Spellable}
 use Rattle.paths.proofs.RouteLaws.{Route, path-of, path-short, route-spelled}

@@ -1,16 +1,16 @@
 -- A path of a graph without cycles visits no vertex twice, so that its bytes are at most those of the graph. Assumes nothing.
 use mathlib.Core.Path.{◌≡◌, sym, ap, ◌∙◌}
-use mathlib.Core.Bool.{Bool, true, false, ◌&&◌}
+use mathlib.Core.Bool.{true, ◌&&◌}
 use mathlib.Core.Logic.{⊎_elim}
 use mathlib.Core.List.Memᴰ
 use mathlib.Core.List.{List, [], ◌∷◌, Memᴰ}
-use Prim.Native.Nat.{ℕ, zero, suc, ◌+◌, ◌*◌, ◌≤◌, ◌<◌}
+use Prim.Native.Nat.{ℕ, ◌+◌, ◌*◌, ◌≤◌, ◌<◌}
 use native.Mathlib.Omega.{arith}
 use lib.ListN.{length, get_or}
 use lib.Dec.{eqb, ltb}
 use borrow.Author.Tests.{eqb-true, ltb-true}
-use Rattle.defs.specs.Lists.{tab, any_of, concat, sum}
-use Rattle.defs.specs.SeqGraph.{Edge, Graph, node_count, vertex_sequence, has_ends}
+use Rattle.defs.specs.Lists.{any_of, concat, sum}
+use Rattle.defs.specs.SeqGraph.{Graph, node_count, vertex_sequence, has_ends}
 use Rattle.defs.specs.Strings.{HasEdge, IsPath, spelled}
 use Rattle.defs.specs.Paths.{is_edge_path, is_path_of, edge_ends}
 use Rattle.laws.proofs.ListLaws.{and_split}
@@ -20,7 +20,7 @@ use Rattle.laws.proofs.Counts.{total, total_kept, Distinct}
 use Rattle.laws.proofs.Measures.{bytes-is}
 use Rattle.laws.proofs.Cycles.{any_of-true, distinct-length}
 use Rattle.laws.proofs.Edges.{joins-ends}
-use Rattle.tabs.proofs.Tabs.{length-tab, get_or-tab, tab-ext}
+use Rattle.tabs.proofs.Tabs.{get_or-tab, tab-ext}
 use Rattle.tabs.proofs.SumTabs.{map-tab, total-sum}
 use Rattle.tabs.proofs.ListTabs.{mem-tab}
 use Rattle.store.specs.Store.{seq_in, nums_in}

@@ -2,13 +2,12 @@
 use mathlib.Core.Path.{◌≡◌, refl, sym, ap, ◌∙◌}
 use mathlib.Core.Bool.{Bool, true, false, ◌&&◌}
 use mathlib.Core.List.{List, [], ◌∷◌}
-use Prim.Native.Nat.{ℕ, zero, suc, ◌+◌, ◌*◌, ◌-◌, ◌≤◌, ◌<◌}
+use Prim.Native.Nat.{ℕ, ◌+◌, ◌*◌, ◌-◌, ◌≤◌, ◌<◌}
 use native.Mathlib.Nat.{add-zero}
-use native.Mathlib.Numerals.{add-one}
 use native.Mathlib.Omega.{arith}
-use lib.ListN.{length, get_or, drop}
-use lib.Seq.{drop-cons, drop-length}
-use lib.Dec.{eqb, ltb}
+use lib.ListN.{length, get_or, take, drop}
+use Rattle.std.proofs.lemmas.List.{take_all}
+use lib.Dec.{eqb}
 use borrow.Author.Tests.{lt-ltb, le-ltb, eq-eqb, ne_eqb}
 use Rattle.defs.specs.Lists.{keep_if, any_of}
 use Rattle.defs.specs.SeqGraph.{Edge, Graph, has_ends, edges_from}
@@ -64,6 +63,12 @@ enters-no y v q h = ne_eqb y v (λ z. h (q ∙ z))
 
 -- ---- the list, pair by pair
 
+-- the first two, and what is behind them
+pub first-two : (l : List ℕ) → 2 ≤ length l → l ≡ get_or l 0 0 ∷ get_or l 1 0 ∷ take (length l - 2) (drop 2 l)
+first-two [] h = absurd (omega arith)
+first-two (a ∷ []) h = absurd (omega arith)
+first-two (a ∷ b ∷ l) h = ap (λ (r : List ℕ). a ∷ b ∷ r) (sym (take_all (length (a ∷ b ∷ l) - 2) l (omega arith)))
+
 module _ (g : Graph) (v : ℕ) where
   path-none : {l : List ℕ} → l ≡ [] → is_edge_path g v l ≡ true
   unfolding is_edge_path
@@ -86,64 +91,44 @@ module _ (g : Graph) (v : ℕ) where
       fails true y z h = rw h
       fails false y z h = refl
 
--- what is left of the list from i on is to be a path from `at`
-pub record Following (m n : ℕ) (es : List ℕ) (start : ℕ) (list : List ℕ) (at i : ℕ) : Type 0 where
-  pub high : i ≤ length list
+-- what is left of the list is to be a path from `at`
+pub record Following (m n : ℕ) (es : List ℕ) (start : ℕ) (list : List ℕ) (at : ℕ) (rest : List ℕ) : Type 0 where
   pub start-below : start < n
   pub below : at < n
-  pub left : (k : ℕ) (vs p : List ℕ) → is_edge_path (graph_in k n m es vs p) start list ≡ is_edge_path (graph_in k n m es vs p) at (drop i list)
+  pub left : (k : ℕ) (vs p : List ℕ) → is_edge_path (graph_in k n m es vs p) start list ≡ is_edge_path (graph_in k n m es vs p) at rest
 
 pub path-outside : (m n : ℕ) (es : List ℕ) (start : ℕ) (list : List ℕ) → n ≤ start → EdgePath m n es start list false
 unfolding is_path_of
 path-outside m n es start list h = record { is = λ k vs p. sym (rw (order-in k n m es vs p, le-ltb start n h)) }
 
 module _ {m n : ℕ} {es : List ℕ} {start : ℕ} {list : List ℕ} where
-  pub following-start : start < n → Following m n es start list start 0
-  following-start h = record { high = omega arith; start-below = h; below = h; left = λ k vs p. refl }
+  pub following-start : start < n → Following m n es start list start list
+  following-start h = record { start-below = h; below = h; left = λ k vs p. refl }
 
-  following-answer : {at i : ℕ} {r : Bool} → Following m n es start list at i
-      → ((k : ℕ) (vs p : List ℕ) → is_edge_path (graph_in k n m es vs p) at (drop i list) ≡ r) → EdgePath m n es start list r
+  following-answer : {at : ℕ} {rest : List ℕ} {r : Bool} → Following m n es start list at rest
+      → ((k : ℕ) (vs p : List ℕ) → is_edge_path (graph_in k n m es vs p) at rest ≡ r) → EdgePath m n es start list r
   unfolding is_path_of
   following-answer F e = record { is = λ k vs p. sym (rw (order-in k n m es vs p, lt-ltb start n F.start-below) (F.left k vs p ∙ e k vs p)) }
 
-  pub following-end : {at i : ℕ} → Following m n es start list at i → length list ≤ i → EdgePath m n es start list true
-  following-end {at} {i} F h =
-      let q : i ≡ length list = omega (arith, F.high) in
-      following-answer F (λ k vs p. path-none (graph_in k n m es vs p) at (ap (λ (x : ℕ). drop x list) q ∙ drop-length list))
+  -- fewer than two numbers are left
+  pub following-end : {at : ℕ} (rest : List ℕ) → Following m n es start list at rest → length rest < 2 → EdgePath m n es start list (eqb (length rest) 0)
+  following-end {at} [] F h = following-answer F (λ k vs p. path-none (graph_in k n m es vs p) at refl)
+  following-end {at} (a ∷ []) F h = following-answer F (λ k vs p. path-odd (graph_in k n m es vs p) at a refl)
+  following-end {at} (a ∷ b ∷ rest) F h = absurd (omega arith)
 
-  module _ {at i : ℕ} (F : Following m n es start list at i) where
-    pub following-odd : i < length list → length list - i < 2 → EdgePath m n es start list false
-    following-odd h o =
-        let q : suc i ≡ length list = omega arith in
-        following-answer F (λ k vs p. path-odd (graph_in k n m es vs p) at (get_or list i 0) (drop-cons list i 0 h
-        ∙ ap (λ (l : List ℕ). get_or list i 0 ∷ l) (ap (λ (x : ℕ). drop x list) q ∙ drop-length list)))
+  module _ {at a b : ℕ} {rest later : List ℕ} (F : Following m n es start list at rest) (pair : rest ≡ a ∷ b ∷ later) where
+    pub following-no : eqb a at && any_of (has_ends a b) (edges_in m es) ≡ false → EdgePath m n es start list false
+    following-no t = following-answer F (λ k vs p. path-no (graph_in k n m es vs p) at a b later pair t)
 
-    module _ {a b : ℕ} (two : 2 ≤ length list - i) (qa : a ≡ get_or list i 0) (qb : b ≡ get_or list (i + 1) 0) where
-      pair : drop i list ≡ a ∷ b ∷ drop (i + 2) list
-      pair =
-          let z : i + 2 ≡ suc (suc i) = omega arith in
-          drop-cons list i 0 (omega arith) ∙ (λ j. qa' j ∷ drop-cons list (suc i) 0 (omega arith) j)
-          ∙ (λ j. a ∷ qb' j ∷ drop (sym z j) list)
-        where
-          qa' : get_or list i 0 ≡ a
-          qa' = sym qa
-
-          qb' : get_or list (suc i) 0 ≡ b
-          qb' = sym (qb ∙ ap (λ (x : ℕ). get_or list x 0) (add-one i))
-
-      pub following-no : eqb a at && any_of (has_ends a b) (edges_in m es) ≡ false → EdgePath m n es start list false
-      following-no t = following-answer F (λ k vs p. path-no (graph_in k n m es vs p) at a b (drop (i + 2) list) pair t)
-
-      pub following-more : EndsBelow n m es → eqb a at && any_of (has_ends a b) (edges_in m es) ≡ true → Following m n es start list b (i + 2)
-      following-more E t = record {
-        high = omega arith;
-        start-below = F.start-below;
-        below = target;
-        left = λ k vs p. F.left k vs p ∙ path-yes (graph_in k n m es vs p) at a b (drop (i + 2) list) pair t;
-      }
-        where
-          target : b < n
-          target =
-              let s = and_split (eqb a at) (any_of (has_ends a b) (edges_in m es)) t in
-              let x = any_of-true (has_ends a b) (edges_in m es) s.1 in
-              omega (arith, (ends-mem E x.0 x.1).1, (joins-ends a b x.0 x.2).1)
+    pub following-more : EndsBelow n m es → eqb a at && any_of (has_ends a b) (edges_in m es) ≡ true → Following m n es start list b later
+    following-more E t = record {
+      start-below = F.start-below;
+      below = target;
+      left = λ k vs p. F.left k vs p ∙ path-yes (graph_in k n m es vs p) at a b later pair t;
+    }
+      where
+        target : b < n
+        target =
+            let s = and_split (eqb a at) (any_of (has_ends a b) (edges_in m es)) t in
+            let x = any_of-true (has_ends a b) (edges_in m es) s.1 in
+            omega (arith, (ends-mem E x.0 x.1).1, (joins-ends a b x.0 x.2).1)

@@ -1,7 +1,7 @@
 // Paths: whether a list of edges is one, and the bytes that it spells (`path_bases_bytes`).
 #![tactic(auto)]
 
-ghost use Rattle.std.specs.Prelude.{◌≡◌, ◌&&◌, ℕ, ◌+◌, ◌*◌, ◌<◌, ◌≤◌, length, get_or, eqb};
+ghost use Rattle.std.specs.Prelude.{◌≡◌, ◌<◌, length};
 ghost use Rattle.defs.specs.Lists.{any_of};
 ghost use Rattle.defs.specs.SeqGraph.{has_ends};
 ghost use Rattle.store.specs.Store.{edges_in};
@@ -13,7 +13,6 @@ ghost use Rattle.spell.specs.Spell.{Told};
 ghost use Rattle.paths.specs.Paths.{EdgePath, PathNodes, Spellable};
 
 use memory::Held;
-use spell::OptionBytes;
 
 // Whether there is an edge from u to v, along the list of u's edges.
 pub fn has_edge(
@@ -38,26 +37,6 @@ pub fn has_edge(
     false
 }
 
-// Whether the edge from a to b exists and begins at `at`.
-fn is_step(
-    es: &[u32],
-    m: usize,
-    n: usize,
-    heads: &[u32],
-    nexts: &[u32],
-    at: u32,
-    a: u32,
-    b: u32,
-) -> bool
-    requires { (at < n) × Indexed m n es.now heads.now nexts.now }
-    ensures { result ≡ eqb a at && any_of (has_ends a b) (edges_in m es.now) }
-{
-    if a != at {
-        return false;
-    }
-    has_edge(es, m, n, heads, nexts, a, b)
-}
-
 // Whether `list`, from and to of each edge in turn, is a path from `start`; refused at the first pair that fails.
 pub fn is_edge_path(
     es: &[u32],
@@ -75,20 +54,15 @@ pub fn is_edge_path(
         return false;
     }
     let mut at = start;
-    let mut i = 0;
-    while i < list.len() {
-        if list.len() - i < 2 {
+    let mut rest = list;
+    while let [a, b, later @ ..] = rest {
+        if *a != at || !has_edge(es, m, n, heads, nexts, *a, *b) {
             return false;
         }
-        let a = list[i];
-        let b = list[i + 1];
-        if !is_step(es, m, n, heads, nexts, at, a, b) {
-            return false;
-        }
-        at = b;
-        i += 2;
+        at = *b;
+        rest = later;
     }
-    true
+    rest.is_empty()
 }
 
 // Writes the vertices of a path to `nodes`: `start`, and the end of each edge of `list`; how many.
@@ -98,11 +72,11 @@ fn path_nodes(start: u32, list: &[u32], nodes: &mut [u32]) -> usize
 {
     nodes[0] = start;
     let mut c = 1;
-    let mut i = 0;
-    while i + 1 < list.len() {
-        nodes[c] = list[i + 1];
+    let mut rest = list;
+    while let [_, b, later @ ..] = rest {
+        nodes[c] = *b;
         c += 1;
-        i += 2;
+        rest = later;
     }
     c
 }
@@ -119,18 +93,15 @@ pub fn path_bases_bytes(
     list: &[u32],
     nodes: &mut [u32],
     out: &mut [u8],
-) -> OptionBytes
+) -> Option<usize>
     requires { Spellable held es.now vs.now p.now nodes.old × Indexed held.m held.n es.now heads.now nexts.now }
     ensures { Told (given (is_path_of (graph_of held es.now vs.now p.now) start list.now)
         (path_bases_bytes (graph_of held es.now vs.now p.now) start list.now)) out.old result
         out.new }
 {
-    let n = held.n;
-    let m = held.m;
-    if !is_edge_path(es, m, n, heads, nexts, start, list) {
-        return OptionBytes::None;
+    if !is_edge_path(es, held.m, held.n, heads, nexts, start, list) {
+        return None;
     }
     let c = path_nodes(start, list, nodes);
-    let len = spell::spell(vs, p, nodes, c, out);
-    OptionBytes::Some(len)
+    Some(spell::spell(vs, p, nodes, c, out))
 }

@@ -1,6 +1,6 @@
 -- The steps of a walk over the edges in slices. Assumes nothing.
 use mathlib.Core.Path.{◌≡◌, refl, sym, ap, ◌∙◌}
-use mathlib.Core.Logic.{◌⊎◌, ⊎_elim}
+use mathlib.Core.Logic.{⊎_elim}
 use mathlib.Core.Bool.{Bool, true, false, not}
 use mathlib.Core.List.{List}
 use Prim.Native.Nat.{ℕ, zero, suc, ◌-◌, ◌≤◌, ◌<◌}
@@ -112,26 +112,12 @@ pub hop-step : {plain : Bool} {kind m : ℕ} {es : List ℕ} {u w : ℕ} → Hop
 hop-step {plain} {kind} {m} {es} {u} {w} (x, i, t) = let j = of-mem-tab m (edge_in es) i in hop-at plain
     kind m es u w j.0 j.1 (ap (λ (y : Edge). walk_step plain kind y u w) (sym j.2) ∙ t)
 
--- ---- the tests, as they are made
-
-pub takes_along : (kind off : ℕ) → kind ≡ 0 → eqb off 0 ≡ takes_end kind off
-unfolding takes_end
-takes_along kind off q = rw q
-
-pub takes-against : (kind off : ℕ) → kind ≡ 1 → eqb off 1 ≡ takes_end kind off
-unfolding takes_end
-takes-against kind off q = rw q
-
-pub takes-either : (kind off : ℕ) → (kind ≡ 0 → ⊥) → (kind ≡ 1 → ⊥) → true ≡ takes_end kind off
-unfolding takes_end
-takes-either zero off a b = absurd (a refl)
-takes-either (suc zero) off a b = absurd (b refl)
-takes-either (suc (suc kind)) off a b = refl
+-- ---- the test, as it is made
 
 pub pass-plain : (plain : Bool) (es : List ℕ) (e : ℕ) {x : Bool} → plain ≡ true → x ≡ ref_at es e → not x ≡ passable plain es e
 unfolding passable
 pass-plain plain es e p q = rw (p, passable) (ap not q)
 
-pub pass-any : (plain : Bool) (es : List ℕ) (e : ℕ) → plain ≡ false → true ≡ passable plain es e
+pub pass-any : (plain : Bool) (es : List ℕ) (e : ℕ) → plain ≡ false → not plain ≡ passable plain es e
 unfolding passable
-pass-any plain es e p = rw p
+pass-any plain es e p = rw (p, passable)

@@ -7,6 +7,14 @@ use Rattle.laws.proofs.Reach.{Hop, Way}
 use Rattle.store.specs.Store.{is_set, graph_in}
 use Rattle.index.specs.Index.{edge_end}
 use Rattle.refs.specs.Refs.{ref_at}
+use Rattle.reach.specs.declared.Direction.{Direction}
+use Rattle.reach.specs.declared.Direction.TheVariants.{Along, Against, Either}
+
+-- the number of a direction
+abbrev pub kind_of : Direction → ℕ
+kind_of Along = 0
+kind_of Against = 1
+kind_of Either = 2
 
 -- the kinds of walks: 0 along the edges, 1 against them, any other number either way
 unfoldable pub step_of : ℕ → Edge → ℕ → ℕ → Bool

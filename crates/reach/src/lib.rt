@@ -4,19 +4,25 @@
 
 ghost use Rattle.std.specs.Prelude.{◌≡◌, ◌+◌, ◌*◌, ◌<◌, ◌≤◌, length};
 ghost use Rattle.index.specs.Index.{Indexed};
-ghost use Rattle.reach.specs.Reach.{takes_end, passable, Walkable, QueueFound, Pushed, VertexLeft, Reached};
+ghost use Rattle.reach.specs.Reach.{kind_of, takes_end, passable, Walkable, QueueFound, Pushed, VertexLeft, Reached};
 
-// Whether a walk of this kind takes the edges at the end `off` of a vertex. Kind 0 goes along the edges, 1 against them, any other either way.
-fn takes_end(kind: u32, off: usize) -> bool
-    ensures { result ≡ takes_end kind off }
+// Which way a walk goes along the edges.
+#[derive(Clone, Copy)]
+pub enum Direction {
+    Along,
+    Against,
+    Either,
+}
+
+// Whether a walk in this direction takes the edges at the end `off` of a vertex: 0 those that leave it, 1 those that enter it.
+fn takes_end(direction: Direction, off: usize) -> bool
+    ensures { result ≡ takes_end (kind_of direction) off }
 {
-    if kind == 0 {
-        return off == 0;
+    match direction {
+        Direction::Along => off == 0,
+        Direction::Against => off == 1,
+        Direction::Either => true,
     }
-    if kind == 1 {
-        return off == 1;
-    }
-    true
 }
 
 // A plain walk takes no reference edge.
@@ -24,10 +30,7 @@ fn may_pass(es: &[u32], e: usize, plain: bool) -> bool
     requires { 4 * e + 4 ≤ length es.now }
     ensures { result ≡ passable plain es.now e }
 {
-    if plain {
-        return !store::edge_is_ref(es, e);
-    }
-    true
+    !(plain && store::edge_is_ref(es, e))
 }
 
 // Marks and queues what the edges at the end `off` of u lead to; u stands at h of the queue. The queue's new length.
@@ -38,7 +41,7 @@ fn push_steps(
     heads: &[u32],
     nexts: &[u32],
     plain: bool,
-    kind: u32,
+    direction: Direction,
     off: usize,
     s: usize,
     h: usize,
@@ -47,11 +50,11 @@ fn push_steps(
     queued: usize,
 ) -> usize
     requires { (h < queued) × ((off ≤ 1) × (Indexed m n es.now heads.now nexts.now
-        × (Walkable n marks.old queue.old × QueueFound plain kind m n es.now s marks.old queue.old queued))) }
-    ensures { Pushed plain kind off m n es.now s h marks.old queue.old queued marks.new
+        × (Walkable n marks.old queue.old × QueueFound plain (kind_of direction) m n es.now s marks.old queue.old queued))) }
+    ensures { Pushed plain (kind_of direction) off m n es.now s h marks.old queue.old queued marks.new
         queue.new result }
 {
-    if !takes_end(kind, off) {
+    if !takes_end(direction, off) {
         return queued;
     }
     let u = queue[h] as usize;
@@ -80,7 +83,7 @@ fn leave_vertex(
     heads: &[u32],
     nexts: &[u32],
     plain: bool,
-    kind: u32,
+    direction: Direction,
     s: usize,
     h: usize,
     marks: &mut [u8],
@@ -88,15 +91,15 @@ fn leave_vertex(
     queued: usize,
 ) -> usize
     requires { (h < queued) × (Indexed m n es.now heads.now nexts.now
-        × (Walkable n marks.old queue.old × QueueFound plain kind m n es.now s marks.old queue.old queued)) }
-    ensures { VertexLeft plain kind m n es.now s h marks.old queue.old queued marks.new
+        × (Walkable n marks.old queue.old × QueueFound plain (kind_of direction) m n es.now s marks.old queue.old queued)) }
+    ensures { VertexLeft plain (kind_of direction) m n es.now s h marks.old queue.old queued marks.new
         queue.new result }
 {
     let t = push_steps(
-        es, m, n, heads, nexts, plain, kind, 0, s, h, marks, queue, queued,
+        es, m, n, heads, nexts, plain, direction, 0, s, h, marks, queue, queued,
     );
     push_steps(
-        es, m, n, heads, nexts, plain, kind, 1, s, h, marks, queue, t,
+        es, m, n, heads, nexts, plain, direction, 1, s, h, marks, queue, t,
     )
 }
 
@@ -108,22 +111,23 @@ pub fn mark_reached(
     heads: &[u32],
     nexts: &[u32],
     plain: bool,
-    kind: u32,
+    direction: Direction,
     s: usize,
     marks: &mut [u8],
     queue: &mut [u32],
 )
     requires { (s < n) × (Indexed m n es.now heads.now nexts.now × Walkable n marks.old queue.old) }
-    ensures { Reached plain kind m n es.now s marks.new }
+    ensures { Reached plain (kind_of direction) m n es.now s marks.new }
 {
     compact::clear_marks(marks, 0, n);
     marks[s] = 1;
     queue[0] = s as u32;
+    // the queue grows while it is passed through, so that no range has its end
     let mut tail = 1;
     let mut h = 0;
     while h < tail {
         tail = leave_vertex(
-            es, m, n, heads, nexts, plain, kind, s, h, marks, queue, tail,
+            es, m, n, heads, nexts, plain, direction, s, h, marks, queue, tail,
         );
         h += 1;
     }

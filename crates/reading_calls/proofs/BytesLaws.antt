@@ -19,8 +19,8 @@ use Rattle.laws.proofs.Whole.{no-some}
 use Rattle.memory.specs.Memory.{graph_of}
 use Rattle.memory.specs.declared.Held.{Held}
 use Rattle.spell.specs.Spell.{Told}
-use Rattle.spell.specs.declared.OptionBytes.{OptionBytes}
-use Rattle.spell.specs.declared.OptionBytes.TheVariants.{Some, None}
+use Rattle.std.specs.Prelude.{Some, None}
+use Rattle.std.specs.Prelude as std
 use Rattle.spell.proofs.SpellLaws.{none_told, some-told}
 use Rattle.calls.specs.Sending.{fits, Responds}
 use Rattle.calls.specs.declared.Answer.{Answer}
@@ -32,14 +32,14 @@ use Rattle.reading_calls.proofs.LengthLaws.{path-most, reference-most}
 
 -- ---- what is sent, by what is told
 
-by_bytes : {A : Type 0} (b : OptionBytes) → ((n : ℕ) → b ≡ Some n → A) → (b ≡ None → A) → A
+by_bytes : {A : Type 0} (b : std.Option ℕ) → ((n : ℕ) → b ≡ Some n → A) → (b ≡ None → A) → A
 by_bytes (Some n) f g = f n refl
 by_bytes None f g = g refl
 
-some_or_none : {A : Type 0} {b : OptionBytes} {n : ℕ} → b ≡ None → b ≡ Some n → A
+some_or_none : {A : Type 0} {b : std.Option ℕ} {n : ℕ} → b ≡ None → b ≡ Some n → A
 some_or_none p q = absurd (let z : ◌≡◌ {A = ℕ} 0 1 = cc in omega arith)
 
-module _ {b : OptionBytes} {room missing : ℕ} {s : Answer} where
+module _ {b : std.Option ℕ} {room missing : ℕ} {s : Answer} where
   pub tell_none : b ≡ None → s ≡ record { number = missing; length = 0 } → Tells b room missing s
   tell_none f q = record { none = λ _. q; short = λ n e. some_or_none f e; whole = λ n e. some_or_none f e }
 
@@ -58,7 +58,7 @@ module _ {b : OptionBytes} {room missing : ℕ} {s : Answer} where
   }
 
 -- a call that tells o, or the number n where there is none
-module _ {o : Option (List ℕ)} {out out' : List ℕ} {b : OptionBytes} (T : Told o out b out') {x : Response} {n : ℕ} (none_is : o ≡ none → x
+module _ {o : Option (List ℕ)} {out out' : List ℕ} {b : std.Option ℕ} (T : Told o out b out') {x : Response} {n : ℕ} (none_is : o ≡ none → x
     ≡ refused n) (some_is : (r : List ℕ) → o ≡ some r → x ≡ fits (length out) r)
     {s : Answer} (e : length out' ≡ length out) (A : Tells b (length out') n s) where
   whole : (k : ℕ) → b ≡ Some k → Responds x out s out'
@@ -126,14 +126,14 @@ module _ {h : Held} {es vs p : List ℕ} where
   -- what is told can be counted in 32 bits
   module _ {heads nexts nodes : List ℕ} (Q : Tellable h es vs p heads nexts nodes) where
     most : {o : Option (List ℕ)} → ((s : List ℕ) → o ≡ some s → length s ≤ sequence_bytes (graph_of h es vs p).verts)
-        → {out out' : List ℕ} {b : OptionBytes} → Told o out b out' → (n : ℕ) → b ≡ Some n → n < 4294967296
+        → {out out' : List ℕ} {b : std.Option ℕ} → Told o out b out' → (n : ℕ) → b ≡ Some n → n < 4294967296
     most f T n e = let y = some-told T e in omega (arith, y.2.size, f y.0 y.1, Q.few)
 
-    pub reference-counted : {out out' : List ℕ} {b : OptionBytes} → Told (reference_path_bytes (graph_of h es vs p)) out b out' → (n : ℕ)
+    pub reference-counted : {out out' : List ℕ} {b : std.Option ℕ} → Told (reference_path_bytes (graph_of h es vs p)) out b out' → (n : ℕ)
         → b ≡ Some n → n < 4294967296
     reference-counted T = most (reference-most (graph_of h es vs p) Q.spellable.sound) T
 
-    pub path-counted : (start : ℕ) (list : List ℕ) {out out' : List ℕ} {b : OptionBytes}
+    pub path-counted : (start : ℕ) (list : List ℕ) {out out' : List ℕ} {b : std.Option ℕ}
         → Told (given (is_path_of (graph_of h es vs p) start list) (path_bases_bytes (graph_of h es vs p) start list)) out b out'
         → (n : ℕ) → b ≡ Some n → n < 4294967296
     path-counted start list T =
@@ -141,14 +141,14 @@ module _ {h : Held} {es vs p : List ℕ} where
         most (λ s e. let y = given-some (is_path_of g start list) (path_bases_bytes g start list) s e in
         omega (arith, ap length y.1, path-most g Q.spellable.sound start list y.0)) T
 
-  pub reference-answered : {out out' : List ℕ} {b : OptionBytes} {s : Answer} → Told (reference_path_bytes (graph_of h es vs p)) out b out'
+  pub reference-answered : {out out' : List ℕ} {b : std.Option ℕ} {s : Answer} → Told (reference_path_bytes (graph_of h es vs p)) out b out'
       → length out' ≡ length out → Tells b (length out') 10 s → GraphAnswered reference_response h es vs p out s out'
   reference-answered {out} {out'} {b} T l S = record {
     is = λ bs _ z e. tells (subst (λ (g : Graph). Told (reference_path_bytes g) out b out') e T) (reference-none bs (length out) z)
         (reference-some bs (length out) z) l S;
   }
 
-  pub path-answered : (start : ℕ) (list : List ℕ) {out out' : List ℕ} {b : OptionBytes} {s : Answer}
+  pub path-answered : (start : ℕ) (list : List ℕ) {out out' : List ℕ} {b : std.Option ℕ} {s : Answer}
       → Told (given (is_path_of (graph_of h es vs p) start list) (path_bases_bytes (graph_of h es vs p) start list)) out b out'
       → length out' ≡ length out → Tells b (length out') 9 s → GraphAnswered (path_response start list) h es vs p out s out'
   path-answered start list {out} {out'} {b} T l S = record {

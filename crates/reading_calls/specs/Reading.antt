@@ -1,5 +1,5 @@
 -- The calls that read a graph: their responses, and what is sent for a graph that is held. Assumes nothing.
-use Rattle.std.specs.Prelude.{◌≡◌, List, [], ◌∷◌, ◌++◌, ℕ, ◌≤◌, ◌<◌, length}
+use Rattle.std.specs.Prelude.{◌≡◌, List, [], ◌∷◌, ◌++◌, ℕ, ◌≤◌, ◌<◌, length, Option, Some, None}
 use Rattle.defs.specs.Simplify.{sequence_bytes}
 use Rattle.defs.specs.Forms.{form_of, limits}
 use Rattle.defs.specs.Record.{decode}
@@ -10,8 +10,6 @@ use Rattle.compact.specs.Compact.{Compactable}
 use Rattle.index.specs.Index.{Indexable}
 use Rattle.memory.specs.Memory.{graph_of}
 use Rattle.memory.specs.declared.Held.{Held}
-use Rattle.spell.specs.declared.OptionBytes.{OptionBytes}
-use Rattle.spell.specs.declared.OptionBytes.TheVariants.{Some, None}
 use Rattle.paths.specs.Paths.{Spellable}
 use Rattle.reach.specs.Reach.{Walkable}
 use Rattle.calls.specs.Sending.{with_output, Responds}
@@ -42,7 +40,7 @@ reading_response_to ReferencePathBytes list bs room caller = reference_path_byte
 reading_response_to (PathBasesBytes start) list bs room caller = path_bases_bytes_response bs start list room caller
 
 -- the number for none; 11 for bytes that the room is too short for; else their length
-pub record Tells (told : OptionBytes) (room missing : ℕ) (s : Answer) : Type 0 where
+pub record Tells (told : Option ℕ) (room missing : ℕ) (s : Answer) : Type 0 where
   pub none : told ≡ None → s ≡ record { number = missing; length = 0 }
   pub short : (n : ℕ) → told ≡ Some n → room < n → s ≡ record { number = 11; length = 0 }
   pub whole : (n : ℕ) → told ≡ Some n → n ≤ room → s ≡ record { number = 0; length = n }

@@ -18,7 +18,6 @@ use arrays::{
 use calls::Answer;
 use form::Form;
 use memory::Held;
-use spell::OptionBytes;
 use tallies::LAST_CALLER;
 
 // A path has its start vertex here, and its edges in a list beside it.
@@ -30,11 +29,11 @@ pub enum ReadingCall {
 }
 
 // Of bytes that are told, or none, what is sent; `missing` is the number for none.
-fn tell(told: OptionBytes, room: usize, missing: u32) -> Answer
-    requires { (n : ℕ) → told ≡ OptionBytes.Some n → n < 4294967296 }
+fn tell(told: Option<usize>, room: usize, missing: u32) -> Answer
+    requires { (n : ℕ) → told ≡ Some n → n < 4294967296 }
     ensures { Tells told room missing result }
 {
-    let OptionBytes::Some(len) = told else {
+    let Some(len) = told else {
         return Answer {
             number: missing,
             length: 0,

@@ -17,26 +17,25 @@ use Rattle.refs.specs.declared.OptionVertex.{OptionVertex}
 use Rattle.refs.specs.declared.OptionVertex.TheVariants as O
 use Rattle.refs.proofs.RefLaws.{source-found, source-missing, source-below, sink-found, sink-missing}
 use Rattle.spell.specs.Spell.{spelled_in, Answered, Told}
-use Rattle.spell.specs.declared.OptionBytes.TheVariants as B
+use Rattle.std.specs.Prelude.{Some, None}
+use Rattle.std.specs.Prelude as std
 use Rattle.spell.proofs.SpellLaws.{told_none, told-some, answered-as}
 use Rattle.paths.specs.Paths.{Spellable}
 use Rattle.paths.proofs.RouteLaws.{Route, route-spelled}
 use Rattle.reference.specs.Reference.{path_of, PathWalked}
-use Rattle.reference.specs.declared.OptionPath.{OptionPath}
-use Rattle.reference.specs.declared.OptionPath.TheVariants.{Some, None}
 use Rattle.reference.proofs.WalkLaws.{reference-begun}
 
 module _ {h : Held} {es vs p nodes : List ℕ} (S : Spellable h es vs p nodes) {a : OptionVertex} (A : FirstSource h.m h.n es a) where
   abbrev g : Graph
   g = graph_of h es vs p
 
-  pub no_source : (out : List ℕ) → a ≡ O.None → Told (reference_path_bytes g) out B.None out
+  pub no_source : (out : List ℕ) → a ≡ O.None → Told (reference_path_bytes g) out None out
   unfolding reference_path_bytes reference_between spelled_by
   no_source out q = told_none out (ap (λ (o : Option ℕ). spelled_by g (reference_between g o (reference_sink_vertex g)))
       (source-missing A q h.k.0 vs p))
 
   module _ {s : ℕ} (q : a ≡ O.Some s) {b : OptionVertex} (T : FirstSink h.m h.n es b) where
-    pub no-sink : (out : List ℕ) → b ≡ O.None → Told (reference_path_bytes g) out B.None out
+    pub no-sink : (out : List ℕ) → b ≡ O.None → Told (reference_path_bytes g) out None out
     unfolding reference_path_bytes reference_between spelled_by
     no-sink out z = told_none out
         (λ i. spelled_by g (reference_between g (source-found A q h.k.0 vs p i) (sink-missing T z h.k.0 vs p i)))
@@ -47,17 +46,17 @@ module _ {h : Held} {es vs p nodes : List ℕ} (S : Spellable h es vs p nodes) {
       bytes-are = (λ i. spelled_by g (reference_between g (source-found A q h.k.0 vs p i) (sink-found T z h.k.0 vs p i)))
           ∙ ap (λ (x : ℕ). spelled_by g (reference_path x g t s)) (order-in h.k.0 h.n h.m es vs p)
 
-      module _ {r : OptionPath} {nodes' : List ℕ} (W : PathWalked h.m h.n es s t r nodes') where
+      module _ {r : std.Option ℕ} {nodes' : List ℕ} (W : PathWalked h.m h.n es s t r nodes') where
         path-is : {o : Option (List ℕ)} → path_of r nodes' ≡ o → reference_path h.n g t s ≡ o
         path-is e = sym (W.is h.k.0 vs p S.sound) ∙ e
 
-        pub no_walk : (out : List ℕ) → r ≡ None → Told (reference_path_bytes g) out B.None out
+        pub no_walk : (out : List ℕ) → r ≡ None → Told (reference_path_bytes g) out None out
         unfolding spelled_by
-        no_walk out e = told_none out (bytes-are ∙ ap (spelled_by g) (path-is (ap (λ (x : OptionPath). path_of x nodes') e)))
+        no_walk out e = told_none out (bytes-are ∙ ap (spelled_by g) (path-is (ap (λ (x : std.Option ℕ). path_of x nodes') e)))
 
         module _ {c : ℕ} (e : r ≡ Some c) (len : length nodes' ≡ length nodes) where
           walked-is : reference_path h.n g t s ≡ some (nums_in c nodes')
-          walked-is = path-is (ap (λ (x : OptionPath). path_of x nodes') e)
+          walked-is = path-is (ap (λ (x : std.Option ℕ). path_of x nodes') e)
 
           pub walked-route : Route g nodes' c
           walked-route =
@@ -66,6 +65,6 @@ module _ {h : Held} {es vs p nodes : List ℕ} (S : Spellable h es vs p nodes) {
               record { first = s; others = r.0; path = r.2; is = r.1; room = omega (arith, W.most c e, S.nodes-room) }
 
           pub walked-told : {l : ℕ} {out out' : List ℕ} → Answered (spelled_in vs p nodes' c) out l out'
-              → Told (reference_path_bytes g) out (B.Some l) out'
+              → Told (reference_path_bytes g) out (Some l) out'
           unfolding spelled_by
           walked-told X = told-some (bytes-are ∙ ap (spelled_by g) walked-is) (answered-as (route-spelled S walked-route) X)

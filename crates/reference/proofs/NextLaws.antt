@@ -1,17 +1,17 @@
 -- The next vertex on the reference path, by the index. Assumes nothing.
-use mathlib.Core.Path.{◌≡◌, refl, sym, ap, ◌∙◌}
-use mathlib.Core.Bool.{Bool, true, false}
+use mathlib.Core.Path.{◌≡◌, sym, ap, ◌∙◌}
+use mathlib.Core.Bool.{true, false}
 use mathlib.Core.Option.{Option, some}
-use mathlib.Core.List.{List, [], ◌∷◌, ◌++◌, map}
-use Prim.Native.Nat.{ℕ, ◌+◌, ◌*◌, ◌-◌, ◌≤◌, ◌<◌}
+use mathlib.Core.List.{List, ◌∷◌, ◌++◌, map}
+use Prim.Native.Nat.{ℕ, ◌+◌, ◌*◌, ◌≤◌, ◌<◌}
 use native.Mathlib.Omega.{arith}
-use lib.ListN.{length, get_or}
+use lib.ListN.{get_or}
 use Rattle.defs.specs.Lists.{keep_if}
-use Rattle.defs.specs.SeqGraph.{Edge, edges_from}
+use Rattle.defs.specs.SeqGraph.{Edge}
 use Rattle.defs.specs.Paths.{first_to, next_on_reference}
 use Rattle.laws.proofs.ListLaws.{keep_if-yes, keep_if-no}
 use Rattle.store.specs.Store.{edge_in, graph_in}
-use Rattle.index.specs.Index.{edge_end, at_from, incident_edges, Index, Indexed}
+use Rattle.index.specs.Index.{edge_end, at_from, incident_edges, Indexed}
 use Rattle.index.proofs.AdjLaws.{at_head, at-step, at-end}
 use Rattle.index.proofs.IndexLaws.{from_is, at_none, at_first}
 use Rattle.refs.specs.Refs.{ref_at}

@@ -27,7 +27,7 @@ use Rattle.refs.specs.Refs.{vertex_of}
 use Rattle.refs.specs.declared.OptionVertex.{OptionVertex}
 use Rattle.refs.specs.declared.OptionVertex.TheVariants as O
 use Rattle.reference.specs.Reference.{NextOn, PathWalked}
-use Rattle.reference.specs.declared.OptionPath.TheVariants.{Some, None}
+use Rattle.std.specs.Prelude.{Some, None}
 
 -- ---- the definition, step by step
 

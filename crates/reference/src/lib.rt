@@ -2,7 +2,7 @@
 // sink; and the bytes that it spells (`reference_path_bytes`).
 #![tactic(auto)]
 
-ghost use Rattle.std.specs.Prelude.{◌≡◌, ℕ, ◌+◌, ◌*◌, ◌<◌, ◌≤◌, length, get_or};
+ghost use Rattle.std.specs.Prelude.{◌<◌};
 ghost use Rattle.defs.specs.Paths.{reference_path_bytes};
 ghost use Rattle.index.specs.Index.{Indexed};
 ghost use Rattle.memory.specs.Memory.{graph_of};
@@ -12,14 +12,6 @@ ghost use Rattle.reference.specs.Reference.{NextOn, PathWalkable, PathWalked};
 
 use memory::Held;
 use refs::OptionVertex;
-use spell::OptionBytes;
-
-// The path's vertices, by their number, or no path.
-#[derive(Clone, Copy)]
-pub enum OptionPath {
-    Some(usize),
-    None,
-}
 
 // The vertex behind v on the reference path.
 fn next_on_reference(
@@ -57,24 +49,22 @@ fn reference_path(
     source: u32,
     sink: u32,
     nodes: &mut [u32],
-) -> OptionPath
+) -> Option<usize>
     requires { PathWalkable n source nodes.old × Indexed m n es.now heads.now nexts.now }
     ensures { PathWalked m n es.now source sink result nodes.new }
 {
     let mut v = source;
-    let mut c = 0;
-    while c < n {
+    for c in 0..n {
         nodes[c] = v;
-        c += 1;
         if v == sink {
-            return OptionPath::Some(c);
+            return Some(c + 1);
         }
         let OptionVertex::Some(w) = next_on_reference(es, m, n, heads, nexts, v) else {
-            return OptionPath::None;
+            return None;
         };
         v = w as u32;
     }
-    OptionPath::None
+    None
 }
 
 // The bytes of the reference path, which are written to the front of `out` where they fit; none where there is no such path.
@@ -87,22 +77,18 @@ pub fn reference_path_bytes(
     nexts: &[u32],
     nodes: &mut [u32],
     out: &mut [u8],
-) -> OptionBytes
+) -> Option<usize>
     requires { Spellable held es.now vs.now p.now nodes.old × Indexed held.m held.n es.now heads.now nexts.now }
     ensures { Told (reference_path_bytes (graph_of held es.now vs.now p.now)) out.old result out.new }
 {
     let n = held.n;
     let m = held.m;
     let OptionVertex::Some(source) = refs::reference_source_vertex(es, m, n, heads, nexts) else {
-        return OptionBytes::None;
+        return None;
     };
     let OptionVertex::Some(sink) = refs::reference_sink_vertex(es, m, n, heads, nexts) else {
-        return OptionBytes::None;
+        return None;
     };
-    let path = reference_path(es, m, n, heads, nexts, source as u32, sink as u32, nodes);
-    let OptionPath::Some(count) = path else {
-        return OptionBytes::None;
-    };
-    let len = spell::spell(vs, p, nodes, count, out);
-    OptionBytes::Some(len)
+    let count = reference_path(es, m, n, heads, nexts, source as u32, sink as u32, nodes)?;
+    Some(spell::spell(vs, p, nodes, count, out))
 }

@@ -2,48 +2,22 @@
 use mathlib.Core.Path.{◌≡◌, refl, sym, ap, ◌∙◌}
 use mathlib.Core.Option.{Option, none, some}
 use mathlib.Core.List.{List, [], ◌∷◌, ◌++◌, map, map-append}
-use Prim.Native.Nat.{ℕ, zero, suc, ◌+◌, ◌*◌, ◌-◌, ◌≤◌, ◌<◌}
+use Prim.Native.Nat.{ℕ, zero, suc, ◌+◌, ◌*◌, ◌≤◌, ◌<◌}
 use native.Mathlib.Numerals.{add-one}
 use native.Mathlib.Omega.{arith}
-use lib.ListN.{length, get_or, set, take, drop, length-append, length-drop, length-set}
+use lib.ListN.{length, get_or, take, drop, length-append}
 use borrow.Author.Tests.{le-leb, lt-leb}
-use lib.Seq.{paste, paste-zero, paste-suc, length-paste, take_at, drop-append-add, drop-drop, get_or-drop}
-use Rattle.defs.specs.Lists.{tab, concat, sum}
+use lib.Seq.{get_or-take, length-take-le, paste, take_at, drop-append-add, drop-drop}
+use Rattle.defs.specs.Lists.{concat}
 use Rattle.laws.proofs.ListLaws.{by_order}
 use Rattle.tabs.proofs.Tabs.{tab-snoc, tab-zero}
 use Rattle.tabs.proofs.SumTabs.{sum-none, sum_more, sum_below, concat-snoc}
-use Rattle.store.specs.Store.{part, seq_in, nums_in}
+use Rattle.store.specs.Store.{seq_in, nums_in}
 use Rattle.store.proofs.VertexLaws.{part-long}
-use Rattle.spell.specs.Spell.{BytesFit, Puttable, SequencePut, spelled_in, Listed, BytesWritten, Answered, count_of, count_in, with_front, Told}
+use Rattle.spell.specs.Spell.{Puttable, SequencePut, spelled_in, Listed, BytesWritten, Answered, count_of, count_in, with_front, Told}
 use Rattle.store.specs.Store.{nodes_length}
-use Rattle.spell.specs.declared.OptionBytes.{OptionBytes}
-use Rattle.spell.specs.declared.OptionBytes.TheVariants.{Some, None}
-
--- ---- copying
-
-pub record Pasting (p : List ℕ) (from n : ℕ) (out₀ : List ℕ) (to : ℕ) (out : List ℕ) (i : ℕ) : Type 0 where
-  pub high : i ≤ n
-  pub is : out ≡ paste out₀ to (drop from p) i
-
-module _ {p : List ℕ} {from n : ℕ} {out₀ : List ℕ} {to : ℕ} where
-  pub pasting-start : Pasting p from n out₀ to out₀ 0
-  pasting-start = record { high = omega arith; is = paste-zero out₀ to (drop from p) }
-
-  module _ (F : BytesFit p from n out₀ to) {out : List ℕ} {i : ℕ} (P : Pasting p from n out₀ to out i) where
-    pub pasting-long : length out ≡ length out₀
-    pasting-long = ap length P.is ∙ length-paste out₀ to (drop from p) i (omega (arith, F.to_room, P.high))
-        (omega (arith, F.from-room, P.high, length-drop from p))
-
-    pub pasting-more : i < n → Pasting p from n out₀ to (set out (to + i) (get_or p (from + i) 0)) (i + 1)
-    pasting-more h = record {
-      high = omega arith;
-      is = (λ j. set (P.is j) (to + i) (sym (get_or-drop from p i 0) j))
-          ∙ paste-suc out₀ to (drop from p) i 0 (omega (arith, F.to_room)) (omega (arith, F.from-room, length-drop from p))
-          ∙ ap (paste out₀ to (drop from p)) (sym (add-one i));
-    }
-
-    pub pasting-end : n ≤ i → out ≡ paste out₀ to (drop from p) n
-    pasting-end h = let q : i ≡ n = omega (arith, P.high) in P.is ∙ ap (paste out₀ to (drop from p)) q
+use Rattle.std.specs.Prelude.{Some, None}
+use Rattle.std.specs.Prelude as std
 
 -- ---- one sequence
 
@@ -51,30 +25,42 @@ pub put_is : {vs p : List ℕ} {v : ℕ} {out out' : List ℕ} {at start len : �
     ≡ paste out at (drop start p) len → SequencePut vs p v out at (at + len) out'
 put_is {vs} {p} {v} {out} {out'} {at} s l e = record { end = omega arith; is = e ∙ (λ j. paste out at (drop (s j) p) (l j)) }
 
+-- ---- the first c nodes, one by one
+
+front_below : (nodes : List ℕ) {c i : ℕ} → c ≤ length nodes → i < length (take c nodes) → i < c
+front_below nodes {c} r h = omega (arith, length-take-le c nodes r)
+
+front-node : (nodes : List ℕ) {c i : ℕ} → c ≤ length nodes → i < length (take c nodes) → get_or (take c nodes) i 0 ≡ get_or nodes i 0
+front-node nodes {c} {i} r h = get_or-take c nodes i 0 (front_below nodes r h)
+
 -- ---- the lengths
 
 pub record AddingNodes (vs nodes : List ℕ) (c len i : ℕ) : Type 0 where
-  pub high : i ≤ c
   pub is : len ≡ nodes_length vs nodes i
 
 pub adding-start : (vs nodes : List ℕ) (c : ℕ) → AddingNodes vs nodes c 0 0
-adding-start vs nodes c = record { high = omega arith; is = sym (sum-none (λ (i : ℕ). get_or vs (2 * get_or nodes i 0 + 1) 0)) }
+adding-start vs nodes c = record { is = sym (sum-none (λ (i : ℕ). get_or vs (2 * get_or nodes i 0 + 1) 0)) }
 
-module _ {vs p nodes : List ℕ} {c : ℕ} (L : Listed vs p nodes c) {len i l : ℕ} (A : AddingNodes vs nodes c len i) (h : i < c) (q : l
-    ≡ get_or vs (2 * get_or nodes i 0 + 1) 0) where
+module _ {vs p nodes : List ℕ} {c : ℕ} (L : Listed vs p nodes c) {len i l : ℕ} (A : AddingNodes vs nodes c len i) (h : i < length (take c nodes))
+    (q : l ≡ get_or vs (2 * get_or (take c nodes) i 0 + 1) 0) where
+  node-len : l ≡ get_or vs (2 * get_or nodes i 0 + 1) 0
+  node-len = q ∙ ap (λ (v : ℕ). get_or vs (2 * v + 1) 0) (front-node nodes L.nodes-room h)
+
   pub adding-small : len + l ≤ length p
-  adding-small = omega (arith, A.is, L.total, sum_below c i (λ (i : ℕ). get_or vs (2 * get_or nodes i 0 + 1) 0) h)
+  adding-small =
+      omega (arith, A.is, L.total, node-len, sum_below c i (λ (i : ℕ). get_or vs (2 * get_or nodes i 0 + 1) 0) (front_below nodes L.nodes-room h))
 
   pub adding-more : AddingNodes vs nodes c (len + l) (i + 1)
-  adding-more = record { high = omega arith; is = omega (arith, A.is, sum_more i (λ (i : ℕ). get_or vs (2 * get_or nodes i 0 + 1) 0)) }
+  adding-more = record { is = omega (arith, A.is, node-len, sum_more i (λ (i : ℕ). get_or vs (2 * get_or nodes i 0 + 1) 0)) }
 
-pub adding-end : {vs nodes : List ℕ} {c len i : ℕ} → AddingNodes vs nodes c len i → c ≤ i → len ≡ nodes_length vs nodes c
-adding-end {vs} {nodes} {c} {len} {i} A h = let q : i ≡ c = omega (arith, A.high) in A.is ∙ ap (nodes_length vs nodes) q
+pub adding-end : {vs p nodes : List ℕ} {c len i : ℕ} → Listed vs p nodes c → AddingNodes vs nodes c len i → i ≤ length (take c nodes) → length
+    (take c nodes) ≤ i → len ≡ nodes_length vs nodes c
+adding-end {vs} {p} {nodes} {c} {len} {i} L A b h =
+    let q : i ≡ c = omega (arith, length-take-le c nodes L.nodes-room) in A.is ∙ ap (nodes_length vs nodes) q
 
 -- ---- writing
 
 pub record Spelling (vs p nodes : List ℕ) (c : ℕ) (out₀ out : List ℕ) (at i : ℕ) : Type 0 where
-  pub high : i ≤ c
   pub end : at ≡ nodes_length vs nodes i
   pub size : length (spelled_in vs p nodes i) ≡ at
   pub len : length out ≡ length out₀
@@ -92,7 +78,6 @@ spelled_none vs p nodes = ap (λ (l : List ℕ). concat (map (seq_in vs p) l)) (
 
 pub spelling-start : (vs p nodes : List ℕ) (c : ℕ) (out₀ : List ℕ) → Spelling vs p nodes c out₀ out₀ 0 0
 spelling-start vs p nodes c out₀ = record {
-  high = omega arith;
   end = sym (sum-none (λ (i : ℕ). get_or vs (2 * get_or nodes i 0 + 1) 0));
   size = ap length (spelled_none vs p nodes);
   len = refl;
@@ -108,17 +93,16 @@ paste-behind d out₀ s at n q = λ j. (take_at d (drop at out₀) at q j ++ tak
 
 module _ {vs p nodes : List ℕ} {c : ℕ} {out₀ : List ℕ} (L : Listed vs p nodes c) (room : nodes_length vs nodes c ≤ length out₀) {out :
     List ℕ} {at i : ℕ} (S : Spelling vs p nodes c out₀ out at i) where
-  pub spelling-puttable : i < c → Puttable vs p (get_or nodes i 0) out at
-  spelling-puttable h = record {
-    vs-room = L.vs-room i h;
-    within = L.within i h;
-    room = omega (arith, S.end, S.len, sum_below c i (λ (i : ℕ). get_or vs (2 * get_or nodes i 0 + 1) 0) h);
-  }
+  pub spelling-puttable : i < length (take c nodes) → Puttable vs p (get_or (take c nodes) i 0) out at
+  spelling-puttable h = let b : i < c = front_below nodes L.nodes-room h in rw (front-node nodes L.nodes-room h) (record {
+    vs-room = L.vs-room i b;
+    within = L.within i b;
+    room = omega (arith, S.end, S.len, sum_below c i (λ (i : ℕ). get_or vs (2 * get_or nodes i 0 + 1) 0) b);
+  })
 
-  pub spelling-more : {out' : List ℕ} {at' : ℕ} → i < c → SequencePut vs p (get_or nodes i 0) out at at' out' → length out' ≡ length out
+  node-put : {out' : List ℕ} {at' : ℕ} → i < c → SequencePut vs p (get_or nodes i 0) out at at' out' → length out' ≡ length out
       → Spelling vs p nodes c out₀ out' at' (i + 1)
-  spelling-more {out'} {at'} h P q = record {
-    high = omega arith;
+  node-put {out'} {at'} h P q = record {
     end = omega (arith, P.end, S.end, sum_more i (λ (i : ℕ). get_or vs (2 * get_or nodes i 0 + 1) 0));
     size = ap length (spelled-more vs p nodes i) ∙ length-append (spelled_in vs p nodes i) (seq_in vs p (get_or nodes i 0))
         ∙ omega (arith, S.size, P.end, part-long p (get_or vs (2 * get_or nodes i 0) 0) (get_or vs (2 * get_or nodes i 0 + 1) 0) (L.within i h));
@@ -128,9 +112,13 @@ module _ {vs p nodes : List ℕ} {c : ℕ} {out₀ : List ℕ} (L : Listed vs p 
         ∙ (λ j. sym (spelled-more vs p nodes i) j ++ drop (sym P.end j) out₀);
   }
 
-  pub spelling-end : c ≤ i → BytesWritten (spelled_in vs p nodes c) out₀ at out
-  spelling-end h =
-      let q : i ≡ c = omega (arith, S.high) in
+  pub spelling-more : {out' : List ℕ} {at' : ℕ} → i < length (take c nodes) → SequencePut vs p (get_or (take c nodes) i 0) out at at' out'
+      → length out' ≡ length out → Spelling vs p nodes c out₀ out' at' (i + 1)
+  spelling-more h P q = node-put (front_below nodes L.nodes-room h) (rw (front-node nodes L.nodes-room h) at P) q
+
+  pub spelling-end : i ≤ length (take c nodes) → length (take c nodes) ≤ i → BytesWritten (spelled_in vs p nodes c) out₀ at out
+  spelling-end b h =
+      let q : i ≡ c = omega (arith, length-take-le c nodes L.nodes-room) in
       record {
         size = sym S.size ∙ ap (λ (x : ℕ). length (spelled_in vs p nodes x)) q;
         is = S.is ∙ ap (λ (x : ℕ). spelled_in vs p nodes x ++ drop at out₀) q;
@@ -200,7 +188,7 @@ told-some {s = s} {out} {len} {out'} q A = record {
         (λ l. A.kept l ∙ sym (front-short s out (omega (arith, A.size))))
 
 -- what an answer says of the definition
-module _ {o : Option (List ℕ)} {out : List ℕ} {r : OptionBytes} {out' : List ℕ} (T : Told o out r out') where
+module _ {o : Option (List ℕ)} {out : List ℕ} {r : std.Option ℕ} {out' : List ℕ} (T : Told o out r out') where
   pub none_told : r ≡ None → (o ≡ none) × (out' ≡ out)
   none_told q =
       let z = no-count o (sym T.is ∙ ap count_of q) in

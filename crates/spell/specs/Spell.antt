@@ -1,17 +1,11 @@
 -- What a list of vertices spells, and writing it. Assumes nothing.
-use Rattle.std.specs.Prelude.{◌≡◌, cond, List, ◌++◌, map, ℕ, ◌+◌, ◌*◌, ◌≤◌, ◌<◌, length, get_or, drop, leb}
+use Rattle.std.specs.Prelude.{◌≡◌, cond, List, ◌++◌, map, ℕ, ◌+◌, ◌*◌, ◌≤◌, ◌<◌, length, get_or, drop, leb, Some, None}
+use Rattle.std.specs.Prelude as std
 use Rattle.std.proofs.Math.Option.{Option, none, some}
 use Rattle.std.proofs.Math.Seq.{paste}
-use Rattle.defs.specs.Lists.{tab, concat, sum}
+use Rattle.defs.specs.Lists.{concat}
 use Rattle.store.specs.Store.{nodes_length}
 use Rattle.store.specs.Store.{seq_in, nums_in}
-use Rattle.spell.specs.declared.OptionBytes.{OptionBytes}
-use Rattle.spell.specs.declared.OptionBytes.TheVariants.{Some, None}
-
--- n bytes from `from` on are there, and there is room for them at `to`
-pub record BytesFit (p : List ℕ) (from n : ℕ) (out : List ℕ) (to : ℕ) : Type 0 where
-  pub from-room : from + n ≤ length p
-  pub to_room : to + n ≤ length out
 
 -- the sequence of v is within the pool, and there is room for it at `at`
 pub record Puttable (vs p : List ℕ) (v : ℕ) (out : List ℕ) (at : ℕ) : Type 0 where
@@ -47,7 +41,7 @@ pub record Answered (s out : List ℕ) (r : ℕ) (out' : List ℕ) : Type 0 wher
   pub kept : length out < r → out' ≡ out
 
 -- how many bytes an answer tells of
-abbrev pub count_of : OptionBytes → Option ℕ
+abbrev pub count_of : std.Option ℕ → Option ℕ
 count_of (Some n) = some n
 count_of None = none
 
@@ -62,6 +56,6 @@ with_front none out = out
 with_front (some s) out = cond (leb (length s) (length out)) (s ++ drop (length s) out) out
 
 -- the bytes that the definition makes, if it makes any, are counted, and written where they fit
-pub record Told (o : Option (List ℕ)) (out : List ℕ) (r : OptionBytes) (out' : List ℕ) : Type 0 where
+pub record Told (o : Option (List ℕ)) (out : List ℕ) (r : std.Option ℕ) (out' : List ℕ) : Type 0 where
   pub is : count_of r ≡ count_in o
   pub written : out' ≡ with_front o out

@@ -3,15 +3,17 @@ use mathlib.Core.Path.{◌≡◌, refl, sym, ap, ◌∙◌, subst}
 use mathlib.Core.Bool.{Bool, true, false}
 use mathlib.Core.List.{List, [], ◌∷◌, ◌++◌, map}
 use Prim.Native.Nat.{ℕ, zero, suc, ◌+◌, ◌-◌, ◌*◌, ◌/◌, ◌%◌, ◌≤◌, ◌<◌}
-use native.Mathlib.Numerals.{add-one}
 use native.Mathlib.Omega.{arith}
 use lib.Dec.{ltb}
-use lib.ListN.{length, get_or, set, take, length-append}
-use lib.Seq.{sets, length-sets, take-suc, take_all, length-take-le}
-use borrow.Author.Tests.{ltb-true, ltb-false, lt-ltb, le-ltb, le-leb, lt-leb}
+use lib.ListN.{length, get_or, set, take, drop, length-append}
+use borrow.Rule.Slice.PartMut.{put_mid}
+use Rattle.std.proofs.lemmas.Slice.{put_mid-paste}
+use Rattle.std.specs.Char.{is_ascii_alphabetic}
+use lib.Seq.{sets-eq, length-sets, take_all}
+use borrow.Author.Tests.{ltb-true, ltb-false, lt-ltb, le-ltb}
 use Rattle.defs.specs.Lists.{concat, tab, tab_from}
 use Rattle.laws.proofs.Walks.{by_test}
-use Rattle.write_record.proofs.WriteLaws.{put-behind, Growing, growing-more}
+use Rattle.write_record.proofs.WriteLaws.{put-behind}
 use Rattle.tabs.proofs.Tabs.{tab-get_or}
 use Rattle.tabs.proofs.SumTabs.{map-tab, fields-none, fields-more}
 use Rattle.text.specs.Printed.{ascii, digit, decimal_by, decimal, is_letter, printed_byte, printed_sequence}
@@ -70,15 +72,15 @@ module _ {n : ℕ} {m : ℕ → ℕ} {f : ℕ → List ℕ} {text : List ℕ} {a
 
 -- ---- bytes as they are
 
-module _ {s text : List ℕ} {at : ℕ} {text' : List ℕ} {i : ℕ} (G : Growing (length s) (λ (k : ℕ). take k s) text at text' i) where
-  pub bytes-more : i < length s → Growing (length s) (λ (k : ℕ). take k s) text at (set text' (at + i) (get_or s i 0)) (i + 1)
-  bytes-more h = growing-more (get_or s i 0 ∷ []) (at + i) G h (ap (λ (k : ℕ). take k s) (add-one i) ∙ take-suc s i 0 h)
-      (omega (arith, length-take-le i s G.high)) refl
-
-  pub bytes-end : length s ≤ i → TextPut (length s) s text at (at + i) text'
-  bytes-end h =
-      let q : i ≡ length s = omega (arith, G.high) in
-      record { size = omega arith; end = omega arith; is = G.is ∙ ap (sets text at) (take_all i s h) }
+pub bytes-put : (s text : List ℕ) {new : List ℕ} (at : ℕ) → at + length s ≤ length text → new ≡ s
+    → TextPut (length s) s text at (at + length s) (put_mid at (at + length s - at) text new)
+bytes-put s text {new} at room q = record {
+  size = omega arith;
+  end = refl;
+  is = put_mid-paste at (at + length s - at) text new s (length s) q (omega arith) refl
+      ∙ ap (λ (l : List ℕ). take at text ++ l ++ drop (at + length s) text) (take_all (length s) s (omega arith))
+      ∙ sym (sets-eq s text at room);
+}
 
 -- ---- the bytes of a sequence
 
@@ -197,26 +199,9 @@ digits-behind {x} h room P = omega (arith, more-long x h, P.end)
 
 -- ---- letters
 
-module _ {b : ℕ} where
-  pub letter-upper : 65 ≤ b → b ≤ 90 → true ≡ is_letter b
-  unfolding is_letter
-  letter-upper h k = rw (le-leb 65 b h, le-leb b 90 k)
-
-  pub letter-lower : 97 ≤ b → b ≤ 122 → true ≡ is_letter b
-  unfolding is_letter
-  letter-lower h k = rw (le-leb 65 b (omega arith), lt-leb b 90 (omega arith), le-leb 97 b h, le-leb b 122 k)
-
-  pub letter-below : b < 65 → false ≡ is_letter b
-  unfolding is_letter
-  letter-below h = rw (lt-leb 65 b h, lt-leb 97 b (omega arith))
-
-  pub letter-between : 90 < b → b < 97 → false ≡ is_letter b
-  unfolding is_letter
-  letter-between h k = rw (le-leb 65 b (omega arith), lt-leb b 90 h, lt-leb 97 b k)
-
-  pub letter-above : 122 < b → false ≡ is_letter b
-  unfolding is_letter
-  letter-above h = rw (le-leb 65 b (omega arith), lt-leb b 90 (omega arith), le-leb 97 b (omega arith), lt-leb b 122 h)
+pub letter-is : (b : ℕ) → is_ascii_alphabetic b ≡ is_letter b
+unfolding is_letter
+letter-is b = refl
 
 module _ (b : ℕ) where
   byte-letter : is_letter b ≡ true → printed_byte b ≡ b ∷ []

@@ -4,7 +4,7 @@
 ghost use Rattle.std.specs.Prelude.{◌≡◌, ◌++◌, map, ◌+◌, ◌*◌, ◌<◌, ◌≤◌, length};
 ghost use Rattle.std.specs.Int.Signed.{mag};
 ghost use Rattle.defs.specs.Lists.{concat};
-ghost use Rattle.text.specs.Printed.{decimal, signed, is_letter, printed_byte, printed_sequence};
+ghost use Rattle.text.specs.Printed.{decimal, signed, printed_byte, printed_sequence};
 ghost use Rattle.text.specs.Printed.{digit as digit_of, surplus as surplus_of};
 ghost use Rattle.text.specs.Put.{TextPut};
 
@@ -62,12 +62,9 @@ pub fn put_bytes(text: &mut [u8], at: usize, s: &[u8]) -> usize
     requires { at + length s.now ≤ length text.old }
     ensures { TextPut (length s.now) s.now text.old at result text.new }
 {
-    let mut i = 0;
-    while i < s.len() {
-        text[at + i] = s[i];
-        i += 1;
-    }
-    at + i
+    let behind = at + s.len();
+    text[at..behind].copy_from_slice(s);
+    behind
 }
 
 // A name and a number.
@@ -79,22 +76,12 @@ pub fn put_field(text: &mut [u8], at: usize, name: &[u8], x: u32) -> usize
     put_decimal(text, behind, x)
 }
 
-// `is_ascii_alphabetic`
-fn is_letter(b: u8) -> bool
-    ensures { result ≡ is_letter b }
-{
-    match b {
-        b'A'..=b'Z' | b'a'..=b'z' => true,
-        _ => false,
-    }
-}
-
 // A letter as it is, any other byte as \x and two digits.
 fn put_byte(text: &mut [u8], at: usize, b: u8) -> usize
     requires { at + 4 ≤ length text.old }
     ensures { TextPut 4 (printed_byte b) text.old at result text.new }
 {
-    if is_letter(b) {
+    if b.is_ascii_alphabetic() {
         text[at] = b;
         return at + 1;
     }
@@ -111,10 +98,8 @@ fn put_each(text: &mut [u8], at: usize, s: &[u8]) -> usize
     ensures { TextPut (4 * length s.now) (concat (map printed_byte s.now)) text.old at result text.new }
 {
     let mut to = at;
-    let mut i = 0;
-    while i < s.len() {
-        to = put_byte(text, to, s[i]);
-        i += 1;
+    for b in s {
+        to = put_byte(text, to, *b);
     }
     to
 }
@@ -124,7 +109,7 @@ pub fn put_sequence(text: &mut [u8], at: usize, s: &[u8]) -> usize
     requires { at + 4 * length s.now + 1 ≤ length text.old }
     ensures { TextPut (4 * length s.now + 1) (printed_sequence s.now) text.old at result text.new }
 {
-    if s.len() == 0 {
+    if s.is_empty() {
         return put_bytes(text, at, b".");
     }
     put_each(text, at, s)

@@ -1,7 +1,6 @@
 -- `cleanup_steps::after_choice` meets its contract.
 use Rattle.refs.proofs.RefLaws.{source-below, sink-below}
 use Rattle.cleanup_steps.proofs.CleanUpLaws.{after-no-source, after-no-sink, after-chosen}
-use borrow.Author.Rules.{rules}
 use Rattle.cleanup_steps.proofs.after_choice.Goals as goal
 
 pub returns-in_default : goal.returns-in_default

@@ -2,7 +2,6 @@
 use mathlib.Core.Path.{◌∙◌}
 use Rattle.choice.proofs.ChoiceLaws.{cleanable-next}
 use Rattle.cleanup_steps.proofs.CleanUpLaws.{choice-countable, choice-indexable, cleaned-up}
-use borrow.Author.Rules.{rules}
 use Rattle.cleanup_steps.proofs.cleanup_seq_graph.Goals as goal
 
 pub build_index-requires : goal.build_index-requires

@@ -26,8 +26,8 @@ simplify_graph_full-z-requires c =
     c.remove_paths_not_connected_to_ref-b.auto.map refl
     c.remove_paths_not_connected_to_ref-b.auto.tried refl)
 
-pub add_dummy_vertex-cleaned-requires : goal.add_dummy_vertex-cleaned-requires
-add_dummy_vertex-cleaned-requires c =
+pub add_dummy_vertex-requires : goal.add_dummy_vertex-requires
+add_dummy_vertex-requires c =
     dummy-room
     c.simplify_graph_full-z.new.es
     c.simplify_graph_full-z.new.vs
@@ -35,8 +35,8 @@ add_dummy_vertex-cleaned-requires c =
     (c.simplify_graph_full-z.auto.es ∙ c.remove_paths_not_connected_to_ref-b.auto.es)
     (c.simplify_graph_full-z.auto.vs ∙ c.remove_paths_not_connected_to_ref-b.auto.vs)
 
-pub overflow_add-rewrites : goal.overflow_add-rewrites
-overflow_add-rewrites c =
+pub overflow_add-result : goal.overflow_add-result
+overflow_add-result c =
     omega (
       arith,
       between-counted c.args.work c.args.s c.args.t c.requires.0.holds
@@ -46,13 +46,13 @@ overflow_add-rewrites c =
 
 pub shape_of-es : goal.shape_of-es
 shape_of-es c =
-    c.add_dummy_vertex-cleaned.auto.es
+    c.add_dummy_vertex.auto.es
     ∙ c.simplify_graph_full-z.auto.es
     ∙ c.remove_paths_not_connected_to_ref-b.auto.es
 
 pub shape_of-vs : goal.shape_of-vs
 shape_of-vs c =
-    c.add_dummy_vertex-cleaned.auto.vs
+    c.add_dummy_vertex.auto.vs
     ∙ c.simplify_graph_full-z.auto.vs
     ∙ c.remove_paths_not_connected_to_ref-b.auto.vs
 
@@ -95,4 +95,4 @@ returns c =
     c.requires.0.holds
     c.remove_paths_not_connected_to_ref-b.ensures
     c.simplify_graph_full-z.ensures
-    c.add_dummy_vertex-cleaned.ensures refl refl refl
+    c.add_dummy_vertex.ensures refl refl refl

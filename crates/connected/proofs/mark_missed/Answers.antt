@@ -1,31 +1,13 @@
 -- `connected::mark_missed` meets its contract.
-use native.Mathlib.Omega.{arith}
-use Prim.Native.Nat.{◌-◌}
-use Rattle.connected.proofs.ConnectedLaws.{Missing, missing-start, missing-yes, missing-no, missing-end}
+use Rattle.connected.proofs.ConnectedLaws.{missing-start, missing-yes, missing-no}
+use Rattle.connected.proofs.mark_missed.Goals.{then-marks-v-eq0, else-marks-v-eq0}
 use Rattle.connected.proofs.mark_missed.Goals as goal
 
 pub loop-v-init : goal.loop-v-init
 loop-v-init c = missing-start
 
-pub bounds-marks-u : goal.bounds-marks-u
-bounds-marks-u c = omega (arith, c.requires.0, c.loop-v-test.true)
-
-pub offset_bounds-map-u : goal.offset_bounds-map-u
-offset_bounds-map-u c = omega (arith, c.loop-v.invariant.len, c.requires.1, c.loop-v-test.true)
-
-pub bounds-map-u : goal.bounds-map-u
-bounds-map-u c = omega (arith, c.loop-v.invariant.len, c.requires.1, c.loop-v-test.true)
-
-pub loop-v-preserved-then-marks-u-eq0 : goal.loop-v-preserved-then-marks-u-eq0
-loop-v-preserved-then-marks-u-eq0 c =
-    missing-yes c.loop-v.invariant c.loop-v-test.true c.requires.1 c.if-marks-u-eq0.true
-
 pub loop-v-preserved : goal.loop-v-preserved
-loop-v-preserved c =
-    missing-no c.loop-v.invariant c.loop-v-test.true c.if-marks-u-eq0.false
-
-pub shape_of-map : goal.shape_of-map
-shape_of-map c = c.loop-v.invariant.len
-
-pub returns : goal.returns
-returns c = missing-end c.loop-v.invariant c.loop-v-test.false
+loop-v-preserved c = elim c.if-marks-v-eq0.branch [
+  | then-marks-v-eq0 w ↦ rw w.map-is (missing-yes c.loop-v.invariant c.loop-v-test.true c.requires.1 w.if-marks-v-eq0.true)
+  | else-marks-v-eq0 w ↦ rw w.map-is (missing-no c.loop-v.invariant c.loop-v-test.true w.if-marks-v-eq0.false)
+]

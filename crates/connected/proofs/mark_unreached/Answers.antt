@@ -1,6 +1,5 @@
 -- `connected::mark_unreached` meets its contract.
 use Rattle.connected.proofs.ConnectedLaws.{unreached}
-use borrow.Author.Rules.{rules}
 use Rattle.connected.proofs.mark_unreached.Goals as goal
 
 pub returns : goal.returns

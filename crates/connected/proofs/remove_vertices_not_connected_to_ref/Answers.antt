@@ -4,7 +4,6 @@ use mathlib.Core.Path.{◌∙◌}
 use Rattle.refs.proofs.RefLaws.{source-below}
 use Rattle.orphans.proofs.OrphanLaws.{reduced-as}
 use Rattle.connected.proofs.ConnectedLaws.{reduced-same, no-source-stays, connected-stay}
-use borrow.Author.Rules.{rules}
 use Rattle.compact.proofs.CompactLaws.{compactable-kept}
 use Rattle.connected.proofs.remove_vertices_not_connected_to_ref.Goals as goal
 
@@ -27,26 +26,6 @@ remove_marked-requires c =
     compactable-kept
     c.requires.0
     (c.mark_unreached.auto.map ∙ c.fill.auto.dst)
-
-pub shape_of-es : goal.shape_of-es
-shape_of-es c = c.remove_marked.auto.es
-
-pub shape_of-vs : goal.shape_of-vs
-shape_of-vs c = c.remove_marked.auto.vs
-
-pub shape_of-nodes : goal.shape_of-nodes
-shape_of-nodes c =
-    c.mark_unreached.auto.nodes
-
-pub shape_of-map : goal.shape_of-map
-shape_of-map c =
-    c.remove_marked.auto.map
-    ∙ c.mark_unreached.auto.map
-    ∙ c.fill.auto.dst
-
-pub shape_of-tried : goal.shape_of-tried
-shape_of-tried c =
-    c.mark_unreached.auto.tried
 
 pub returns : goal.returns
 returns c =

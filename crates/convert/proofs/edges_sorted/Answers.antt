@@ -1,6 +1,5 @@
 -- `convert::edges_sorted` meets its contract.
 use Rattle.convert.proofs.CopyLaws.{edges-sortable, edges-done}
-use borrow.Author.Rules.{rules}
 use Rattle.convert.proofs.edges_sorted.Goals as goal
 
 pub edge_order-requires : goal.edge_order-requires

@@ -1,7 +1,6 @@
 -- `dummy_vertex::add_dummy_vertex` meets its contract.
 use mathlib.Core.Path.{refl}
 use Rattle.dummy_vertex.proofs.DummyLaws.{dummy-none, dummy-one}
-use borrow.Author.Rules.{rules}
 use Rattle.dummy_vertex.proofs.add_dummy_vertex.Goals as goal
 
 pub returns-then-held-ne1 : goal.returns-then-held-ne1

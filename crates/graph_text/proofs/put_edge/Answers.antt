@@ -4,7 +4,6 @@ use Rattle.defs.specs.Lists.{tab_from}
 use Rattle.store.specs.Store.{edge_in}
 use Rattle.text.specs.Printed.{ascii, field}
 use Rattle.graph_text.proofs.GraphLaws.{edge-line}
-use borrow.Author.Rules.{rules}
 use Rattle.graph_text.proofs.put_edge.Goals as goal
 
 pub put_capped-requires : goal.put_capped-requires

@@ -1,9 +1,6 @@
 -- `graph_text::put_edges` meets its contract.
 use native.Mathlib.Omega.{arith}
-use Prim.Native.Nat.{ℕ, ◌*◌, ◌-◌}
-use Rattle.store.specs.Store.{edge_in}
-use Rattle.text.specs.Printed.{edge_line}
-use Rattle.text.proofs.TextLaws.{Lines, lines_start, lines_more, lines_end, lines_long, lines_at}
+use Rattle.text.proofs.TextLaws.{lines_start, lines_more, lines_end, lines_long, lines_at}
 use Rattle.graph_text.proofs.put_edges.Goals as goal
 
 pub loop-i-init : goal.loop-i-init
@@ -25,8 +22,5 @@ pub loop-i-preserved : goal.loop-i-preserved
 loop-i-preserved c =
     lines_more c.loop-i.invariant c.loop-i-test.true c.put_edge-to.ensures (omega arith)
 
-pub shape_of-text : goal.shape_of-text
-shape_of-text c = lines_long c.loop-i.invariant
-
 pub returns : goal.returns
-returns c = lines_end c.loop-i.invariant c.loop-i-test.false
+returns c = lines_end c.loop-i.invariant (omega arith)

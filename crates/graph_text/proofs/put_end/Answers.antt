@@ -1,21 +1,18 @@
 -- `graph_text::put_end` meets its contract.
+use native.Mathlib.Omega.{arith}
 use Rattle.defs.specs.Lists.{tab_from}
 use Rattle.text.specs.Printed.{ascii}
 use Rattle.graph_text.proofs.GraphLaws.{end_quiet, end-repeated, end-full}
-use borrow.Author.Rules.{rules}
 use Rattle.graph_text.proofs.put_end.Goals as goal
 
-pub returns-then-end-eq1 : goal.returns-then-end-eq1
+pub returns-in-1 : goal.returns-in-1
 unfolding ascii tab_from
-returns-then-end-eq1 c =
-    end_quiet c.args.end c.if-end-eq1.true c.put_bytes.ensures
+returns-in-1 c = end_quiet c.args.end c.in-1.is c.put_bytes.ensures
 
-pub returns-then-end-eq2 : goal.returns-then-end-eq2
+pub returns-in-2 : goal.returns-in-2
 unfolding ascii tab_from
-returns-then-end-eq2 c =
-    end-repeated c.args.end c.if-end-eq1.false c.if-end-eq2.true c.put_bytes-then-end-eq2.ensures
+returns-in-2 c = end-repeated c.args.end (λ q. omega arith) c.in-2.is c.put_bytes-in-2.ensures
 
-pub returns : goal.returns
+pub returns-in_default : goal.returns-in_default
 unfolding ascii tab_from
-returns c =
-    end-full c.args.end c.if-end-eq1.false c.if-end-eq2.false c.put_bytes-2.ensures
+returns-in_default c = end-full c.args.end (λ q. omega arith) (λ q. omega arith) c.put_bytes-in_default.ensures

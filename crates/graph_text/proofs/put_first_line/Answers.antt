@@ -6,7 +6,6 @@ use Rattle.text.specs.Printed.{ascii, field}
 use Rattle.text.proofs.TextLaws.{put_as}
 use Rattle.text.proofs.SignLaws.{word_of}
 use Rattle.graph_text.proofs.GraphLaws.{first-line}
-use borrow.Author.Rules.{rules}
 use Rattle.graph_text.proofs.put_first_line.Goals as goal
 
 pub surplus-requires : goal.surplus-requires

@@ -3,7 +3,6 @@ use Rattle.defs.specs.Lists.{tab_from}
 use Rattle.text.specs.Printed.{ascii, field}
 use Rattle.graph_text.specs.GraphText.{end_with_number}
 use Rattle.graph_text.proofs.GraphLaws.{second-line}
-use borrow.Author.Rules.{rules}
 use Rattle.graph_text.proofs.put_second_line.Goals as goal
 
 pub returns : goal.returns

@@ -2,7 +2,6 @@
 use Rattle.defs.specs.Lists.{tab_from}
 use Rattle.text.specs.Printed.{ascii, field}
 use Rattle.graph_text.proofs.GraphLaws.{vertex-line}
-use borrow.Author.Rules.{rules}
 use Rattle.graph_text.proofs.put_vertex.Goals as goal
 
 pub returns : goal.returns

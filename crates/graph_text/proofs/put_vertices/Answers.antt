@@ -1,19 +1,12 @@
 -- `graph_text::put_vertices` meets its contract.
 use native.Mathlib.Omega.{arith}
-use Prim.Native.Nat.{ℕ, ◌-◌}
-use Rattle.store.specs.Store.{seq_in}
 use Rattle.pool.proofs.PoolLaws.{bytes_in-more}
-use Rattle.text.specs.Printed.{vertex_line}
-use Rattle.text.proofs.TextLaws.{Lines, lines_start, lines_more, lines_end, lines_long}
-use Rattle.graph_text.specs.GraphText.{vertices_most}
+use Rattle.text.proofs.TextLaws.{lines_start, lines_more, lines_end}
 use Rattle.graph_text.proofs.GraphLaws.{vertices-fit}
 use Rattle.graph_text.proofs.put_vertices.Goals as goal
 
 pub loop-v-init : goal.loop-v-init
 loop-v-init c = lines_start
-
-pub overflow_cast-v : goal.overflow_cast-v
-overflow_cast-v c = omega (arith, c.requires.small, c.loop-v-test.true)
 
 pub put_vertex-to-requires : goal.put_vertex-to-requires
 put_vertex-to-requires c =
@@ -27,8 +20,5 @@ loop-v-preserved c =
     c.put_vertex-to.ensures
     (omega (arith, bytes_in-more c.loop-v.v c.args.vs.now))
 
-pub shape_of-text : goal.shape_of-text
-shape_of-text c = lines_long c.loop-v.invariant
-
 pub returns : goal.returns
-returns c = lines_end c.loop-v.invariant c.loop-v-test.false
+returns c = lines_end c.loop-v.invariant (omega arith)

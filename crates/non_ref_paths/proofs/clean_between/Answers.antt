@@ -34,36 +34,6 @@ remove_singleton_orphan_vertices-requires c = (
   c.drop_edges-b.ensures.1,
 )
 
-pub shape_of-es : goal.shape_of-es
-shape_of-es c =
-    c.remove_singleton_orphan_vertices.auto.es
-    ∙ c.drop_edges-b.auto.es
-    ∙ c.drop_edges-a.auto.es
-
-pub shape_of-vs : goal.shape_of-vs
-shape_of-vs c =
-    c.remove_singleton_orphan_vertices.auto.vs
-
-pub shape_of-heads : goal.shape_of-heads
-shape_of-heads c = c.drop_edges-b.auto.heads ∙ c.drop_edges-a.auto.heads
-
-pub shape_of-nexts : goal.shape_of-nexts
-shape_of-nexts c = c.drop_edges-b.auto.nexts ∙ c.drop_edges-a.auto.nexts
-
-pub shape_of-nodes : goal.shape_of-nodes
-shape_of-nodes c =
-    c.drop_edges-b.auto.nodes
-    ∙ c.drop_edges-a.auto.nodes
-
-pub shape_of-map : goal.shape_of-map
-shape_of-map c =
-    c.remove_singleton_orphan_vertices.auto.map
-
-pub shape_of-tried : goal.shape_of-tried
-shape_of-tried c =
-    c.drop_edges-b.auto.tried
-    ∙ c.drop_edges-a.auto.tried
-
 pub returns : goal.returns
 returns c =
     between-reduced

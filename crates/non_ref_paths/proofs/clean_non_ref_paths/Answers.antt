@@ -1,9 +1,7 @@
 -- `non_ref_paths::clean_non_ref_paths` meets its contract.
-use mathlib.Core.Path.{◌∙◌}
 use Rattle.refs.proofs.RefLaws.{source-below, sink-below}
 use Rattle.orphans.proofs.OrphanLaws.{reduced-as}
 use Rattle.non_ref_paths.proofs.CleanNonRefLaws.{untouched, no_source, no-sink, chosen_is}
-use borrow.Author.Rules.{rules}
 use Rattle.non_ref_paths.proofs.clean_non_ref_paths.Goals as goal
 
 pub build_index-requires : goal.build_index-requires
@@ -40,34 +38,6 @@ clean_between-requires c = (
     (c.requires.1.0.small, (c.requires.0, (c.build_index.ensures, c.requires.1.1))),
   ),
 )
-
-pub shape_of-es : goal.shape_of-es
-shape_of-es c =
-    c.clean_between.auto.es
-
-pub shape_of-vs : goal.shape_of-vs
-shape_of-vs c =
-    c.clean_between.auto.vs
-
-pub shape_of-heads : goal.shape_of-heads
-shape_of-heads c =
-    c.clean_between.auto.heads ∙ c.build_index.auto.heads
-
-pub shape_of-nexts : goal.shape_of-nexts
-shape_of-nexts c =
-    c.clean_between.auto.nexts ∙ c.build_index.auto.nexts
-
-pub shape_of-nodes : goal.shape_of-nodes
-shape_of-nodes c =
-    c.clean_between.auto.nodes
-
-pub shape_of-map : goal.shape_of-map
-shape_of-map c =
-    c.clean_between.auto.map
-
-pub shape_of-tried : goal.shape_of-tried
-shape_of-tried c =
-    c.clean_between.auto.tried
 
 pub returns : goal.returns
 returns c =

@@ -1,6 +1,6 @@
 -- `non_ref_paths::drop_edges` meets its contract.
 use native.Mathlib.Omega.{arith}
-use Rattle.non_ref_paths.proofs.CleanNonRefLaws.{dropped, kept-indexable}
+use Rattle.non_ref_paths.proofs.CleanNonRefLaws.{number-is, dropped, kept-indexable}
 use Rattle.non_ref_paths.proofs.drop_edges.Goals as goal
 
 pub mark_reached-requires : goal.mark_reached-requires
@@ -8,7 +8,7 @@ mark_reached-requires c =
     (c.requires.0, (c.requires.1.1.1.0, c.requires.1.1.1.1))
 
 pub keep_edges-left-requires : goal.keep_edges-left-requires
-keep_edges-left-requires c = (
+keep_edges-left-requires c = rw (number-is c.args.direction) (
   c.requires.1.1.1.0.room,
   (
     c.requires.1.0,
@@ -27,23 +27,8 @@ build_index-requires c =
     c.keep_edges-left.ensures
     c.keep_edges-left.auto.es
 
-pub shape_of-es : goal.shape_of-es
-shape_of-es c = c.keep_edges-left.auto.es
-
-pub shape_of-heads : goal.shape_of-heads
-shape_of-heads c = c.build_index.auto.heads
-
-pub shape_of-nexts : goal.shape_of-nexts
-shape_of-nexts c = c.build_index.auto.nexts
-
-pub shape_of-nodes : goal.shape_of-nodes
-shape_of-nodes c = c.mark_reached.auto.queue
-
-pub shape_of-tried : goal.shape_of-tried
-shape_of-tried c = c.mark_reached.auto.marks
-
 pub returns : goal.returns
 returns c = (
-  dropped c.requires.1.1.1.0.ends c.mark_reached.ensures c.keep_edges-left.ensures,
+  dropped c.requires.1.1.1.0.ends c.mark_reached.ensures (rw (number-is c.args.direction) at c.keep_edges-left.ensures),
   c.build_index.ensures,
 )

@@ -1,6 +1,5 @@
 -- `orphans::remove_singleton_orphan_vertices` meets its contract.
 use Rattle.orphans.proofs.OrphanLaws.{reduced-as, marked-orphans}
-use borrow.Author.Rules.{rules}
 use Rattle.orphans.proofs.remove_singleton_orphan_vertices.Goals as goal
 
 pub returns : goal.returns

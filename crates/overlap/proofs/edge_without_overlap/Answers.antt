@@ -18,7 +18,7 @@ pub bytes_at-at-requires : goal.bytes_at-at-requires
 bytes_at-at-requires c = (omega (arith, c.vertex_count.ensures.1), omega (arith, c.edge_count-e.ensures.1))
 
 pub loop-i-init : goal.loop-i-init
-loop-i-init c = (omega arith, any-start (apart c.args.rec.now) c.edge_count-e.result)
+loop-i-init c = any-start (apart c.args.rec.now) c.edge_count-e.result
 
 pub edge_overlaps-requires : goal.edge_overlaps-requires
 edge_overlaps-requires c = (
@@ -34,19 +34,17 @@ edge_overlaps-requires c = (
 
 pub returns-then-not-edge_overlaps : goal.returns-then-not-edge_overlaps
 returns-then-not-edge_overlaps c =
-    apart-found c.requires c.edge_count-e.result c.loop-i.i c.edge_count-e.ensures.0 c.loop-i.invariant.1
+    apart-found c.requires c.edge_count-e.result c.loop-i.i c.edge_count-e.ensures.0 c.loop-i.invariant
     (any_found (apart c.args.rec.now) c.loop-i.i c.edge_count-e.result c.loop-i-test.true
     (ap not (sym c.edge_overlaps.ensures) ∙ ap not c.if-not-edge_overlaps.true))
 
 pub loop-i-preserved : goal.loop-i-preserved
-loop-i-preserved c = (
-  omega arith,
-  sym (any-turn (apart c.args.rec.now) c.loop-i.i c.edge_count-e.result c.loop-i-test.true
-      (ap not (sym c.edge_overlaps.ensures) ∙ ap not c.if-not-edge_overlaps.false))
-      ∙ c.loop-i.invariant.1,
-)
+loop-i-preserved c =
+    sym (any-turn (apart c.args.rec.now) c.loop-i.i c.edge_count-e.result c.loop-i-test.true
+    (ap not (sym c.edge_overlaps.ensures) ∙ ap not c.if-not-edge_overlaps.false))
+    ∙ c.loop-i.invariant
 
 pub returns : goal.returns
 returns c =
-    apart-found c.requires c.edge_count-e.result c.loop-i.i c.edge_count-e.ensures.0 c.loop-i.invariant.1
-    (any_none (apart c.args.rec.now) c.loop-i.i c.edge_count-e.result c.loop-i-test.false)
+    apart-found c.requires c.edge_count-e.result c.loop-i.i c.edge_count-e.ensures.0 c.loop-i.invariant
+    (any_none (apart c.args.rec.now) c.loop-i.i c.edge_count-e.result (omega arith))

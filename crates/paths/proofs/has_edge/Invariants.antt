@@ -1,10 +1,8 @@
 -- What each turn of the loop keeps.
-use native.Mathlib.Omega.{arith}
-use mathlib.Core.Path.{◌∙◌}
-use Prim.Native.Nat.{◌*◌, ◌-◌}
+use Prim.Native.Nat.{◌-◌}
 use Rattle.index.specs.Index.{edge_end}
-use Rattle.refs.proofs.RefLaws.{SeekingReference, seeking-start, seeking-more, seeking-found, seeking-end}
-use Rattle.paths.proofs.StepLaws.{enters_at, any-ends, out-index, enters-yes, enters-no}
+use Rattle.refs.proofs.RefLaws.{SeekingReference}
+use Rattle.paths.proofs.StepLaws.{enters_at}
 use Rattle.paths.proofs.has_edge.Given as goal
 
 abbrev pub invariant-loop-e : goal.invariant-loop-e

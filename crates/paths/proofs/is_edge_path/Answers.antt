@@ -1,49 +1,27 @@
 -- `paths::is_edge_path` meets its contract.
-use native.Mathlib.Omega.{arith}
-use mathlib.Core.Path.{refl, sym, ◌∙◌}
-use Prim.Native.Nat.{◌-◌}
-use lib.ListN.{length}
-use borrow.Author.Tests.{not-true, not-false}
-use Rattle.paths.proofs.StepLaws.{
-  Following,
-  path-outside,
-  following-start,
-  following-end,
-  following-odd,
-  following-no,
-  following-more,
-}
+use mathlib.Core.Path.{sym, ◌∙◌}
+use borrow.Author.Tests.{eq-eqb, ne_eqb}
+use Rattle.tabs.proofs.Tabs.{and_then, and-else}
+use Rattle.paths.proofs.StepLaws.{first-two, path-outside, following-end, following-no, following-more}
+use Rattle.paths.proofs.is_edge_path.Goals.{then-a-at-via-then-a-at, then-a-at-via-else-a-at+then-not-has_edge}
 use Rattle.paths.proofs.is_edge_path.Goals as goal
 
 pub returns-then-n-start : goal.returns-then-n-start
 returns-then-n-start c = path-outside _ _ _ _ _ c.if-n-start.true
 
-pub loop-i-init : goal.loop-i-init
-loop-i-init c = following-start c.if-n-start.false
+pub returns-then-a-at : goal.returns-then-a-at
+returns-then-a-at c =
+    let pair = first-two c.loop-rest.rest.now c.in-len2-up.len_at_least in elim c.then-a-at.branch [
+      | then-a-at-via-then-a-at w ↦ following-no c.loop-rest.invariant pair (sym (and-else _ (ne_eqb _ _ w.if-a-at.true)))
+      | then-a-at-via-else-a-at+then-not-has_edge w ↦
+          following-no c.loop-rest.invariant pair
+          (sym (and_then _ (eq-eqb _ _ w.if-a-at.false)) ∙ sym w.has_edge.ensures ∙ w.if-not-has_edge.true)
+    ]
 
-pub returns-then-list-i-lt2 : goal.returns-then-list-i-lt2
-returns-then-list-i-lt2 c =
-    following-odd c.loop-i.invariant c.loop-i-test.true c.if-list-i-lt2.true
-
-pub is_step-requires : goal.is_step-requires
-is_step-requires c =
-    (c.loop-i.invariant.below, c.requires)
-
-pub returns-then-not-is_step : goal.returns-then-not-is_step
-returns-then-not-is_step c =
-    following-no
-    c.loop-i.invariant
-    c.if-list-i-lt2.false refl refl
-    (sym c.is_step.ensures ∙ c.if-not-is_step.true)
-
-pub loop-i-preserved : goal.loop-i-preserved
-loop-i-preserved c =
-    following-more
-    c.loop-i.invariant
-    c.if-list-i-lt2.false refl refl
-    c.requires.ends
-    (sym c.is_step.ensures ∙ c.if-not-is_step.false)
+pub loop-rest-preserved : goal.loop-rest-preserved
+loop-rest-preserved c =
+    following-more c.loop-rest.invariant (first-two c.loop-rest.rest.now c.in-len2-up.len_at_least) c.requires.ends
+    (sym (and_then _ (eq-eqb _ _ c.if-a-at.false)) ∙ sym c.has_edge.ensures ∙ c.if-not-has_edge.false)
 
 pub returns : goal.returns
-returns c =
-    following-end c.loop-i.invariant c.loop-i-test.false
+returns c = rw c.is_empty.ensures (following-end c.loop-rest.rest.now c.loop-rest.invariant c.in_default.len_below)

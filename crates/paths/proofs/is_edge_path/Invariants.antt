@@ -1,22 +1,10 @@
 -- What each turn of the loop keeps.
-use native.Mathlib.Omega.{arith}
-use mathlib.Core.Path.{refl, sym, ◌∙◌}
-use Prim.Native.Nat.{◌-◌}
 use lib.ListN.{length}
-use borrow.Author.Tests.{not-true, not-false}
-use Rattle.paths.proofs.StepLaws.{
-  Following,
-  path-outside,
-  following-start,
-  following-end,
-  following-odd,
-  following-no,
-  following-more,
-}
+use Rattle.paths.proofs.StepLaws.{Following}
 use Rattle.paths.proofs.is_edge_path.Given as goal
 
-abbrev pub invariant-loop-i : goal.invariant-loop-i
-invariant-loop-i l = Following l.m l.n l.es l.start l.list l.at l.i
+abbrev pub invariant-loop-rest : goal.invariant-loop-rest
+invariant-loop-rest l = Following l.m l.n l.es l.start l.list l.at l.rest
 
-abbrev pub decreases-loop-i : goal.decreases-loop-i
-decreases-loop-i l = length l.list - l.i
+abbrev pub decreases-loop-rest : goal.decreases-loop-rest
+decreases-loop-rest l = length l.rest

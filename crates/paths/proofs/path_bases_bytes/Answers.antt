@@ -1,9 +1,6 @@
 -- `paths::path_bases_bytes` meets its contract.
-use native.Mathlib.Omega.{arith}
-use borrow.Author.Tests.{not-true, not-false}
 use Rattle.paths.proofs.RouteLaws.{route-listed}
 use Rattle.paths.proofs.BytesLaws.{no-path, path_room, path-route, path-told}
-use borrow.Author.Rules.{rules}
 use Rattle.paths.proofs.path_bases_bytes.Goals as goal
 
 pub returns-then-not-is_edge_path : goal.returns-then-not-is_edge_path
@@ -13,8 +10,8 @@ pub path_nodes-c-requires : goal.path_nodes-c-requires
 path_nodes-c-requires c =
     path_room c.requires.0 c.is_edge_path.ensures c.if-not-is_edge_path.false
 
-pub spell-len-requires : goal.spell-len-requires
-spell-len-requires c =
+pub spell-requires : goal.spell-requires
+spell-requires c =
     route-listed
     c.requires.0
     (path-route c.requires.0 c.is_edge_path.ensures c.if-not-is_edge_path.false
@@ -27,4 +24,4 @@ returns c =
     c.is_edge_path.ensures
     c.if-not-is_edge_path.false
     c.path_nodes-c.ensures
-    c.spell-len.ensures
+    c.spell.ensures

@@ -1,7 +1,5 @@
 -- `reach::leave_vertex` meets its contract.
-use native.Mathlib.Omega.{arith}
-use mathlib.Core.Path.{◌∙◌}
-use Rattle.reach.proofs.ReachLaws.{walkable-kept, vertex-left}
+use Rattle.reach.proofs.ReachLaws.{vertex-left}
 use Rattle.reach.proofs.leave_vertex.Goals as goal
 
 pub returns : goal.returns

@@ -1,9 +1,6 @@
 -- `reach::mark_reached` meets its contract.
 use native.Mathlib.Omega.{arith}
-use mathlib.Core.Path.{◌∙◌}
-use Prim.Native.Nat.{◌-◌}
-use lib.ListN.{length-set}
-use Rattle.reach.proofs.ReachLaws.{WalkingQueue, found-most, walkable-kept, walking_start, walking-more, walking-end}
+use Rattle.reach.proofs.ReachLaws.{found-most, walking-more, walking-end}
 use Rattle.reach.proofs.mark_reached.Goals as goal
 
 pub loop-h-smaller : goal.loop-h-smaller

@@ -1,23 +1,8 @@
 -- `reach::push_steps` meets its contract.
 use native.Mathlib.Omega.{arith}
 use mathlib.Core.Path.{refl, sym, ◌∙◌}
-use Prim.Native.Nat.{◌+◌, ◌*◌, ◌-◌}
-use lib.ListN.{get_or}
-use borrow.Author.Tests.{not-true, not-false}
 use Rattle.store.proofs.EdgeLaws.{set_is, set-not}
-use Rattle.reach.proofs.ReachLaws.{
-  PushingFound,
-  found-most,
-  pushing-start,
-  pushing-later,
-  pushing-below,
-  pushing-room,
-  pushing-shut,
-  pushing-seen,
-  pushing-push,
-  pushing-end,
-  found_none,
-}
+use Rattle.reach.proofs.ReachLaws.{found-most, pushing-start, pushing-later, pushing-room, pushing-shut, pushing-seen, pushing-push}
 use Rattle.reach.proofs.push_steps.Goals as goal
 
 pub offset_bounds-queue-h : goal.offset_bounds-queue-h

@@ -1,13 +1,15 @@
 -- `reach::takes_end` meets its contract.
-use Rattle.reach.proofs.StepLaws.{takes_along, takes-against, takes-either}
+use Rattle.reach.specs.Reach.{takes_end}
 use Rattle.reach.proofs.takes_end.Goals as goal
 
-pub returns-then-kind-eq0 : goal.returns-then-kind-eq0
-returns-then-kind-eq0 c = takes_along c.args.kind c.args.off c.if-kind-eq0.true
+pub returns-in-Along : goal.returns-in-Along
+unfolding takes_end
+returns-in-Along c = rw c.in-Along.is
 
-pub returns-then-kind-eq1 : goal.returns-then-kind-eq1
-returns-then-kind-eq1 c = takes-against c.args.kind c.args.off c.if-kind-eq1.true
+pub returns-in-Against : goal.returns-in-Against
+unfolding takes_end
+returns-in-Against c = rw c.in-Against.is
 
-pub returns : goal.returns
-returns c =
-    takes-either c.args.kind c.args.off c.if-kind-eq0.false c.if-kind-eq1.false
+pub returns-in-Either : goal.returns-in-Either
+unfolding takes_end
+returns-in-Either c = rw c.in-Either.is

@@ -1,16 +1,6 @@
 -- What each turn of the loop keeps.
-use native.Mathlib.Omega.{arith}
-use mathlib.Core.Path.{refl, sym, ◌∙◌}
-use Prim.Native.Nat.{◌*◌, ◌-◌}
-use Rattle.paths.proofs.StepLaws.{out-index}
-use Rattle.reference.proofs.NextLaws.{
-  Looking,
-  looking-start,
-  looking-more,
-  looking-found,
-  looking-end,
-  looking-none,
-}
+use Prim.Native.Nat.{◌-◌}
+use Rattle.reference.proofs.NextLaws.{Looking}
 use Rattle.reference.proofs.next_on_reference.Given as goal
 
 abbrev pub invariant-loop-e : goal.invariant-loop-e

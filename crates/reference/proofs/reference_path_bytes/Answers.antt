@@ -3,7 +3,6 @@ use native.Mathlib.Omega.{arith}
 use Rattle.refs.proofs.RefLaws.{source-below, sink-below}
 use Rattle.paths.proofs.RouteLaws.{route-listed}
 use Rattle.reference.proofs.AnswerLaws.{no_source, no-sink, no_walk, walked-route, walked-told}
-use borrow.Author.Rules.{rules}
 use Rattle.reference.proofs.reference_path_bytes.Goals as goal
 
 pub returns-in_default : goal.returns-in_default
@@ -26,8 +25,8 @@ pub overflow_cast-sink : goal.overflow_cast-sink
 overflow_cast-sink c =
     omega (arith, c.requires.0.small, sink-below c.reference_sink_vertex.ensures c.in-Some-reference_sink_vertex.is)
 
-pub reference_path-path-requires : goal.reference_path-path-requires
-reference_path-path-requires c = (
+pub reference_path-requires : goal.reference_path-requires
+reference_path-requires c = (
   record {
     source-below = source-below c.reference_source_vertex.ensures c.in-Some.is;
     room = c.requires.0.nodes-room;
@@ -36,24 +35,25 @@ reference_path-path-requires c = (
   c.requires.1,
 )
 
-pub returns-in_default-path : goal.returns-in_default-path
-returns-in_default-path c =
-    no_walk
+pub returns-in_err-count : goal.returns-in_err-count
+returns-in_err-count c =
+    rw c.from_residual.ensures
+    (no_walk
     c.requires.0
     c.reference_source_vertex.ensures
     c.in-Some.is
     c.reference_sink_vertex.ensures
     c.in-Some-reference_sink_vertex.is
-    c.reference_path-path.ensures _
-    c.in_default-path.is
+    c.reference_path.ensures _
+    c.in_err-count.was)
 
-pub spell-len-requires : goal.spell-len-requires
-spell-len-requires c =
+pub spell-requires : goal.spell-requires
+spell-requires c =
     route-listed
     c.requires.0
     (walked-route c.requires.0 c.reference_source_vertex.ensures c.in-Some.is
-    c.reference_sink_vertex.ensures c.in-Some-reference_sink_vertex.is c.reference_path-path.ensures
-    c.in-Some-path.is c.reference_path-path.auto.nodes)
+    c.reference_sink_vertex.ensures c.in-Some-reference_sink_vertex.is c.reference_path.ensures
+    c.in_ok-count.was c.reference_path.auto.nodes)
 
 pub returns : goal.returns
 returns c =
@@ -63,7 +63,7 @@ returns c =
     c.in-Some.is
     c.reference_sink_vertex.ensures
     c.in-Some-reference_sink_vertex.is
-    c.reference_path-path.ensures
-    c.in-Some-path.is
-    c.reference_path-path.auto.nodes
-    c.spell-len.ensures
+    c.reference_path.ensures
+    c.in_ok-count.was
+    c.reference_path.auto.nodes
+    c.spell.ensures

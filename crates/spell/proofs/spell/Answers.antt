@@ -1,7 +1,5 @@
 -- `spell::spell` meets its contract.
-use native.Mathlib.Omega.{arith}
-use Rattle.spell.proofs.SpellLaws.{too_long, written-whole, listed-long}
-use borrow.Author.Rules.{rules}
+use Rattle.spell.proofs.SpellLaws.{too_long}
 use Rattle.spell.proofs.spell.Goals as goal
 
 pub returns-then-out-len : goal.returns-then-out-len

@@ -1,6 +1,5 @@
 -- `text::digit` meets its contract.
 use Rattle.text.proofs.TextLaws.{digit_low, digit-high}
-use borrow.Author.Rules.{rules}
 use Rattle.text.proofs.digit.Goals as goal
 
 pub returns-then-d-lt10 : goal.returns-then-d-lt10

@@ -1,7 +1,6 @@
 -- `text::put_decimal` meets its contract.
 use native.Mathlib.Omega.{arith}
 use Rattle.text.proofs.TextLaws.{decimal-short, put-size}
-use borrow.Author.Rules.{rules}
 use Rattle.text.proofs.put_decimal.Goals as goal
 
 pub put_digits-requires : goal.put_digits-requires

@@ -1,6 +1,5 @@
 -- `text::put_field` meets its contract.
 use Rattle.text.proofs.TextLaws.{put_then}
-use borrow.Author.Rules.{rules}
 use Rattle.text.proofs.put_field.Goals as goal
 
 pub returns : goal.returns

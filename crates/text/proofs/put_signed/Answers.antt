@@ -2,7 +2,6 @@
 use native.Mathlib.Omega.{arith}
 use lib.ListN.{length-set}
 use Rattle.text.proofs.SignLaws.{below-fits, below-cast, below_put, same-fits, same-put}
-use borrow.Author.Rules.{rules}
 use Rattle.text.proofs.put_signed.Goals as goal
 
 pub put_decimal-requires : goal.put_decimal-requires

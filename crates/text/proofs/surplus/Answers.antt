@@ -1,7 +1,6 @@
 -- `text::surplus` meets its contract.
 use native.Mathlib.Omega.{arith}
 use Rattle.text.proofs.SignLaws.{sub-fits, difference}
-use borrow.Author.Rules.{rules}
 use Rattle.text.proofs.surplus.Goals as goal
 
 pub overflow_sub-result : goal.overflow_sub-result
