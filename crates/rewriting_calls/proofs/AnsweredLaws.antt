@@ -21,7 +21,7 @@ use Rattle.rewriting.specs.declared.RewritingCall.{RewritingCall}
 use Rattle.rewriting.specs.declared.RewritingCall.TheVariants.{SimplifyGraph, CleanupSeqGraph}
 use Rattle.rewriting.proofs.RewritingLaws.{lent-cleanable}
 use Rattle.arrays.specs.Sized.{Lent}
-use Rattle.calls.specs.Sending.{fits, Sendable, RoomFits, Responds}
+use Rattle.calls.specs.Sending.{fits, Sendable, Responds}
 use Rattle.calls.specs.declared.Answer.{Answer}
 use Rattle.calls.proofs.SendLaws.{held-sendable, responds-refused, responds-as}
 use Rattle.calls.proofs.ResponseLaws.{respond-refused, respond-fits}
@@ -42,14 +42,23 @@ result-small CleanupSeqGraph g = status-small (cleanup_seq_graph g).status
 
 -- ---- a graph
 
--- what is lent is room enough to answer what is held
-pub lent-answerable : {bs es vs p heads nexts nodes mp starts tried sig : List ℕ} → Lent bs es vs p heads nexts nodes mp starts tried sig
-    → {x : Read} → HeldAs bs heads nexts x es vs p → {h : Held} → x ≡ read.Graph h → {f : Form} → f ≡ form_of bs
-    → HeldAnswerable f h es vs p heads nexts nodes mp starts tried sig
-lent-answerable {heads = heads} {nexts} Z A {h} ok e = record {
-  cleanable = lent-cleanable Z (A.holds h ok);
-  fits = subst (λ (g : Form). RoomFits g heads nexts) (sym e) Z.graph.fits;
-}
+-- what is lent is room enough to answer what is held, when it was written to
+pub lent-answerable : {bs es vs p heads nexts nodes mp starts tried sig es' vs' p' heads' nexts' nodes' mp' : List ℕ}
+    → Lent bs es vs p heads nexts nodes mp starts tried sig → length es' ≡ length es → length vs' ≡ length vs → length p' ≡ length p
+    → length heads' ≡ length heads → length nexts' ≡ length nexts → length nodes' ≡ length nodes → length mp' ≡ length mp
+    → {x : Read} → HeldAs bs heads' nexts' x es' vs' p' → {h : Held} → x ≡ read.Graph h → {f : Form} → f ≡ form_of bs
+    → HeldAnswerable f h es' vs' p' heads' nexts' nodes' mp' starts tried sig
+lent-answerable Z a b c d e f g A {h} ok form =
+    let F = Z.graph.fits in
+    record {
+      cleanable = lent-cleanable Z a b c d e f g (A.holds h ok);
+      fits = record {
+        vertices = rw (d, form) F.vertices;
+        edges = rw (e, form) F.edges;
+        vertices-most = rw d F.vertices-most;
+        edges_most = rw e F.edges_most;
+      };
+    }
 
 module _ {call : RewritingCall} {h : Held} {es vs p heads nexts : List ℕ} {r : Rewritten} {es' vs' p' : List ℕ}
     (G : GraphRewritten call h es vs p heads nexts r es' vs' p') where
