@@ -2,6 +2,7 @@
 use mathlib.Core.Path.{refl}
 use native.Mathlib.Omega.{arith}
 use Rattle.reading_calls.proofs.BytesLaws.{tell_none, tell-short, tell-whole}
+use borrow.Author.Rules.{rules}
 use Rattle.reading_calls.proofs.tell.Goals as goal
 
 pub returns-in_default : goal.returns-in_default
