@@ -1,13 +1,13 @@
 -- What was rewritten is sent. Assumes nothing.
 use mathlib.Core.Path.{◌≡◌, refl, sym, ap, ◌∙◌, subst}
 use mathlib.Core.List.{List}
-use Prim.Native.Nat.{ℕ, ◌≤◌, ◌<◌}
+use Prim.Native.Nat.{ℕ, ◌+◌, ◌/◌, ◌≤◌, ◌<◌}
 use native.Mathlib.Omega.{arith}
 use lib.ListN.{length}
 use Rattle.defs.specs.SeqGraph.{Graph}
 use Rattle.defs.specs.Cleanup.{Status, just_reference, some_variation, status_number, cleanup_seq_graph}
 use Rattle.defs.specs.Forms.{Form, form_of}
-use Rattle.defs.specs.Record.{sequence_graph, encode, decode}
+use Rattle.defs.specs.Record.{sequence_graph, vertices_of, edges_of, bytes_of, encode, decode}
 use Rattle.defs.specs.Refusals.{sequence_only, record_causes, record_refusal}
 use Rattle.memory.specs.Memory.{graph_of}
 use Rattle.memory.specs.declared.Held.{Held}
@@ -20,7 +20,8 @@ use Rattle.rewriting.specs.declared.Rewritten.{Rewritten}
 use Rattle.rewriting.specs.declared.RewritingCall.{RewritingCall}
 use Rattle.rewriting.specs.declared.RewritingCall.TheVariants.{SimplifyGraph, CleanupSeqGraph}
 use Rattle.rewriting.proofs.RewritingLaws.{lent-cleanable}
-use Rattle.arrays.specs.Sized.{Lent}
+use Rattle.arrays.specs.Sized.{ClassToRewrite, Lent}
+use Rattle.arrays.proofs.SizedLaws.{counts-read, counted-to-rewrite, both-class}
 use Rattle.calls.specs.Sending.{fits, Sendable, Responds}
 use Rattle.calls.specs.declared.Answer.{Answer}
 use Rattle.calls.proofs.SendLaws.{held-sendable, responds-refused, responds-as}
@@ -107,6 +108,13 @@ module _ {call : RewritingCall} {bs heads nexts : List ℕ} {x : Read} {es vs p 
   pub record-answered : {h : Held} → x ≡ read.Graph h → {f : Form} → f ≡ form_of bs → {r : RewritingAnswer} {out' : List ℕ}
       → HeldAnswered call f h es vs p out r out' → RewritingAnswered call bs out r out'
   record-answered {h} ok e H = H.is bs e (sym A.number ∙ number-graph ok) (A.is h ok)
+
+-- ---- a class
+
+-- by the counts of the record: n vertices, m edges and b bytes
+pub counted-class : (bs : List ℕ) {n m b v e : ℕ} → n ≡ vertices_of bs → m ≡ edges_of bs → b ≡ bytes_of bs → n + b < v → m + b / 4 + v ≤ e → e < 65536
+    → ClassToRewrite v e bs
+counted-class bs p q r few few-edges small = both-class (counted-to-rewrite bs (counts-read bs p q r) few few-edges) (omega (arith, few-edges)) small
 
 -- ---- a caller
 

@@ -4,7 +4,9 @@ use native.Mathlib.Omega.{arith}
 use Rattle.form.proofs.FormLaws.{is-1, is-2}
 use Rattle.arrays.proofs.SizedLaws.{all-to-rewrite, first-to-rewrite, short-to-rewrite, counted-to-rewrite, both-class, second-class}
 use Rattle.arrays.proofs.SizedLaws.{long-headed, counts-read}
+use Rattle.rewriting_calls.proofs.AnsweredLaws.{counted-class}
 use Rattle.arrays.specs.Sized.{FewToRewrite}
+use borrow.Author.Rules.{rules}
 use borrow.Author.Tests.{leb-true, ltb-true}
 use Rattle.rewriting_calls.proofs.by_class.Goals as goal
 use Rattle.rewriting_calls.proofs.by_class.Goals.{then-rec-le-HUGE_RECORD, else-rec-le-HUGE_RECORD+then-weight-lt-HUGE_VERTICES, else-rec-le-HUGE_RECORD+else-weight-lt-HUGE_VERTICES}
@@ -28,46 +30,16 @@ pub overflow_add-surplus : goal.overflow_add-surplus
 overflow_add-surplus c = omega (arith, c.edge_count.ensures.1, c.byte_count-bytes.ensures.1)
 
 pub answer_in-requires-then-surplus : goal.answer_in-requires-then-surplus
-answer_in-requires-then-surplus c = (
-  both-class
-      (
-      counted-to-rewrite _
-      (counts-read _ c.vertex_count.ensures.0 c.edge_count.ensures.0 c.byte_count-bytes.ensures.0)
-      c.if-weight-lt-SMALL_VERTICES.true
-      (omega (arith, c.if-surplus.true))
-      )
-      (omega arith)
-      (omega arith),
-  refl,
-)
+answer_in-requires-then-surplus c =
+    (counted-class _ c.vertex_count.ensures.0 c.edge_count.ensures.0 c.byte_count-bytes.ensures.0 (search rules) (search rules) (omega arith), refl)
 
 pub answer_in-requires-then-surplus-2 : goal.answer_in-requires-then-surplus-2
-answer_in-requires-then-surplus-2 c = (
-  both-class
-      (
-      counted-to-rewrite _
-      (counts-read _ c.vertex_count.ensures.0 c.edge_count.ensures.0 c.byte_count-bytes.ensures.0)
-      c.if-weight-lt-MEDIUM_VERTICES.true
-      (omega (arith, c.if-surplus-2.true))
-      )
-      (omega arith)
-      (omega arith),
-  refl,
-)
+answer_in-requires-then-surplus-2 c =
+    (counted-class _ c.vertex_count.ensures.0 c.edge_count.ensures.0 c.byte_count-bytes.ensures.0 (search rules) (search rules) (omega arith), refl)
 
 pub answer_in-requires-then-surplus-3 : goal.answer_in-requires-then-surplus-3
-answer_in-requires-then-surplus-3 c = (
-  both-class
-      (
-      counted-to-rewrite _
-      (counts-read _ c.vertex_count.ensures.0 c.edge_count.ensures.0 c.byte_count-bytes.ensures.0)
-      c.if-weight-lt-LARGE_VERTICES.true
-      (omega (arith, c.if-surplus-3.true))
-      )
-      (omega arith)
-      (omega arith),
-  refl,
-)
+answer_in-requires-then-surplus-3 c =
+    (counted-class _ c.vertex_count.ensures.0 c.edge_count.ensures.0 c.byte_count-bytes.ensures.0 (search rules) (search rules) (omega arith), refl)
 
 pub answer_in-requires-in-Sgr1 : goal.answer_in-requires-in-Sgr1
 answer_in-requires-in-Sgr1 c =
