@@ -2,6 +2,7 @@
 use Rattle.std.specs.Prelude.{◌≡◌, List, ℕ, ◌+◌, ◌*◌, ◌/◌, ◌≤◌, ◌<◌, length}
 use Rattle.defs.specs.Forms.{form_of}
 use Rattle.defs.specs.Record.{kind_of, vertices_of, edges_of, bytes_of}
+use Rattle.form.specs.Coded.{word_limit}
 use Rattle.record.specs.Layout.{WellFormed}
 use Rattle.memory.specs.Memory.{vertex_room, edge_room, signature_room, Room, Scratch}
 use Rattle.accept.specs.Accept.{RoomToRead}
@@ -13,6 +14,13 @@ use Rattle.calls.specs.Sending.{RoomFits}
 pub record FewToRead (v e : ℕ) (bs : List ℕ) : Type 0 where
   pub vertices : WellFormed bs → vertices_of bs ≤ v
   pub edges : WellFormed bs → edges_of bs ≤ e
+
+-- the class of v vertices and e edges is for the record bs: enough to read it, and no more than the limits of SGR2
+pub record ClassToRead (v e : ℕ) (bs : List ℕ) : Type 0 where
+  pub few : FewToRead v e bs
+  pub more_edges : v ≤ e
+  pub vertices-most : v ≤ 32768
+  pub edges-most : e ≤ 65536
 
 -- the lengths of arrays for v vertices and e edges (`RoomToRead`)
 pub record SizedToRead (v e : ℕ) (es vs heads nexts nodes mp : List ℕ) : Type 0 where
@@ -43,6 +51,14 @@ pub record FewToRewrite (v e : ℕ) (bs : List ℕ) : Type 0 where
   pub vertices : WellFormed bs → kind_of bs ≡ 1 → vertices_of bs < v
   pub weight : WellFormed bs → kind_of bs ≡ 1 → vertices_of bs + bytes_of bs ≤ v
   pub edges : WellFormed bs → kind_of bs ≡ 1 → edges_of bs + bytes_of bs / 4 + v ≤ e
+
+-- the class of v vertices and e edges is for the record bs: enough for every rewrite of its graph, and no more than fits a record of its form
+pub record ClassToRewrite (v e : ℕ) (bs : List ℕ) : Type 0 where
+  pub few : FewToRewrite v e bs
+  pub more_edges : v ≤ e
+  pub vertices-most : v ≤ 163840
+  pub edges-most : e ≤ 262144
+  pub fits : e < word_limit (form_of bs)
 
 -- what decides about the class of a record, by its counts: vertices and bytes together, edges and a quarter of the bytes
 pub record CountedAt (weight surplus : ℕ) (bs : List ℕ) : Type 0 where

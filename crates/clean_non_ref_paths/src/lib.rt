@@ -10,6 +10,5 @@ use reading_calls::ReadingCall;
 pub fn clean_non_ref_paths(rec: &[u8], out: &mut [u8], caller: u32) -> Answer
     ensures { CleansPaths rec.now out.old caller result out.new }
 {
-    let none = [0u32; 0];
-    reading_calls::answer(ReadingCall::CleanNonRefPaths, &none, rec, out, caller)
+    reading_calls::answer(ReadingCall::CleanNonRefPaths, &[], rec, out, caller)
 }

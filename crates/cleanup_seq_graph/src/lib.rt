@@ -10,6 +10,5 @@ pub fn cleanup_seq_graph(rec: &[u8], out: &mut [u8], caller: u32) -> CountedClea
     ensures { CleansCounted rec.now out.old caller result out.new }
 {
     let r = rewriting_calls::answer(RewritingCall::CleanupSeqGraph, rec, out, caller);
-    let sent = r.sent;
-    calls::cleanup_answer(sent, r.status, r.rewrites)
+    calls::cleanup_answer(r.sent, r.status, r.rewrites)
 }

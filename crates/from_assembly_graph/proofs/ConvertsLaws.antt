@@ -1,5 +1,5 @@
 -- The promise of from_assembly_graph. Assumes nothing.
-use mathlib.Core.Path.{◌≡◌, refl, sym, ap, ◌∙◌, subst}
+use mathlib.Core.Path.{◌≡◌, refl, sym, ◌∙◌, subst}
 use mathlib.Core.List.{List, [], ◌∷◌}
 use Prim.Native.Nat.{ℕ, ◌≤◌, ◌<◌}
 use native.Mathlib.Omega.{arith}
@@ -27,7 +27,8 @@ use Rattle.calls.proofs.SendLaws.{sends-refused}
 use Rattle.calls.proofs.ResponseLaws.{answered-holds, room-enough}
 use Rattle.calls.proofs.CallerLaws.{caller-other, caller-none, sends-above, sends-within}
 use Rattle.overlap.proofs.Runs.{order-converted, sources-hold-kmers, runs-are-kmers}
-use Rattle.arrays.specs.Sized.{FewToRead}
+use Rattle.arrays.specs.Sized.{ClassToRead}
+use Rattle.arrays.proofs.SizedLaws.{room-to-mark-kept}
 use Rattle.memory.specs.declared.Held.{Held}
 use Rattle.accept.specs.Accept.{RoomToMark}
 use Rattle.accept.specs.declared.Read.{Read}
@@ -164,27 +165,39 @@ module _ (bs : List ℕ) {caller : ℕ} {out : List ℕ} (small : Bytes bs) wher
 
 -- ---- room
 
-module _ {v e : ℕ} {bs es vs heads nexts order scratch place : List ℕ} (F : FewToRead v e bs) (more : v ≤ e) where
-  pub room-to-read-kmers : SizedToReadKmers v e es vs heads nexts order scratch place → RoomToMark bs es vs heads nexts order scratch place
+module _ {v e : ℕ} {bs es vs heads nexts order scratch place : List ℕ} (C : ClassToRead v e bs) where
+  room-to-read-kmers : SizedToReadKmers v e es vs heads nexts order scratch place → RoomToMark bs es vs heads nexts order scratch place
   room-to-read-kmers Z = record {
     reading = record {
-      room = λ W. record {
-        es-room = omega (arith, F.edges W, Z.es-is);
-        vs-room = omega (arith, F.vertices W, Z.vs-is);
-        heads-room = omega (arith, F.vertices W, Z.heads-is);
-        nexts-room = omega (arith, F.edges W, Z.nexts-is);
-        nodes-room = omega (arith, F.vertices W, more, Z.order_is);
-        mp-room = omega (arith, F.vertices W, more, Z.scratch-is);
+      room = λ W. let a = C.few.vertices W in let b = C.few.edges W in record {
+        es-room = omega (arith, b, Z.es-is);
+        vs-room = omega (arith, a, Z.vs-is);
+        heads-room = omega (arith, a, Z.heads-is);
+        nexts-room = omega (arith, b, Z.nexts-is);
+        nodes-room = omega (arith, a, C.more_edges, Z.order_is);
+        mp-room = omega (arith, a, C.more_edges, Z.scratch-is);
       };
     };
-    marks-room = λ W. omega (arith, F.vertices W, Z.place_is);
+    marks-room = λ W. omega (arith, C.few.vertices W, Z.place_is);
   }
 
   pub room-to-convert : {sorted : List ℕ} → SizedToConvert v e es vs heads nexts order scratch place sorted
       → RoomToConvert bs es vs heads nexts order scratch place sorted
   room-to-convert Z = record {
     reading = room-to-read-kmers Z.reading;
-    order-room = λ W. omega (arith, F.edges W, Z.reading.order_is);
-    scratch-room = λ W. omega (arith, F.edges W, Z.reading.scratch-is);
-    sorted-room = λ W. omega (arith, F.edges W, Z.sorted-is);
+    order-room = λ W. omega (arith, C.few.edges W, Z.reading.order_is);
+    scratch-room = λ W. omega (arith, C.few.edges W, Z.reading.scratch-is);
+    sorted-room = λ W. omega (arith, C.few.edges W, Z.sorted-is);
   }
+
+-- the same slices when a graph was read into them: still as long
+pub room-to-convert-kept : {bs es vs heads nexts order scratch place sorted es' vs' heads' nexts' order' scratch' place' : List ℕ}
+    → RoomToConvert bs es vs heads nexts order scratch place sorted → length es' ≡ length es → length vs' ≡ length vs → length heads' ≡ length heads
+    → length nexts' ≡ length nexts → length order' ≡ length order → length scratch' ≡ length scratch → length place' ≡ length place
+    → RoomToConvert bs es' vs' heads' nexts' order' scratch' place' sorted
+room-to-convert-kept R a b c d e f g = record {
+  reading = room-to-mark-kept R.reading a b c d e f g;
+  order-room = λ W. omega (arith, e, R.order-room W);
+  scratch-room = λ W. omega (arith, f, R.scratch-room W);
+  sorted-room = R.sorted-room;
+}

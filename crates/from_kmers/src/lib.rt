@@ -25,11 +25,9 @@ pub fn convert(
     ensures { KmersConverted (form_is form) held es.now vs.old heads.now nexts.now order.old result
         sorted.new vs.new }
 {
-    let n = held.n;
-    let m = held.m;
-    convert::edges_sorted(es, m, n, order, scratch, place, sorted);
-    convert::additional_sequences(es, m, n, heads, nexts, vs);
-    if form::most_bytes(form) < write_record::sequence_bytes(vs, n) {
+    convert::edges_sorted(es, held.m, held.n, order, scratch, place, sorted);
+    convert::additional_sequences(es, held.m, held.n, heads, nexts, vs);
+    if form::most_bytes(form) < write_record::sequence_bytes(vs, held.n) {
         return Read::Refused(8);
     }
     Read::Graph(held)

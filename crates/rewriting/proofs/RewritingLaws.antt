@@ -12,6 +12,7 @@ use Rattle.record.specs.Layout.{WellFormed}
 use Rattle.record.proofs.Accepted.{sequence-kind}
 use Rattle.memory.specs.Memory.{graph_of}
 use Rattle.memory.specs.declared.Held.{Held}
+use Rattle.memory.proofs.RoomLaws.{room-kept}
 use Rattle.load.specs.Loaded.{Poolable, SequencesPooled}
 use Rattle.load.proofs.LoadLaws.{formed-laid, pooled-graph}
 use Rattle.sound.proofs.Accepted.{accepted-early, accepted-layout}
@@ -111,13 +112,15 @@ module _ {bs : List ℕ} {x : Read} {es vs : List ℕ} (A : ReadAs bs x es vs) {
           refused = λ n q. not-both refl q;
         }
 
--- what is lent is room enough to rewrite what is held
-pub lent-cleanable : {bs es vs p heads nexts nodes mp starts tried sig : List ℕ} → Lent bs es vs p heads nexts nodes mp starts tried sig → {h : Held}
-    → HoldsLean h es vs p heads nexts → Cleanable h es vs p heads nexts nodes mp starts tried sig
-lent-cleanable Z H = record {
-  room = Z.graph.room;
+-- what is lent is room enough to rewrite what is held, when it was written to
+pub lent-cleanable : {bs es vs p heads nexts nodes mp starts tried sig es' vs' p' heads' nexts' nodes' mp' : List ℕ}
+    → Lent bs es vs p heads nexts nodes mp starts tried sig → length es' ≡ length es → length vs' ≡ length vs → length p' ≡ length p
+    → length heads' ≡ length heads → length nexts' ≡ length nexts → length nodes' ≡ length nodes → length mp' ≡ length mp
+    → {h : Held} → HoldsLean h es' vs' p' heads' nexts' → Cleanable h es' vs' p' heads' nexts' nodes' mp' starts tried sig
+lent-cleanable Z a b c d e f g H = record {
+  room = room-kept Z.graph.room a b c d e f g;
   holds = H;
-  scratch = Z.scratch;
-  sig-room = Z.sig-room;
-  countable = record { small = omega (arith, Z.graph.fits.vertices-most) };
+  scratch = record { starts-room = rw d Z.scratch.starts-room; tried-room = rw d Z.scratch.tried-room };
+  sig-room = rw (d, e) Z.sig-room;
+  countable = record { small = omega (arith, d, Z.graph.fits.vertices-most) };
 }

@@ -71,9 +71,8 @@ fn simplify(
         tried,
         sig,
     );
-    let left = s.held;
     Rewritten {
-        held: left,
+        held: s.held,
         status: 0,
         rewrites: s.rewrites,
         rounds: s.rounds,
@@ -101,12 +100,9 @@ fn clean_up(
     let c = cleanup_steps::cleanup_seq_graph(
         held, es, vs, p, heads, nexts, nodes, map, starts, tried, sig,
     );
-    let left = c.held;
-    let end = c.status;
-    let status = status_number(end);
     Rewritten {
-        held: left,
-        status: status,
+        held: c.held,
+        status: status_number(c.status),
         rewrites: c.rewrites,
         rounds: 0,
         end: 0,
@@ -132,16 +128,12 @@ pub fn rewrite(
         es.new vs.new p.new }
 {
     match call {
-        RewritingCall::SimplifyGraph => {
-            return simplify(
-                held, es, vs, p, heads, nexts, nodes, map, starts, tried, sig,
-            );
-        }
-        RewritingCall::CleanupSeqGraph => {
-            return clean_up(
-                held, es, vs, p, heads, nexts, nodes, map, starts, tried, sig,
-            );
-        }
+        RewritingCall::SimplifyGraph => simplify(
+            held, es, vs, p, heads, nexts, nodes, map, starts, tried, sig,
+        ),
+        RewritingCall::CleanupSeqGraph => clean_up(
+            held, es, vs, p, heads, nexts, nodes, map, starts, tried, sig,
+        ),
     }
 }
 
@@ -163,6 +155,5 @@ pub fn read_and_hold(
         Read::Graph(held) => held,
         Read::Refused(number) => return Read::Refused(number),
     };
-    let pooled = load::load_pool(rec, held, vs, p);
-    Read::Graph(pooled)
+    Read::Graph(load::load_pool(rec, held, vs, p))
 }

@@ -1,13 +1,13 @@
 -- What was rewritten is sent. Assumes nothing.
 use mathlib.Core.Path.{◌≡◌, refl, sym, ap, ◌∙◌, subst}
 use mathlib.Core.List.{List}
-use Prim.Native.Nat.{ℕ, ◌≤◌, ◌<◌}
+use Prim.Native.Nat.{ℕ, ◌+◌, ◌/◌, ◌≤◌, ◌<◌}
 use native.Mathlib.Omega.{arith}
 use lib.ListN.{length}
 use Rattle.defs.specs.SeqGraph.{Graph}
 use Rattle.defs.specs.Cleanup.{Status, just_reference, some_variation, status_number, cleanup_seq_graph}
 use Rattle.defs.specs.Forms.{Form, form_of}
-use Rattle.defs.specs.Record.{sequence_graph, encode, decode}
+use Rattle.defs.specs.Record.{sequence_graph, vertices_of, edges_of, bytes_of, encode, decode}
 use Rattle.defs.specs.Refusals.{sequence_only, record_causes, record_refusal}
 use Rattle.memory.specs.Memory.{graph_of}
 use Rattle.memory.specs.declared.Held.{Held}
@@ -20,8 +20,9 @@ use Rattle.rewriting.specs.declared.Rewritten.{Rewritten}
 use Rattle.rewriting.specs.declared.RewritingCall.{RewritingCall}
 use Rattle.rewriting.specs.declared.RewritingCall.TheVariants.{SimplifyGraph, CleanupSeqGraph}
 use Rattle.rewriting.proofs.RewritingLaws.{lent-cleanable}
-use Rattle.arrays.specs.Sized.{Lent}
-use Rattle.calls.specs.Sending.{fits, Sendable, RoomFits, Responds}
+use Rattle.arrays.specs.Sized.{ClassToRewrite, Lent}
+use Rattle.arrays.proofs.SizedLaws.{counts-read, counted-to-rewrite, both-class}
+use Rattle.calls.specs.Sending.{fits, Sendable, Responds}
 use Rattle.calls.specs.declared.Answer.{Answer}
 use Rattle.calls.proofs.SendLaws.{held-sendable, responds-refused, responds-as}
 use Rattle.calls.proofs.ResponseLaws.{respond-refused, respond-fits}
@@ -42,14 +43,23 @@ result-small CleanupSeqGraph g = status-small (cleanup_seq_graph g).status
 
 -- ---- a graph
 
--- what is lent is room enough to answer what is held
-pub lent-answerable : {bs es vs p heads nexts nodes mp starts tried sig : List ℕ} → Lent bs es vs p heads nexts nodes mp starts tried sig
-    → {x : Read} → HeldAs bs heads nexts x es vs p → {h : Held} → x ≡ read.Graph h → {f : Form} → f ≡ form_of bs
-    → HeldAnswerable f h es vs p heads nexts nodes mp starts tried sig
-lent-answerable {heads = heads} {nexts} Z A {h} ok e = record {
-  cleanable = lent-cleanable Z (A.holds h ok);
-  fits = subst (λ (g : Form). RoomFits g heads nexts) (sym e) Z.graph.fits;
-}
+-- what is lent is room enough to answer what is held, when it was written to
+pub lent-answerable : {bs es vs p heads nexts nodes mp starts tried sig es' vs' p' heads' nexts' nodes' mp' : List ℕ}
+    → Lent bs es vs p heads nexts nodes mp starts tried sig → length es' ≡ length es → length vs' ≡ length vs → length p' ≡ length p
+    → length heads' ≡ length heads → length nexts' ≡ length nexts → length nodes' ≡ length nodes → length mp' ≡ length mp
+    → {x : Read} → HeldAs bs heads' nexts' x es' vs' p' → {h : Held} → x ≡ read.Graph h → {f : Form} → f ≡ form_of bs
+    → HeldAnswerable f h es' vs' p' heads' nexts' nodes' mp' starts tried sig
+lent-answerable Z a b c d e f g A {h} ok form =
+    let F = Z.graph.fits in
+    record {
+      cleanable = lent-cleanable Z a b c d e f g (A.holds h ok);
+      fits = record {
+        vertices = rw (d, form) F.vertices;
+        edges = rw (e, form) F.edges;
+        vertices-most = rw d F.vertices-most;
+        edges_most = rw e F.edges_most;
+      };
+    }
 
 module _ {call : RewritingCall} {h : Held} {es vs p heads nexts : List ℕ} {r : Rewritten} {es' vs' p' : List ℕ}
     (G : GraphRewritten call h es vs p heads nexts r es' vs' p') where
@@ -98,6 +108,13 @@ module _ {call : RewritingCall} {bs heads nexts : List ℕ} {x : Read} {es vs p 
   pub record-answered : {h : Held} → x ≡ read.Graph h → {f : Form} → f ≡ form_of bs → {r : RewritingAnswer} {out' : List ℕ}
       → HeldAnswered call f h es vs p out r out' → RewritingAnswered call bs out r out'
   record-answered {h} ok e H = H.is bs e (sym A.number ∙ number-graph ok) (A.is h ok)
+
+-- ---- a class
+
+-- by the counts of the record: n vertices, m edges and b bytes
+pub counted-class : (bs : List ℕ) {n m b v e : ℕ} → n ≡ vertices_of bs → m ≡ edges_of bs → b ≡ bytes_of bs → n + b < v → m + b / 4 + v ≤ e → e < 65536
+    → ClassToRewrite v e bs
+counted-class bs p q r few few-edges small = both-class (counted-to-rewrite bs (counts-read bs p q r) few few-edges) (omega (arith, few-edges)) small
 
 -- ---- a caller
 

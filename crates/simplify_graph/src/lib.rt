@@ -10,6 +10,5 @@ pub fn simplify_graph(rec: &[u8], out: &mut [u8], caller: u32) -> SimplifyAnswer
     ensures { Simplifies rec.now out.old caller result out.new }
 {
     let r = rewriting_calls::answer(RewritingCall::SimplifyGraph, rec, out, caller);
-    let sent = r.sent;
-    calls::simplify_answer(sent, r.rewrites, r.rounds, r.end)
+    calls::simplify_answer(r.sent, r.rewrites, r.rounds, r.end)
 }

@@ -12,8 +12,7 @@ use reading_calls::ReadingCall;
 pub fn reference_path_bytes(rec: &[u8], out: &mut [u8], caller: u32) -> Answer
     ensures { TellsBytes rec.now (reference_path_bytes_response rec.now (length out.old) caller) out.old result out.new }
 {
-    let none = [0u32; 0];
-    reading_calls::answer(ReadingCall::ReferencePathBytes, &none, rec, out, caller)
+    reading_calls::answer(ReadingCall::ReferencePathBytes, &[], rec, out, caller)
 }
 
 // 9 where the start or the list of edges is no path.

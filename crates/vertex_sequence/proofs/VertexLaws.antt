@@ -2,7 +2,7 @@
 use mathlib.Core.Path.{◌≡◌, refl, sym, ◌∙◌}
 use mathlib.Core.Bool.{Bool, true, false, cond, ◌&&◌, ◌||◌}
 use mathlib.Core.List.{List, []}
-use Prim.Native.Nat.{ℕ, ◌+◌, ◌*◌, ◌≤◌, ◌<◌}
+use Prim.Native.Nat.{ℕ, ◌+◌, ◌≤◌, ◌<◌}
 use native.Mathlib.Omega.{arith}
 use native.Mathlib.Decide.{ℕ_discrete}
 use lib.ListN.{length, take, drop}
@@ -38,7 +38,6 @@ use Rattle.sound.proofs.Accepted.{refused-early, refused-6, refused-7, accepted,
 use Rattle.sequence.specs.Part.{Part}
 use Rattle.read_kmers.specs.Kmers.{Doubles}
 use Rattle.accept.specs.Accept.{RoomFor, RoomToMark}
-use Rattle.arrays.specs.Sized.{FewToRead}
 use Rattle.calls.proofs.CauseLaws.{behind-refused, behind-present, behind-absent}
 use Rattle.vertex_sequence.specs.Checks.{Checkable, Checks, LoadedToCheck}
 use Rattle.vertex_sequence.specs.Handed.{Handed, Placed}
@@ -83,13 +82,13 @@ module _ (bs : List ℕ) {r : Layout} (e : r ≡ layout_of (refusal_of (layout_c
     unfolding takes_of
     layout-none = formed-none both_kinds bs e ok
 
-    -- in arrays for a vertices and b edges
-    pub number-loadable : {a b : ℕ} → FewToRead a b bs → {es vs : List ℕ} → length es ≡ 4 * b → length vs ≡ 2 * a
+    pub number-loadable : {es vs heads nexts order scratch place : List ℕ} → RoomToMark bs es vs heads nexts order scratch place
         → (k.0 ≡ k_of bs) × Loadable bs es vs
-    number-loadable F p q =
-        let formed = well-formed both_kinds bs layout-none in (
+    number-loadable R =
+        let formed = well-formed both_kinds bs layout-none in
+        let room = R.reading.room formed in (
           formed-size (takes_of BothKinds) bs e ok,
-          record { laid = formed-laid formed; es-room = omega (arith, F.edges formed); vs-room = omega (arith, F.vertices formed) },
+          record { laid = formed-laid formed; es-room = room.es-room; vs-room = room.vs-room },
         )
 
     pub loaded-to-check : {h : Held} {es vs heads nexts order scratch place : List ℕ} → Loaded bs h es vs

@@ -2,24 +2,21 @@
 #![tactic(auto)]
 
 ghost use Rattle.std.specs.Prelude.{◌≡◌, ◌&&◌, ◌||◌};
-ghost use Rattle.defs.specs.Forms.{form_of};
-ghost use Rattle.defs.specs.Record.{vertices_of, edges_of};
 ghost use Rattle.defs.specs.Refusals.{both_kinds, record_refusal, doubled_edge, equal_kmers};
 ghost use Rattle.defs.specs.Calls.{vertex_sequence_number};
-ghost use Rattle.form.specs.Coded.{form_is};
 ghost use Rattle.store.specs.Store.{edges_in, seqs_in};
 ghost use Rattle.index.specs.Index.{Indexed};
 ghost use Rattle.doubled.specs.Doubled.{Markable};
+ghost use Rattle.accept.specs.Accept.{RoomToMark};
 ghost use Rattle.sort.specs.Sort.{Sortable};
 ghost use Rattle.kmer_order.specs.Order.{ReadableSequence};
-ghost use Rattle.arrays.specs.Sized.{FewToRead};
+ghost use Rattle.arrays.specs.Sized.{ClassToRead};
 ghost use Rattle.vertex_sequence.specs.Checks.{Checkable, Checks, LoadedToCheck};
 ghost use Rattle.vertex_sequence.specs.Handed.{Handed, Placed};
 
 use arrays::{
-    FEW_EDGES, FEW_VERTICES, MANY_EDGES, MANY_VERTICES, MOST_EDGES, MOST_VERTICES, SMALL_RECORD,
+    FEW_EDGES, FEW_VERTICES, MANY_EDGES, MANY_VERTICES, MOST_EDGES, MOST_VERTICES, ReadingClass,
 };
-use form::Form;
 use memory::Held;
 use record::{Layout, Takes};
 
@@ -111,18 +108,18 @@ fn loaded_number(
     )
 }
 
-// The refusal number of a record, 1 to 7, or 0, in whole arrays, whose lengths are known. A record is read here, and not in a function that all
-// classes call: were there only one call here, the compiler would lay this function's caller, and so the frames of all classes, into one.
-fn vast_with(
+// The refusal number of a record, 1 to 7, or 0, which is read into slices that have room for it.
+fn check_lent(
     rec: &[u8],
-    es: &mut [u32; 4 * MOST_EDGES],
-    vs: &mut [u32; 2 * MOST_VERTICES],
-    heads: &mut [u32; 2 * MOST_VERTICES],
-    nexts: &mut [u32; 2 * MOST_EDGES],
-    order: &mut [u32; MOST_VERTICES],
-    scratch: &mut [u32; MOST_VERTICES],
-    place: &mut [u32; MOST_VERTICES],
+    es: &mut [u32],
+    vs: &mut [u32],
+    heads: &mut [u32],
+    nexts: &mut [u32],
+    order: &mut [u32],
+    scratch: &mut [u32],
+    place: &mut [u32],
 ) -> u32
+    requires { RoomToMark rec.now es.old vs.old heads.old nexts.old order.old scratch.old place.old }
     ensures { result ≡ record_refusal both_kinds rec.now }
 {
     let k = match record::check_layout(rec, Takes::BothKinds) {
@@ -133,152 +130,40 @@ fn vast_with(
     loaded_number(rec, held, es, vs, heads, nexts, order, scratch, place)
 }
 
-fn vast(rec: &[u8]) -> u32
+// In the arrays of the class of V vertices and E edges. Never laid into the caller: its frame would have the arrays of all classes, and every record
+// would take them.
+#[inline(never)]
+fn check_in<const V: usize, const E: usize>(rec: &[u8]) -> u32
+    requires { ClassToRead V E rec.now }
     ensures { result ≡ record_refusal both_kinds rec.now }
 {
-    let mut es = [0u32; 4 * MOST_EDGES];
-    let mut vs = [0u32; 2 * MOST_VERTICES];
-    let mut heads = [0u32; 2 * MOST_VERTICES];
-    let mut nexts = [0u32; 2 * MOST_EDGES];
-    let mut order = [0u32; MOST_VERTICES];
-    let mut scratch = [0u32; MOST_VERTICES];
-    let mut place = [0u32; MOST_VERTICES];
-    vast_with(
+    let mut es = [[0u32; 4]; E];
+    let mut vs = [[0u32; 2]; V];
+    let mut heads = [[0u32; 2]; V];
+    let mut nexts = [[0u32; 2]; E];
+    let mut order = [0u32; V];
+    let mut scratch = [0u32; V];
+    let mut place = [0u32; V];
+    check_lent(
         rec,
-        &mut es,
-        &mut vs,
-        &mut heads,
-        &mut nexts,
+        es.as_flattened_mut(),
+        vs.as_flattened_mut(),
+        heads.as_flattened_mut(),
+        nexts.as_flattened_mut(),
         &mut order,
         &mut scratch,
         &mut place,
     )
 }
 
-fn large_with(
-    rec: &[u8],
-    es: &mut [u32; 4 * MANY_EDGES],
-    vs: &mut [u32; 2 * MANY_VERTICES],
-    heads: &mut [u32; 2 * MANY_VERTICES],
-    nexts: &mut [u32; 2 * MANY_EDGES],
-    order: &mut [u32; MANY_VERTICES],
-    scratch: &mut [u32; MANY_VERTICES],
-    place: &mut [u32; MANY_VERTICES],
-) -> u32
-    requires { FewToRead 2048 4096 rec.now }
-    ensures { result ≡ record_refusal both_kinds rec.now }
-{
-    let k = match record::check_layout(rec, Takes::BothKinds) {
-        Layout::Formed(k) => k,
-        Layout::Refused(number) => return number,
-    };
-    let held = load::load_graph(rec, k, es, vs);
-    loaded_number(rec, held, es, vs, heads, nexts, order, scratch, place)
-}
-
-fn large(rec: &[u8]) -> u32
-    requires { FewToRead 2048 4096 rec.now }
-    ensures { result ≡ record_refusal both_kinds rec.now }
-{
-    let mut es = [0u32; 4 * MANY_EDGES];
-    let mut vs = [0u32; 2 * MANY_VERTICES];
-    let mut heads = [0u32; 2 * MANY_VERTICES];
-    let mut nexts = [0u32; 2 * MANY_EDGES];
-    let mut order = [0u32; MANY_VERTICES];
-    let mut scratch = [0u32; MANY_VERTICES];
-    let mut place = [0u32; MANY_VERTICES];
-    large_with(
-        rec,
-        &mut es,
-        &mut vs,
-        &mut heads,
-        &mut nexts,
-        &mut order,
-        &mut scratch,
-        &mut place,
-    )
-}
-
-fn small_with(
-    rec: &[u8],
-    es: &mut [u32; 4 * FEW_EDGES],
-    vs: &mut [u32; 2 * FEW_VERTICES],
-    heads: &mut [u32; 2 * FEW_VERTICES],
-    nexts: &mut [u32; 2 * FEW_EDGES],
-    order: &mut [u32; FEW_VERTICES],
-    scratch: &mut [u32; FEW_VERTICES],
-    place: &mut [u32; FEW_VERTICES],
-) -> u32
-    requires { FewToRead 512 512 rec.now }
-    ensures { result ≡ record_refusal both_kinds rec.now }
-{
-    let k = match record::check_layout(rec, Takes::BothKinds) {
-        Layout::Formed(k) => k,
-        Layout::Refused(number) => return number,
-    };
-    let held = load::load_graph(rec, k, es, vs);
-    loaded_number(rec, held, es, vs, heads, nexts, order, scratch, place)
-}
-
-fn small(rec: &[u8]) -> u32
-    requires { FewToRead 512 512 rec.now }
-    ensures { result ≡ record_refusal both_kinds rec.now }
-{
-    let mut es = [0u32; 4 * FEW_EDGES];
-    let mut vs = [0u32; 2 * FEW_VERTICES];
-    let mut heads = [0u32; 2 * FEW_VERTICES];
-    let mut nexts = [0u32; 2 * FEW_EDGES];
-    let mut order = [0u32; FEW_VERTICES];
-    let mut scratch = [0u32; FEW_VERTICES];
-    let mut place = [0u32; FEW_VERTICES];
-    small_with(
-        rec,
-        &mut es,
-        &mut vs,
-        &mut heads,
-        &mut nexts,
-        &mut order,
-        &mut scratch,
-        &mut place,
-    )
-}
-
-// A record past the small class. One that does not begin SGR2 is refused, if it is, by the limits of SGR1, for which the large arrays are enough.
-fn past_small(rec: &[u8], form: Form, vertices: usize, edges: usize) -> u32
-    requires { (form_is form ≡ form_of rec.now) × ((vertices ≡ vertices_of rec.now) × (edges ≡ edges_of rec.now)) }
-    ensures { result ≡ record_refusal both_kinds rec.now }
-{
-    match form {
-        Form::Sgr1 => return large(rec),
-        Form::Sgr2 => {}
-    }
-    if MANY_VERTICES < vertices {
-        return vast(rec);
-    }
-    if MANY_EDGES < edges {
-        return vast(rec);
-    }
-    large(rec)
-}
-
-// In the arrays of the record's class. Those of each but the small one stand behind two tests: with one call of a function that has arrays the
-// compiler would lay its frame into this one, and every record would take it.
 fn checked_record(rec: &[u8]) -> u32
     ensures { result ≡ record_refusal both_kinds rec.now }
 {
-    if rec.len() <= SMALL_RECORD {
-        return small(rec);
+    match arrays::class_to_read(rec) {
+        ReadingClass::Small => check_in::<FEW_VERTICES, FEW_EDGES>(rec),
+        ReadingClass::Large => check_in::<MANY_VERTICES, MANY_EDGES>(rec),
+        ReadingClass::Vast => check_in::<MOST_VERTICES, MOST_EDGES>(rec),
     }
-    let form = form::form_of(rec);
-    let vertices = record::vertex_count(rec, form);
-    let edges = record::edge_count(rec, form);
-    if FEW_VERTICES < vertices {
-        return past_small(rec, form, vertices, edges);
-    }
-    if FEW_EDGES < edges {
-        return past_small(rec, form, vertices, edges);
-    }
-    small(rec)
 }
 
 // The record's number, or 9 where v is no vertex, or 0.

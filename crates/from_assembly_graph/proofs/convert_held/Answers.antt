@@ -1,6 +1,5 @@
 -- `from_assembly_graph::convert_held` meets its contract.
 use Rattle.from_assembly_graph.proofs.ConvertsLaws.{held-convertible, made-sendable, made-sent}
-use borrow.Author.Rules.{rules}
 use Rattle.from_assembly_graph.proofs.convert_held.Goals as goal
 
 pub convert-made-requires : goal.convert-made-requires

@@ -1,7 +1,6 @@
 -- `from_assembly_graph::from_assembly_graph` meets its contract.
 use native.Mathlib.Omega.{arith}
 use Rattle.from_assembly_graph.proofs.ConvertsLaws.{converts-refused, converts-sent}
-use borrow.Author.Rules.{rules}
 use Rattle.from_assembly_graph.proofs.from_assembly_graph.Goals as goal
 
 pub returns-then-caller-gt-LAST_CALLER : goal.returns-then-caller-gt-LAST_CALLER

@@ -1,6 +1,5 @@
 -- `from_kmers::convert` meets its contract.
 use Rattle.from_kmers.proofs.ConversionLaws.{countable, over, done}
-use borrow.Author.Rules.{rules}
 use Rattle.from_kmers.proofs.convert.Goals as goal
 
 pub sequence_bytes-requires : goal.sequence_bytes-requires

@@ -1,6 +1,5 @@
 -- `reading_calls::answer` meets its contract.
 use Rattle.reading_calls.proofs.ReadingLaws.{caller-refused, caller-answered}
-use borrow.Author.Rules.{rules}
 use Rattle.reading_calls.proofs.answer.Goals as goal
 
 pub returns-then-caller-gt-LAST_CALLER : goal.returns-then-caller-gt-LAST_CALLER

@@ -1,6 +1,5 @@
 -- `reading_calls::answer_graph` meets its contract.
 use Rattle.reading_calls.proofs.ReadingLaws.{answer-cleaned, answer-reference, answer-path}
-use borrow.Author.Rules.{rules}
 use Rattle.reading_calls.proofs.answer_graph.Goals as goal
 
 pub returns-in-CleanNonRefPaths : goal.returns-in-CleanNonRefPaths

@@ -1,6 +1,5 @@
 -- `reading_calls::clean_in` meets its contract.
 use Rattle.reading_calls.proofs.ReadingLaws.{answerable-walkable, cleaned-sendable, cleaned-answered}
-use borrow.Author.Rules.{rules}
 use Rattle.reading_calls.proofs.clean_in.Goals as goal
 
 pub clean_non_ref_paths-cleaned-requires : goal.clean_non_ref_paths-cleaned-requires

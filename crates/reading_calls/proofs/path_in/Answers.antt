@@ -1,6 +1,5 @@
 -- `reading_calls::path_in` meets its contract.
 use Rattle.reading_calls.proofs.BytesLaws.{path-counted, path-answered}
-use borrow.Author.Rules.{rules}
 use Rattle.reading_calls.proofs.path_in.Goals as goal
 
 pub tell-requires : goal.tell-requires

@@ -1,6 +1,5 @@
 -- `reading_calls::reference_in` meets its contract.
 use Rattle.reading_calls.proofs.BytesLaws.{reference-counted, reference-answered}
-use borrow.Author.Rules.{rules}
 use Rattle.reading_calls.proofs.reference_in.Goals as goal
 
 pub tell-requires : goal.tell-requires

@@ -1,6 +1,5 @@
 -- `rewriting::rewrite` meets its contract.
 use Rattle.rewriting.proofs.RewritingLaws.{is-rewritten}
-use borrow.Author.Rules.{rules}
 use Rattle.rewriting.proofs.rewrite.Goals as goal
 
 pub returns-in-SimplifyGraph : goal.returns-in-SimplifyGraph

@@ -1,7 +1,6 @@
 -- `rewriting::simplify` meets its contract.
 use Rattle.choice.proofs.ChoiceLaws.{cleanable-simplifiable}
 use Rattle.rewriting.proofs.RewritingLaws.{simplified-as}
-use borrow.Author.Rules.{rules}
 use Rattle.rewriting.proofs.simplify.Goals as goal
 
 pub simplify_graph_full-s-requires : goal.simplify_graph_full-s-requires

@@ -3,7 +3,6 @@ use mathlib.Core.Path.{sym, ap}
 use Rattle.defs.specs.Cleanup.{status_number}
 use Rattle.cleanup_steps.specs.CleanUp.{cleanup_status_of}
 use Rattle.cleanup_steps.specs.declared.SeqGraphCleanupStatus.{SeqGraphCleanupStatus}
-use borrow.Author.Rules.{rules}
 use Rattle.rewriting.proofs.status_number.Goals as goal
 
 pub returns-in-JustAssembledReference : goal.returns-in-JustAssembledReference

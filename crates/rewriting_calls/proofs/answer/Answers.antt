@@ -1,6 +1,5 @@
 -- `rewriting_calls::answer` meets its contract.
 use Rattle.rewriting_calls.proofs.AnsweredLaws.{caller-refused, caller-answered}
-use borrow.Author.Rules.{rules}
 use Rattle.rewriting_calls.proofs.answer.Goals as goal
 
 pub returns-then-caller-gt-LAST_CALLER : goal.returns-then-caller-gt-LAST_CALLER

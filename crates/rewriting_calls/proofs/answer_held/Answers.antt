@@ -1,6 +1,5 @@
 -- `rewriting_calls::answer_held` meets its contract.
 use Rattle.rewriting_calls.proofs.AnsweredLaws.{rewritten-sendable, held-answered}
-use borrow.Author.Rules.{rules}
 use Rattle.rewriting_calls.proofs.answer_held.Goals as goal
 
 pub send_record-sent-requires : goal.send_record-sent-requires

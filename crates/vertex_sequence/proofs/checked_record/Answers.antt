@@ -1,16 +1,9 @@
 -- `vertex_sequence::checked_record` meets its contract.
-use Rattle.arrays.proofs.SizedLaws.{short-to-read, long-headed}
-use borrow.Author.Rules.{rules}
+use Rattle.arrays.proofs.SizedLaws.{is-small, is-large}
 use Rattle.vertex_sequence.proofs.checked_record.Goals as goal
 
-pub small-requires : goal.small-requires
-small-requires c =
-    short-to-read _ c.if-rec-le-SMALL_RECORD.true
+pub check_in-requires : goal.check_in-requires
+check_in-requires c = is-small c.class_to_read.ensures c.in-Small.is
 
-pub vertex_count-vertices-requires : goal.vertex_count-vertices-requires
-vertex_count-vertices-requires c =
-    long-headed _ c.form_of-form.ensures c.if-rec-le-SMALL_RECORD.false
-
-pub edge_count-edges-requires : goal.edge_count-edges-requires
-edge_count-edges-requires c =
-    long-headed _ c.form_of-form.ensures c.if-rec-le-SMALL_RECORD.false
+pub check_in-requires-in-Large : goal.check_in-requires-in-Large
+check_in-requires-in-Large c = is-large c.class_to_read.ensures c.in-Large.is

@@ -2,7 +2,6 @@
 use mathlib.Core.Path.{refl}
 use Rattle.cycle.proofs.PeelLaws.{peelable-kept}
 use Rattle.vertex_sequence.proofs.VertexLaws.{checks-6, checks-7, checks-0}
-use borrow.Author.Rules.{rules}
 use Rattle.vertex_sequence.proofs.graph_number.Goals as goal
 
 pub returns-then-is_doubled : goal.returns-then-is_doubled

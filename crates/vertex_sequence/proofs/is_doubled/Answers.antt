@@ -1,6 +1,5 @@
 -- `vertex_sequence::is_doubled` meets its contract.
 use Rattle.vertex_sequence.proofs.VertexLaws.{kmers-doubled, edges-doubled}
-use borrow.Author.Rules.{rules}
 use Rattle.vertex_sequence.proofs.is_doubled.Goals as goal
 
 pub returns-then-kmers : goal.returns-then-kmers

@@ -2,7 +2,6 @@
 use mathlib.Core.Path.{refl}
 use native.Mathlib.Omega.{arith}
 use Rattle.vertex_sequence.proofs.VertexLaws.{loaded-long, loaded-indexable, loaded-checkable, number-late}
-use borrow.Author.Rules.{rules}
 use Rattle.vertex_sequence.proofs.loaded_number.Goals as goal
 
 pub build_index-requires : goal.build_index-requires

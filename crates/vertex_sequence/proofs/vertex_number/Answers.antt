@@ -1,7 +1,6 @@
 -- `vertex_sequence::vertex_number` meets its contract.
 use native.Mathlib.Omega.{arith}
 use Rattle.vertex_sequence.proofs.VertexLaws.{vertex-refused, record-zero, record-headed, vertex-9, vertex-0}
-use borrow.Author.Rules.{rules}
 use Rattle.vertex_sequence.proofs.vertex_number.Goals as goal
 
 pub returns-then-number-ne0 : goal.returns-then-number-ne0

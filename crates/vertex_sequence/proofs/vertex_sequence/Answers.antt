@@ -1,6 +1,5 @@
 -- `vertex_sequence::vertex_sequence` meets its contract.
 use Rattle.vertex_sequence.proofs.VertexLaws.{handed-none, handed-part, known}
-use borrow.Author.Rules.{rules}
 use Rattle.vertex_sequence.proofs.vertex_sequence.Goals as goal
 
 pub returns-then-told-ne0 : goal.returns-then-told-ne0

@@ -1,7 +1,6 @@
 -- `vertex_sequence::vertex_sequence_place` meets its contract.
 use native.Mathlib.Omega.{arith}
 use Rattle.vertex_sequence.proofs.VertexLaws.{placed-none, placed-inside, placed-part, placed-small, known}
-use borrow.Author.Rules.{rules}
 use Rattle.vertex_sequence.proofs.vertex_sequence_place.Goals as goal
 
 pub returns-then-told-ne0 : goal.returns-then-told-ne0

@@ -1,0 +1,19 @@
+-- `reading_calls::answer_lent` meets its contract.
+use Rattle.arrays.proofs.SizedLaws.{room-to-mark-kept}
+use Rattle.reading_calls.proofs.ReadingLaws.{room-answerable, record-refused, record-answered}
+use mathlib.Core.Path.{refl}
+use Rattle.reading_calls.proofs.answer_lent.Goals as goal
+
+pub returns-in-Refused : goal.returns-in-Refused
+returns-in-Refused c =
+    record-refused _ _ c.read_sequence_graph.ensures c.in-Refused.is
+
+pub answer_graph-requires : goal.answer_graph-requires
+answer_graph-requires c =
+    let kept = c.read_sequence_graph.auto in
+    room-answerable
+    (room-to-mark-kept c.requires kept.es kept.vs kept.heads kept.nexts kept.nodes kept.map refl)
+    c.read_sequence_graph.ensures c.in-Graph.is
+
+pub returns : goal.returns
+returns c = record-answered _ _ c.read_sequence_graph.ensures c.in-Graph.is c.answer_graph.ensures
