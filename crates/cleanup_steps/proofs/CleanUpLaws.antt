@@ -23,8 +23,8 @@ use Rattle.memory.specs.declared.Held.{Held}
 use Rattle.memory.specs.declared.Work.{Work}
 use Rattle.memory.proofs.RoomLaws.{held-vertices, held-edges, held-ends, holds_kept}
 use Rattle.refs.specs.Refs.{FirstSource, FirstSink}
-use Rattle.refs.specs.declared.OptionVertex.{OptionVertex}
-use Rattle.refs.specs.declared.OptionVertex.TheVariants.{Some, None}
+use Rattle.std.specs.Prelude as prelude
+use Rattle.std.specs.Prelude.{Some, None}
 use Rattle.refs.proofs.RefLaws.{source-found, source-missing, sink-found, sink-missing}
 use Rattle.rounds.specs.Rounds.{Full}
 use Rattle.rounds.specs.declared.Simplified.{Simplified}
@@ -137,17 +137,17 @@ module _ (w : Work) {es vs p heads nexts : List ℕ} (H : HoldsLean w.held es vs
     holds = lean-holds H;
   }
 
-  pub after-no-source : {a : OptionVertex} {r : CleanedUp} → FirstSource w.held.m w.held.n es a → a ≡ None → r ≡ uncleaned w
+  pub after-no-source : {a : prelude.Option ℕ} {r : CleanedUp} → FirstSource w.held.m w.held.n es a → a ≡ None → r ≡ uncleaned w
       → After w (reference_source_vertex (graph_of w.held es vs p)) (reference_sink_vertex (graph_of w.held es vs p)) es vs p heads nexts r es vs p
   after-no-source F l q = rw (q, source-missing F l w.held.k.0 vs p) (plain-after none _ refl)
 
-  pub after-no-sink : {a b : OptionVertex} {s : ℕ} {r : CleanedUp} → FirstSource w.held.m w.held.n es a → a ≡ Some s
+  pub after-no-sink : {a b : prelude.Option ℕ} {s : ℕ} {r : CleanedUp} → FirstSource w.held.m w.held.n es a → a ≡ Some s
       → FirstSink w.held.m w.held.n es b → b ≡ None → r ≡ uncleaned w
       → After w (reference_source_vertex (graph_of w.held es vs p)) (reference_sink_vertex (graph_of w.held es vs p)) es vs p heads nexts r es vs p
   unfolding after_choice
   after-no-sink {s = s} F k T l q = rw (q, source-found F k w.held.k.0 vs p, sink-missing T l w.held.k.0 vs p) (plain-after (some s) none refl)
 
-pub after-chosen : {w : Work} {es vs p heads nexts : List ℕ} {a b : OptionVertex} {s t : ℕ} {r : CleanedUp} {es' vs' p' : List ℕ}
+pub after-chosen : {w : Work} {es vs p heads nexts : List ℕ} {a b : prelude.Option ℕ} {s t : ℕ} {r : CleanedUp} {es' vs' p' : List ℕ}
     → FirstSource w.held.m w.held.n es a → a ≡ Some s → FirstSink w.held.m w.held.n es b → b ≡ Some t
     → After w (some s) (some t) es vs p heads nexts r es' vs' p'
     → After w (reference_source_vertex (graph_of w.held es vs p)) (reference_sink_vertex (graph_of w.held es vs p)) es vs p heads nexts r es' vs' p'

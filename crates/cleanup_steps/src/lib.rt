@@ -12,7 +12,6 @@ ghost use Rattle.choice.specs.Choice.{Cleanable};
 ghost use Rattle.cleanup_steps.specs.CleanUp.{uncleaned, After, CleanUp};
 
 use memory::{Held, Work};
-use refs::OptionVertex;
 
 // How a cleanup ended, as the Rust's enum has it.
 #[derive(Clone, Copy)]
@@ -89,8 +88,8 @@ fn keep_between(
 // The source and the sink are chosen.
 fn after_choice(
     work: Work,
-    source: OptionVertex,
-    sink: OptionVertex,
+    source: Option<usize>,
+    sink: Option<usize>,
     es: &mut [u32],
     vs: &mut [u32],
     p: &mut [u8],
@@ -110,10 +109,10 @@ fn after_choice(
         (reference_sink_vertex (graph_of work.held es.old vs.old p.old)) es.old
         vs.old p.old heads.old nexts.old result es.new vs.new p.new }
 {
-    let OptionVertex::Some(s) = source else {
+    let Some(s) = source else {
         return just_reference(work);
     };
-    let OptionVertex::Some(t) = sink else {
+    let Some(t) = sink else {
         return just_reference(work);
     };
     keep_between(

@@ -16,8 +16,8 @@ use Rattle.store.specs.Store.{is_set, EndsBelow}
 use Rattle.compact.specs.Compact.{unmarked}
 use Rattle.compact.proofs.CompactLaws.{restrict-same, order-in}
 use Rattle.refs.specs.Refs.{FirstSource}
-use Rattle.refs.specs.declared.OptionVertex.{OptionVertex}
-use Rattle.refs.specs.declared.OptionVertex.TheVariants.{Some, None}
+use Rattle.std.specs.Prelude as prelude
+use Rattle.std.specs.Prelude.{Some, None}
 use Rattle.refs.proofs.RefLaws.{source-found, source-missing}
 use Rattle.memory.specs.Memory.{graph_of}
 use Rattle.memory.specs.declared.Held.{Held}
@@ -83,7 +83,7 @@ pub reduced-same : {f : Graph → Graph} (h : Held) {es vs : List ℕ} → EndsB
     → ((p : List ℕ) → f (graph_of h es vs p) ≡ graph_of h es vs p) → Reduced f h es vs h es vs
 reduced-same h E same = record { is = λ p. sym (same p); most-n = omega arith; most-m = omega arith; ends = E; within = λ used W. W; used-is = refl }
 
-pub no-source-stays : (h : Held) (es vs : List ℕ) {r : OptionVertex} → FirstSource h.m h.n es r → r ≡ None → (p : List ℕ)
+pub no-source-stays : (h : Held) (es vs : List ℕ) {r : prelude.Option ℕ} → FirstSource h.m h.n es r → r ≡ None → (p : List ℕ)
     → remove_vertices_not_connected_to_ref (graph_of h es vs p) ≡ graph_of h es vs p
 unfolding remove_vertices_not_connected_to_ref
 no-source-stays h es vs F l p = rw (source-missing F l h.k.0 vs p, remove_vertices_not_connected_to_ref)
@@ -95,7 +95,7 @@ module _ (h : Held) (es vs : List ℕ) (E : EndsBelow h.n h.m es) (mp : List ℕ
   below : (p : List ℕ) (v : ℕ) → v < node_count (graph_of h es vs p) → v < h.n
   below p v l = omega (arith, l, order-in h.k.0 h.n h.m es vs p)
 
-  pub connected-stay : {r : OptionVertex} {s : ℕ} {mp' : List ℕ} → FirstSource h.m h.n es r → r ≡ Some s
+  pub connected-stay : {r : prelude.Option ℕ} {s : ℕ} {mp' : List ℕ} → FirstSource h.m h.n es r → r ≡ Some s
       → Unreached 2 h.m h.n es s mp mp' → (p : List ℕ) → compact_vertices (unmarked mp') (graph_of h es vs p)
       ≡ remove_vertices_not_connected_to_ref (graph_of h es vs p)
   unfolding remove_vertices_not_connected_to_ref walk_step step_of

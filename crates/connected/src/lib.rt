@@ -12,7 +12,6 @@ ghost use Rattle.connected.specs.Connected.{Missed, Unreached};
 
 use memory::Held;
 use reach::Direction;
-use refs::OptionVertex;
 
 // Those of n vertices without a mark go: they get 1 in `map`.
 fn mark_missed(marks: &[u8], n: usize, map: &mut [u32])
@@ -63,7 +62,7 @@ pub fn remove_vertices_not_connected_to_ref(
 {
     let n = held.n;
     let m = held.m;
-    let OptionVertex::Some(s) = refs::reference_source_vertex(es, m, n, heads, nexts) else {
+    let Some(s) = refs::reference_source_vertex(es, m, n, heads, nexts) else {
         return held;
     };
     compact::fill(map, n, 0);

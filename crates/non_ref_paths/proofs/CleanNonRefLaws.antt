@@ -18,8 +18,8 @@ use Rattle.index.specs.Index.{Indexed, Indexable, end_at}
 use Rattle.memory.specs.Memory.{graph_of}
 use Rattle.memory.specs.declared.Held.{Held}
 use Rattle.refs.specs.Refs.{FirstSource, FirstSink}
-use Rattle.refs.specs.declared.OptionVertex.{OptionVertex}
-use Rattle.refs.specs.declared.OptionVertex.TheVariants.{Some, None}
+use Rattle.std.specs.Prelude as prelude
+use Rattle.std.specs.Prelude.{Some, None}
 use Rattle.refs.proofs.RefLaws.{source-found, source-missing, sink-found, sink-missing}
 use denote.Enum.Declared.{tag_of}
 use Rattle.reach.specs.contracts.Direction.{the_type}
@@ -201,12 +201,12 @@ pub untouched : (h : Held) {es vs : List ℕ} → EndsBelow h.n h.m es
     → ((p : List ℕ) → clean_non_ref_paths (graph_of h es vs p) ≡ graph_of h es vs p) → Reduced clean_non_ref_paths h es vs h es vs
 untouched h E same = record { is = λ p. sym (same p); most-n = omega arith; most-m = omega arith; ends = E; within = λ used W. W; used-is = refl }
 
-module _ (h : Held) (es vs : List ℕ) {r : OptionVertex} (F : FirstSource h.m h.n es r) where
+module _ (h : Held) (es vs : List ℕ) {r : prelude.Option ℕ} (F : FirstSource h.m h.n es r) where
   pub no_source : r ≡ None → (p : List ℕ) → clean_non_ref_paths (graph_of h es vs p) ≡ graph_of h es vs p
   unfolding clean_non_ref_paths clean_between
   no_source l p = rw (source-missing F l h.k.0 vs p)
 
-  module _ {s : ℕ} (k : r ≡ Some s) {r' : OptionVertex} (T : FirstSink h.m h.n es r') where
+  module _ {s : ℕ} (k : r ≡ Some s) {r' : prelude.Option ℕ} (T : FirstSink h.m h.n es r') where
     pub no-sink : r' ≡ None → (p : List ℕ) → clean_non_ref_paths (graph_of h es vs p) ≡ graph_of h es vs p
     unfolding clean_non_ref_paths clean_between
     no-sink l p = rw (source-found F k h.k.0 vs p, sink-missing T l h.k.0 vs p)

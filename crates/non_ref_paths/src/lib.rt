@@ -14,7 +14,6 @@ ghost use Rattle.non_ref_paths.specs.CleanNonRef.{stays_by, EdgesKept, EdgesDrop
 
 use memory::Held;
 use reach::Direction;
-use refs::OptionVertex;
 
 // An edge stays that is a reference edge, or whose end `off` has no mark; off 0 is the end that it leaves, 1 the end that it enters.
 fn edge_stays(es: &[u32], e: usize, off: usize, n: usize, marks: &[u8]) -> bool
@@ -119,10 +118,10 @@ pub fn clean_non_ref_paths(
     let n = held.n;
     let m = held.m;
     index::build_index(es, m, n, heads, nexts);
-    let OptionVertex::Some(s) = refs::reference_source_vertex(es, m, n, heads, nexts) else {
+    let Some(s) = refs::reference_source_vertex(es, m, n, heads, nexts) else {
         return held;
     };
-    let OptionVertex::Some(t) = refs::reference_sink_vertex(es, m, n, heads, nexts) else {
+    let Some(t) = refs::reference_sink_vertex(es, m, n, heads, nexts) else {
         return held;
     };
     clean_between(held, s, t, es, vs, heads, nexts, nodes, map, tried)

@@ -13,8 +13,6 @@ use Rattle.compact.proofs.CompactLaws.{order-in}
 use Rattle.memory.specs.Memory.{graph_of}
 use Rattle.memory.specs.declared.Held.{Held}
 use Rattle.refs.specs.Refs.{FirstSource, FirstSink}
-use Rattle.refs.specs.declared.OptionVertex.{OptionVertex}
-use Rattle.refs.specs.declared.OptionVertex.TheVariants as O
 use Rattle.refs.proofs.RefLaws.{source-found, source-missing, source-below, sink-found, sink-missing}
 use Rattle.spell.specs.Spell.{spelled_in, Answered, Told}
 use Rattle.std.specs.Prelude.{Some, None}
@@ -25,22 +23,22 @@ use Rattle.paths.proofs.RouteLaws.{Route, route-spelled}
 use Rattle.reference.specs.Reference.{path_of, PathWalked}
 use Rattle.reference.proofs.WalkLaws.{reference-begun}
 
-module _ {h : Held} {es vs p nodes : List ℕ} (S : Spellable h es vs p nodes) {a : OptionVertex} (A : FirstSource h.m h.n es a) where
+module _ {h : Held} {es vs p nodes : List ℕ} (S : Spellable h es vs p nodes) {a : std.Option ℕ} (A : FirstSource h.m h.n es a) where
   abbrev g : Graph
   g = graph_of h es vs p
 
-  pub no_source : (out : List ℕ) → a ≡ O.None → Told (reference_path_bytes g) out None out
+  pub no_source : (out : List ℕ) → a ≡ None → Told (reference_path_bytes g) out None out
   unfolding reference_path_bytes reference_between spelled_by
   no_source out q = told_none out (ap (λ (o : Option ℕ). spelled_by g (reference_between g o (reference_sink_vertex g)))
       (source-missing A q h.k.0 vs p))
 
-  module _ {s : ℕ} (q : a ≡ O.Some s) {b : OptionVertex} (T : FirstSink h.m h.n es b) where
-    pub no-sink : (out : List ℕ) → b ≡ O.None → Told (reference_path_bytes g) out None out
+  module _ {s : ℕ} (q : a ≡ Some s) {b : std.Option ℕ} (T : FirstSink h.m h.n es b) where
+    pub no-sink : (out : List ℕ) → b ≡ None → Told (reference_path_bytes g) out None out
     unfolding reference_path_bytes reference_between spelled_by
     no-sink out z = told_none out
         (λ i. spelled_by g (reference_between g (source-found A q h.k.0 vs p i) (sink-missing T z h.k.0 vs p i)))
 
-    module _ {t : ℕ} (z : b ≡ O.Some t) where
+    module _ {t : ℕ} (z : b ≡ Some t) where
       bytes-are : reference_path_bytes g ≡ spelled_by g (reference_path h.n g t s)
       unfolding reference_path_bytes reference_between
       bytes-are = (λ i. spelled_by g (reference_between g (source-found A q h.k.0 vs p i) (sink-found T z h.k.0 vs p i)))

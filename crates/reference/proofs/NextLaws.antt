@@ -15,7 +15,7 @@ use Rattle.index.specs.Index.{edge_end, at_from, incident_edges, Indexed}
 use Rattle.index.proofs.AdjLaws.{at_head, at-step, at-end}
 use Rattle.index.proofs.IndexLaws.{from_is, at_none, at_first}
 use Rattle.refs.specs.Refs.{ref_at}
-use Rattle.refs.specs.declared.OptionVertex.TheVariants.{Some, None}
+use Rattle.std.specs.Prelude.{Some, None}
 use Rattle.paths.proofs.StepLaws.{out-index}
 use Rattle.reference.specs.Reference.{NextOn}
 

@@ -24,10 +24,9 @@ use Rattle.compact.proofs.CompactLaws.{order-in}
 use Rattle.index.proofs.IndexLaws.{nums-push}
 use Rattle.paths.proofs.RouteLaws.{path-short}
 use Rattle.refs.specs.Refs.{vertex_of}
-use Rattle.refs.specs.declared.OptionVertex.{OptionVertex}
-use Rattle.refs.specs.declared.OptionVertex.TheVariants as O
 use Rattle.reference.specs.Reference.{NextOn, PathWalked}
 use Rattle.std.specs.Prelude.{Some, None}
+use Rattle.std.specs.Prelude as std
 
 -- ---- the definition, step by step
 
@@ -145,7 +144,7 @@ module _ {m n : ℕ} {es : List ℕ} {source sink : ℕ} {nodes₀ : List ℕ} w
       most = λ d e. let z : d ≡ c + 1 = cc in omega arith;
     }
 
-    pub walking-stuck : {r : OptionVertex} (nodes' : List ℕ) → (v ≡ sink → ⊥) → NextOn m n es v r → r ≡ O.None → PathWalked m n es source sink None nodes'
+    pub walking-stuck : {r : std.Option ℕ} (nodes' : List ℕ) → (v ≡ sink → ⊥) → NextOn m n es v r → r ≡ None → PathWalked m n es source sink None nodes'
     walking-stuck nodes' q N b = record {
       is = λ k vs p s. sym (left_is k vs p ∙ ap (prepends (nums_in c nodes))
           (ref-none (n - (c + 1)) (graph_in k n m es vs p) sink v (ne_eqb v sink q) (sym (N.is k vs p) ∙ ap vertex_of b))
@@ -153,7 +152,7 @@ module _ {m n : ℕ} {es : List ℕ} {source sink : ℕ} {nodes₀ : List ℕ} w
       most = λ d e. absurd (let z : ◌≡◌ {A = ℕ} 0 1 = cc in omega arith);
     }
 
-    pub walking-more : {r : OptionVertex} {w : ℕ} → (v ≡ sink → ⊥) → NextOn m n es v r → r ≡ O.Some w
+    pub walking-more : {r : std.Option ℕ} {w : ℕ} → (v ≡ sink → ⊥) → NextOn m n es v r → r ≡ Some w
         → WalkingPath m n es source sink nodes₀ (set nodes c v) w (c + 1)
     walking-more {w = w} q N b = record {
       high = omega arith;

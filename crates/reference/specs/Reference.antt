@@ -6,13 +6,11 @@ use Rattle.defs.specs.Paths.{next_on_reference, reference_path}
 use Rattle.laws.proofs.Sound.{Sound}
 use Rattle.store.specs.Store.{graph_in, nums_in}
 use Rattle.refs.specs.Refs.{vertex_of}
-use Rattle.refs.specs.declared.OptionVertex.{OptionVertex}
-use Rattle.refs.specs.declared.OptionVertex.TheVariants as O
 
 -- the next vertex, or none
-pub record NextOn (m n : ℕ) (es : List ℕ) (v : ℕ) (r : OptionVertex) : Type 0 where
+pub record NextOn (m n : ℕ) (es : List ℕ) (v : ℕ) (r : std.Option ℕ) : Type 0 where
   pub is : (k : ℕ) (vs p : List ℕ) → vertex_of r ≡ next_on_reference (graph_in k n m es vs p) v
-  pub below : (w : ℕ) → r ≡ O.Some w → w < n
+  pub below : (w : ℕ) → r ≡ Some w → w < n
 
 -- the source is a vertex, and there is room for each vertex
 pub record PathWalkable (n source : ℕ) (nodes : List ℕ) : Type 0 where

@@ -11,7 +11,6 @@ ghost use Rattle.paths.specs.Paths.{Spellable};
 ghost use Rattle.reference.specs.Reference.{NextOn, PathWalkable, PathWalked};
 
 use memory::Held;
-use refs::OptionVertex;
 
 // The vertex behind v on the reference path.
 fn next_on_reference(
@@ -21,22 +20,22 @@ fn next_on_reference(
     heads: &[u32],
     nexts: &[u32],
     v: u32,
-) -> OptionVertex
+) -> Option<usize>
     requires { (v < n) × Indexed m n es.now heads.now nexts.now }
     ensures { NextOn m n es.now v result }
 {
     let first = heads[2 * (v as usize)] as usize;
     if m <= first {
-        return OptionVertex::None;
+        return None;
     }
     let mut e = first;
     while e < m {
         if store::edge_is_ref(es, e) {
-            return OptionVertex::Some(store::edge_to(es, e) as usize);
+            return Some(store::edge_to(es, e) as usize);
         }
         e = nexts[2 * e] as usize;
     }
-    OptionVertex::Some(store::edge_to(es, first) as usize)
+    Some(store::edge_to(es, first) as usize)
 }
 
 // Writes the vertices from `source` to `sink` to `nodes`; none where the path ends before the sink.
@@ -59,7 +58,7 @@ fn reference_path(
         if v == sink {
             return Some(c + 1);
         }
-        let OptionVertex::Some(w) = next_on_reference(es, m, n, heads, nexts, v) else {
+        let Some(w) = next_on_reference(es, m, n, heads, nexts, v) else {
             return None;
         };
         v = w as u32;
@@ -83,10 +82,10 @@ pub fn reference_path_bytes(
 {
     let n = held.n;
     let m = held.m;
-    let OptionVertex::Some(source) = refs::reference_source_vertex(es, m, n, heads, nexts) else {
+    let Some(source) = refs::reference_source_vertex(es, m, n, heads, nexts) else {
         return None;
     };
-    let OptionVertex::Some(sink) = refs::reference_sink_vertex(es, m, n, heads, nexts) else {
+    let Some(sink) = refs::reference_sink_vertex(es, m, n, heads, nexts) else {
         return None;
     };
     let count = reference_path(es, m, n, heads, nexts, source as u32, sink as u32, nodes)?;
