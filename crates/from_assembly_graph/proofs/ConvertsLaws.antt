@@ -31,9 +31,9 @@ use Rattle.arrays.specs.Sized.{ClassToRead}
 use Rattle.arrays.proofs.SizedLaws.{room-to-mark-kept}
 use Rattle.memory.specs.declared.Held.{Held}
 use Rattle.accept.specs.Accept.{RoomToMark}
-use Rattle.accept.specs.declared.Read.{Read}
-use Rattle.accept.specs.declared.Read.TheVariants as read
-use Rattle.accept.specs.declared.Read.TheVariants.{Refused}
+use Rattle.std.specs.Prelude.{Result, Ok, Err}
+use Rattle.refusal.specs.Refusals.{number_of_refusal}
+use Rattle.refusal.specs.declared.Refusal.{Refusal}
 use Rattle.read_kmers.specs.Kmers.{overlapping_causes, KmersRead}
 use Rattle.from_kmers.specs.Conversion.{RoomToConvert, ConvertedAs, ConvertibleKmers, KmersConverted}
 use Rattle.from_kmers.proofs.ConversionLaws.{conversion-numbered, none-early, none-late, all-overlap, refused, convertible, converted_as}
@@ -87,30 +87,30 @@ convert-runs bs small none =
 
 -- ---- what is sent
 
-module _ {bs : List ℕ} {r : Read} {sorted vs : List ℕ} (C : ConvertedAs bs r sorted vs) {f : Form} (form : f ≡ form_of bs) where
+module _ {bs : List ℕ} {r : Result Held Refusal} {sorted vs : List ℕ} (C : ConvertedAs bs r sorted vs) {f : Form} (form : f ≡ form_of bs) where
   converted-sent : {out out' : List ℕ} {s : Answer} → SendsGraph f 0 r sorted vs bs out s out' → Responds (conversion_response bs (length out)) out s out'
   converted-sent S = S.is (conversion_causes bs) (D.converted_record bs)
       record {
         numbered = conversion-numbered bs;
         number = C.number;
         is = λ h ok i. encode (form i) sequence_graph 0 (C.is h ok i);
-        refused = C.refused;
       }
 
-module _ {bs : List ℕ} {r : Read} {es vs heads nexts order : List ℕ} (A : KmersRead (overlapping_causes bs) bs r es vs heads nexts order) where
-  pub refused-sent : {n : ℕ} → r ≡ Refused n → {out : List ℕ} → Responds (conversion_response bs (length out)) out record { number = n; length = 0 } out
-  refused-sent f = converted-sent (refused A {es₂ = []} {vs₂ = []} f) refl (sends-refused refl)
+module _ {bs : List ℕ} {r : Result Held Refusal} {es vs heads nexts order : List ℕ} (A : KmersRead (overlapping_causes bs) bs r es vs heads nexts order) where
+  pub refused-sent : {n : Refusal} → r ≡ Err n → {s : Answer} → s ≡ record { number = number_of_refusal n; length = 0 } → {out : List ℕ}
+      → Responds (conversion_response bs (length out)) out s out
+  refused-sent f a = converted-sent (refused A {es₂ = []} {vs₂ = []} f) refl (sends-refused refl a)
 
-  pub held-to-convert : {h : Held} → r ≡ read.Graph h → {scratch place sorted : List ℕ} → RoomToConvert bs es vs heads nexts order scratch place sorted
+  pub held-to-convert : {h : Held} → r ≡ Ok h → {scratch place sorted : List ℕ} → RoomToConvert bs es vs heads nexts order scratch place sorted
       → HeldToConvert bs h es vs heads nexts order scratch place sorted
-  held-to-convert ok R = record { read = subst (λ (x : Read). KmersRead (overlapping_causes bs) bs x es vs heads nexts order) ok A; room = R }
+  held-to-convert ok R = record { read = subst (λ (x : Result Held Refusal). KmersRead (overlapping_causes bs) bs x es vs heads nexts order) ok A; room = R }
 
 module _ {bs : List ℕ} {h : Held} {es vs heads nexts order scratch place sorted : List ℕ}
     (H : HeldToConvert bs h es vs heads nexts order scratch place sorted) where
   pub held-convertible : ConvertibleKmers h es vs heads nexts order scratch place sorted
   held-convertible = convertible H.read refl H.room
 
-  module _ {f : Form} (form : f ≡ form_of bs) {made : Read} {sorted' vs' : List ℕ} (K : KmersConverted f h es vs heads nexts order made sorted' vs') where
+  module _ {f : Form} (form : f ≡ form_of bs) {made : Result Held Refusal} {sorted' vs' : List ℕ} (K : KmersConverted f h es vs heads nexts order made sorted' vs') where
     made_as : ConvertedAs bs made sorted' vs'
     made_as = converted_as H.read refl form K
 
@@ -155,9 +155,10 @@ module _ (bs : List ℕ) (caller : ℕ) {out : List ℕ} {a : Answer} {out' : Li
       holds P f = answered-holds causes out result P f S.number S.size S.written
 
 module _ (bs : List ℕ) {caller : ℕ} {out : List ℕ} (small : Bytes bs) where
-  pub converts-refused : 15 < caller → Converts bs out caller record { number = 18; length = 0 } out
+  pub converts-refused : 15 < caller → {a : Answer} → a ≡ record { number = 18; length = 0 } → Converts bs out caller a out
   unfolding from_assembly_graph_response from_assembly_graph_causes
-  converts-refused l = converts bs caller small (sends-above _ _ l)
+  converts-refused l {a} q =
+      rw q (converts bs caller small (sends-above _ _ l))
 
   pub converts-sent : {a : Answer} {out' : List ℕ} → caller ≤ 15 → Responds (conversion_response bs (length out)) out a out' → Converts bs out caller a out'
   unfolding from_assembly_graph_response from_assembly_graph_causes

@@ -1,12 +1,11 @@
 -- The promise of from_assembly_graph, and the room that it takes. Assumes nothing.
-use Rattle.std.specs.Prelude.{◌≡◌, List, ℕ, ◌*◌, ◌≤◌, length, take}
+use Rattle.std.specs.Prelude.{◌≡◌, Ok, List, ℕ, ◌*◌, ◌≤◌, length, take}
 use Rattle.defs.specs.Forms.{form_of}
 use Rattle.defs.specs.Record.{decode}
 use Rattle.defs.specs.Assembly.{from_assembly_graph, SourcesHoldKmers, RunsAreKmers}
 use Rattle.defs.specs.Calls.{Response, written_of, respond, conversion_causes, converted_record, from_assembly_graph_response, from_assembly_graph_answer}
 use Rattle.reread.specs.Reread.{input_length, ReacceptedAs}
 use Rattle.memory.specs.declared.Held.{Held}
-use Rattle.accept.specs.declared.Read.TheVariants.{Graph}
 use Rattle.read_kmers.specs.Kmers.{overlapping_causes, KmersRead}
 use Rattle.from_kmers.specs.Conversion.{RoomToConvert}
 use Rattle.calls.specs.Answers.{answer_of}
@@ -31,7 +30,7 @@ conversion_response bs room = respond (with_output (conversion_causes bs) room (
 
 -- the k-mer graph that was read of a record, and room to convert it
 pub record HeldToConvert (bs : List ℕ) (h : Held) (es vs heads nexts order scratch place sorted : List ℕ) : Type 0 where
-  pub read : KmersRead (overlapping_causes bs) bs (Graph h) es vs heads nexts order
+  pub read : KmersRead (overlapping_causes bs) bs (Ok h) es vs heads nexts order
   pub room : RoomToConvert bs es vs heads nexts order scratch place sorted
 
 -- The lengths of arrays for v vertices and e edges. Numbers of vertices, then of edges, of which there may be more, stand in `order` and `scratch`.

@@ -7,12 +7,12 @@ ghost use Rattle.arrays.specs.Sized.{ClassToRead};
 ghost use Rattle.from_kmers.specs.Conversion.{RoomToConvert};
 ghost use Rattle.from_assembly_graph.specs.Converts.{conversion_response, HeldToConvert, Converts};
 
-use accept::Read;
 use arrays::{
     FEW_EDGES, FEW_VERTICES, MANY_EDGES, MANY_VERTICES, MOST_EDGES, MOST_VERTICES, ReadingClass,
 };
 use calls::Answer;
 use memory::Held;
+use refusal::Refusal;
 use tallies::LAST_CALLER;
 
 // The graph that was read of the record, converted, and its record sent, in the form of the one handed in.
@@ -58,8 +58,8 @@ fn convert_lent(
     let held = match read_kmers::read_overlapping_kmer_graph(
         rec, es, vs, heads, nexts, order, scratch, place,
     ) {
-        Read::Graph(held) => held,
-        Read::Refused(number) => return Answer { number, length: 0 },
+        Ok(held) => held,
+        Err(refusal) => return Answer::from(refusal),
     };
     convert_held(
         rec, out, held, es, vs, heads, nexts, order, scratch, place, sorted,
@@ -110,10 +110,7 @@ pub fn from_assembly_graph(rec: &[u8], out: &mut [u8], caller: u32) -> Answer
     ensures { Converts rec.now out.old caller result out.new }
 {
     if LAST_CALLER < caller {
-        return Answer {
-            number: 18,
-            length: 0,
-        };
+        return Answer::from(Refusal::NoSuchCaller);
     }
     convert(rec, out)
 }

@@ -39,10 +39,11 @@ use Rattle.write_record.specs.Written.{Measured}
 use Rattle.write_record.proofs.WriteLaws.{bytes-are}
 use Rattle.calls.specs.Sending.{Sendable}
 use Rattle.accept.specs.Accept.{RoomFor}
-use Rattle.accept.specs.declared.Read.{Read}
-use Rattle.accept.specs.declared.Read.TheVariants as read
-use Rattle.accept.specs.declared.Read.TheVariants.{Refused}
-use Rattle.accept.proofs.AcceptLaws.{not-both, number-graph, number-refused, same-held}
+use Rattle.std.specs.Prelude.{Result, Ok, Err}
+use Rattle.refusal.specs.Refusals.{number_of_refusal}
+use Rattle.refusal.specs.declared.Refusal.{Refusal}
+use Rattle.refusal.specs.declared.Refusal.TheVariants as refusal
+use Rattle.refusal.proofs.RefusalLaws.{some-number, refused-number, made-number}
 use Rattle.read_kmers.specs.Kmers.{kmer_causes, overlapping_causes, HoldsKmers, KmersRead}
 use Rattle.from_kmers.specs.Conversion.{RoomToConvert, ConvertedAs, ConvertibleKmers, KmersConverted}
 
@@ -130,12 +131,11 @@ module _ {bs : List ℕ} {h : Held} {es vs heads nexts order : List ℕ} (H : Ho
     ];
   }
 
-refused_as : (bs : List ℕ) (n : ℕ) → n ≡ refusal_of (conversion_causes bs) → (n ≡ 0 → ⊥) → {es vs : List ℕ} → ConvertedAs bs (Refused n) es vs
-refused_as bs n q o = record {
-  number = number-refused refl ∙ q;
-  is = λ h e. not-both e refl;
-  sendable = λ h e. not-both e refl;
-  refused = λ m e z. o (sym (number-refused refl) ∙ number-refused e ∙ z);
+refused_as : (bs : List ℕ) (n : Refusal) → number_of_refusal n ≡ refusal_of (conversion_causes bs) → {es vs : List ℕ} → ConvertedAs bs (Err n) es vs
+refused_as bs n q = record {
+  number = q;
+  is = λ h e. cc;
+  sendable = λ h e. cc;
 }
 
 -- ---- a held graph is converted
@@ -202,36 +202,35 @@ module _ {h : Held} {es vs heads nexts order scratch place sorted : List ℕ} (C
 
     -- b bytes, of which there may be c
     module _ {b c : ℕ} (q : b ≡ bytes_in h.n vs') {f : Form} (limit : c ≡ (limits f).bytes) where
-      pub over : c < b → {es₂ vs₂ : List ℕ} → KmersConverted f h es vs heads nexts order (Refused 8) es₂ vs₂
+      pub over : c < b → {es₂ vs₂ : List ℕ} → KmersConverted f h es vs heads nexts order (Err refusal.PastBytes) es₂ vs₂
       over l = record {
         is = λ bs e none H.
-            refused_as bs 8 (sym (too_long bs none (omega (arith, limit, bytes-is H, ap (λ (g : Form). (limits g).bytes) e)))) (λ z. omega arith);
+            refused_as bs refusal.PastBytes (sym (too_long bs none (omega (arith, limit, bytes-is H, ap (λ (g : Form). (limits g).bytes) e))));
       }
 
-      pub done : b ≤ c → length vs' ≡ length vs → length sorted' ≡ length sorted → KmersConverted f h es vs heads nexts order (read.Graph h) sorted' vs'
+      pub done : b ≤ c → length vs' ≡ length vs → length sorted' ≡ length sorted → KmersConverted f h es vs heads nexts order (Ok h) sorted' vs'
       done l lv ls = record {
         is = λ bs form none H. let same = ap (λ (g : Form). (limits g).bytes) form in record {
-          number = number-graph refl ∙ sym (no-cause bs none (omega (arith, limit, same, bytes-is H)));
-          is = λ g e. subst (λ (x : Held). graph_of x sorted' vs' bs ≡ from_assembly_graph (decode bs)) (same-held e) (graph_is H);
-          sendable = λ g e. subst (λ (x : Held). Sendable (form_of bs) 0 x sorted' vs' bs) (same-held e) (sendable H (omega (arith, limit, same)) lv ls);
-          refused = λ n e. not-both refl e;
+          number = sym (no-cause bs none (omega (arith, limit, same, bytes-is H)));
+          is = λ g e. let same-held : h ≡ g = cc in subst (λ (x : Held). graph_of x sorted' vs' bs ≡ from_assembly_graph (decode bs)) same-held (graph_is H);
+          sendable = λ g e. let same-held : h ≡ g = cc in subst (λ (x : Held). Sendable (form_of bs) 0 x sorted' vs' bs) same-held (sendable H (omega (arith, limit, same)) lv ls);
         };
       }
 
 -- ---- a record that was read
 
-module _ {bs : List ℕ} {r : Read} {es vs heads nexts order : List ℕ} (A : KmersRead (overlapping_causes bs) bs r es vs heads nexts order) where
-  pub refused : {n : ℕ} {es₂ vs₂ : List ℕ} → r ≡ Refused n → ConvertedAs bs (Refused n) es₂ vs₂
-  refused {n} f = let o = A.refused n f in refused_as bs n (sym (early bs (sym A.number ∙ number-refused f) o)) o
+module _ {bs : List ℕ} {r : Result Held Refusal} {es vs heads nexts order : List ℕ} (A : KmersRead (overlapping_causes bs) bs r es vs heads nexts order) where
+  pub refused : {n : Refusal} {es₂ vs₂ : List ℕ} → r ≡ Err n → ConvertedAs bs (Err n) es₂ vs₂
+  refused {n} f = refused_as bs n (sym (early bs (sym A.number ∙ refused-number f) (some-number n)))
 
-  module _ {h : Held} (ok : r ≡ read.Graph h) where
+  module _ {h : Held} (ok : r ≡ Ok h) where
     none : refusal_of (overlapping_causes bs) ≡ 0
-    none = sym A.number ∙ number-graph ok
+    none = sym A.number ∙ made-number ok
 
     formed : WellFormed bs
     formed = well-formed kmer_only bs (layout-none bs none)
 
-    pub converted_as : {f : Form} {x : Read} {sorted vs' : List ℕ} → f ≡ form_of bs → KmersConverted f h es vs heads nexts order x sorted vs'
+    pub converted_as : {f : Form} {x : Result Held Refusal} {sorted vs' : List ℕ} → f ≡ form_of bs → KmersConverted f h es vs heads nexts order x sorted vs'
         → ConvertedAs bs x sorted vs'
     converted_as e K = K.is bs e none (A.holds h ok)
 

@@ -1,5 +1,5 @@
 -- The graph of a k-mer record that is converted. Assumes nothing.
-use Rattle.std.specs.Prelude.{◌≡◌, List, ℕ, ◌+◌, ◌*◌, ◌≤◌, ◌<◌, length, get_or}
+use Rattle.std.specs.Prelude.{◌≡◌, Result, Ok, List, ℕ, ◌+◌, ◌*◌, ◌≤◌, ◌<◌, length, get_or}
 use Rattle.defs.specs.Forms.{Form, form_of}
 use Rattle.defs.specs.Record.{edges_of, decode}
 use Rattle.defs.specs.Refusals.{refusal_of}
@@ -10,9 +10,9 @@ use Rattle.index.specs.Index.{Indexed}
 use Rattle.memory.specs.Memory.{graph_of}
 use Rattle.calls.specs.Sending.{Sendable}
 use Rattle.memory.specs.declared.Held.{Held}
-use Rattle.accept.specs.Accept.{RoomToMark, read_number}
-use Rattle.accept.specs.declared.Read.{Read}
-use Rattle.accept.specs.declared.Read.TheVariants.{Graph, Refused}
+use Rattle.accept.specs.Accept.{RoomToMark}
+use Rattle.refusal.specs.Refusals.{refused_by}
+use Rattle.refusal.specs.declared.Refusal.{Refusal}
 use Rattle.convert.specs.Convert.{Trimmable, Convertible}
 use Rattle.read_kmers.specs.Kmers.{overlapping_causes, HoldsKmers}
 
@@ -23,13 +23,11 @@ pub record RoomToConvert (bs es vs heads nexts order scratch place sorted : List
   pub scratch-room : WellFormed bs → edges_of bs ≤ length scratch
   pub sorted-room : WellFormed bs → 4 * edges_of bs ≤ length sorted
 
--- the number is the definition's; a converted graph is the definition's, its sequences in the record, and its own record can be written; a refusal
--- has a number
-pub record ConvertedAs (bs : List ℕ) (r : Read) (es vs : List ℕ) : Type 0 where
-  pub number : read_number r ≡ refusal_of (conversion_causes bs)
-  pub is : (h : Held) → r ≡ Graph h → graph_of h es vs bs ≡ from_assembly_graph (decode bs)
-  pub sendable : (h : Held) → r ≡ Graph h → Sendable (form_of bs) 0 h es vs bs
-  pub refused : (n : ℕ) → r ≡ Refused n → n ≡ 0 → ⊥
+-- the number is the definition's; a converted graph is the definition's, its sequences in the record, and its own record can be written
+pub record ConvertedAs (bs : List ℕ) (r : Result Held Refusal) (es vs : List ℕ) : Type 0 where
+  pub number : refused_by r ≡ refusal_of (conversion_causes bs)
+  pub is : (h : Held) → r ≡ Ok h → graph_of h es vs bs ≡ from_assembly_graph (decode bs)
+  pub sendable : (h : Held) → r ≡ Ok h → Sendable (form_of bs) 0 h es vs bs
 
 -- a held graph of k-mers, indexed, and room to convert it
 pub record ConvertibleKmers (h : Held) (es vs heads nexts order scratch place sorted : List ℕ) : Type 0 where
@@ -40,5 +38,5 @@ pub record ConvertibleKmers (h : Held) (es vs heads nexts order scratch place so
   pub sizes : (v : ℕ) → v < h.n → get_or vs (2 * v + 1) 0 ≤ 128
 
 -- what became of a held graph, for every record of this form of which it was read
-pub record KmersConverted (f : Form) (h : Held) (es vs heads nexts order : List ℕ) (r : Read) (sorted vs' : List ℕ) : Type 0 where
+pub record KmersConverted (f : Form) (h : Held) (es vs heads nexts order : List ℕ) (r : Result Held Refusal) (sorted vs' : List ℕ) : Type 0 where
   pub is : (bs : List ℕ) → f ≡ form_of bs → refusal_of (overlapping_causes bs) ≡ 0 → HoldsKmers bs h es vs heads nexts order → ConvertedAs bs r sorted vs'

@@ -4,9 +4,9 @@
 ghost use Rattle.form.specs.Coded.{form_is};
 ghost use Rattle.from_kmers.specs.Conversion.{ConvertibleKmers, KmersConverted};
 
-use accept::Read;
 use form::Form;
 use memory::Held;
+use refusal::Refusal;
 
 // The edges of the sequence graph are in `sorted`, its sequences in the record, whose form says how many bytes they may have.
 pub fn convert(
@@ -20,7 +20,7 @@ pub fn convert(
     scratch: &mut [u32],
     place: &mut [u32],
     sorted: &mut [u32],
-) -> Read
+) -> Result<Held, Refusal>
     requires { ConvertibleKmers held es.now vs.old heads.now nexts.now order.old scratch.old place.old sorted.old }
     ensures { KmersConverted (form_is form) held es.now vs.old heads.now nexts.now order.old result
         sorted.new vs.new }
@@ -28,7 +28,7 @@ pub fn convert(
     convert::edges_sorted(es, held.m, held.n, order, scratch, place, sorted);
     convert::additional_sequences(es, held.m, held.n, heads, nexts, vs);
     if form::most_bytes(form) < write_record::sequence_bytes(vs, held.n) {
-        return Read::Refused(8);
+        return Err(Refusal::PastBytes);
     }
-    Read::Graph(held)
+    Ok(held)
 }

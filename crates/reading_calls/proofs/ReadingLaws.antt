@@ -24,9 +24,11 @@ use Rattle.sound.proofs.Accepted.{accepted-early, accepted-layout, accepted-good
 use Rattle.reach.specs.Reach.{Walkable}
 use Rattle.orphans.specs.Orphans.{Reduced}
 use Rattle.accept.specs.Accept.{RoomToMark, ReadAs}
-use Rattle.accept.specs.declared.Read.{Read}
-use Rattle.accept.specs.declared.Read.TheVariants as read
-use Rattle.accept.proofs.AcceptLaws.{read_none, read_number_lem}
+use Rattle.std.specs.Prelude.{Result, Ok, Err}
+use Rattle.refusal.specs.Refusals.{number_of_refusal}
+use Rattle.refusal.specs.declared.Refusal.{Refusal}
+use Rattle.refusal.proofs.RefusalLaws.{some-number}
+use Rattle.accept.proofs.AcceptLaws.{read_none, read_refusal}
 use Rattle.pool.specs.Pool.{bytes_in}
 use Rattle.pool.proofs.PoolLaws.{bytes_below}
 use Rattle.write_record.specs.Written.{Measured}
@@ -46,7 +48,7 @@ use Rattle.reading_calls.proofs.BytesLaws.{reference-refused, path-refused}
 
 -- the room is enough for what was read
 module _ {bs es vs heads nexts nodes mp tried : List ℕ} (Z : RoomToMark bs es vs heads nexts nodes mp tried) where
-  pub room-answerable : {x : Read} → ReadAs bs x es vs → {h : Held} → x ≡ read.Graph h → Answerable h es vs bs heads nexts nodes mp tried
+  pub room-answerable : {x : Result Held Refusal} → ReadAs bs x es vs → {h : Held} → x ≡ Ok h → Answerable h es vs bs heads nexts nodes mp tried
   room-answerable A {h} ok =
       let z = read_none A ok in
       let L = A.loaded h ok in
@@ -196,11 +198,12 @@ module _ (call : ReadingCall) (list : List ℕ) {h : Held} {es vs p out : List �
 
 -- ---- a record
 
-module _ (call : ReadingCall) (list : List ℕ) {bs : List ℕ} {x : Read} {es vs : List ℕ} (A : ReadAs bs x es vs) {out : List ℕ} where
-  pub record-refused : {n : ℕ} → x ≡ read.Refused n → Responds (reading_response call list bs (length out)) out record { number = n; length = 0 } out
-  record-refused {n} f = responds-refused (call-refused call list bs (length out) (read_number_lem A f) (A.refused n f)) refl refl
+module _ (call : ReadingCall) (list : List ℕ) {bs : List ℕ} {x : Result Held Refusal} {es vs : List ℕ} (A : ReadAs bs x es vs) {out : List ℕ} where
+  pub record-refused : {n : Refusal} → x ≡ Err n → {s : Answer} → s ≡ record { number = number_of_refusal n; length = 0 }
+      → Responds (reading_response call list bs (length out)) out s out
+  record-refused {n} f a = responds-refused (call-refused call list bs (length out) (read_refusal A f) (some-number n)) a refl
 
-  pub record-answered : {h : Held} → x ≡ read.Graph h → {s : Answer} {out' : List ℕ} → GraphAnswered (reading_response call list) h es vs bs out s out'
+  pub record-answered : {h : Held} → x ≡ Ok h → {s : Answer} {out' : List ℕ} → GraphAnswered (reading_response call list) h es vs bs out s out'
       → Responds (reading_response call list bs (length out)) out s out'
   record-answered {h} ok G = G.is bs refl (read_none A ok) (A.loaded h ok).is
 
@@ -229,8 +232,9 @@ response-within ReferencePathBytes list bs room caller l = reference-within bs r
 response-within (PathBasesBytes start) list bs room caller l = path-within bs start list room caller l
 
 module _ (call : ReadingCall) (list bs : List ℕ) {out : List ℕ} {caller : ℕ} where
-  pub caller-refused : 15 < caller → Responds (reading_response_to call list bs (length out) caller) out record { number = 18; length = 0 } out
-  caller-refused l = responds-refused (response-above call list bs (length out) caller l) refl refl
+  pub caller-refused : 15 < caller → {s : Answer} → s ≡ record { number = 18; length = 0 }
+      → Responds (reading_response_to call list bs (length out) caller) out s out
+  caller-refused l a = responds-refused (response-above call list bs (length out) caller l) a refl
 
   pub caller-answered : {s : Answer} {out' : List ℕ} → caller ≤ 15 → Responds (reading_response call list bs (length out)) out s out'
       → Responds (reading_response_to call list bs (length out) caller) out s out'

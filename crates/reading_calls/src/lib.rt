@@ -5,16 +5,17 @@
 ghost use Rattle.std.specs.Prelude.{◌≡◌, ℕ, ◌<◌, length};
 ghost use Rattle.accept.specs.Accept.{RoomToMark};
 ghost use Rattle.arrays.specs.Sized.{ClassToRead};
+ghost use Rattle.refusal.specs.Refusals.{number_of_refusal};
 ghost use Rattle.calls.specs.Sending.{Responds};
 ghost use Rattle.reading_calls.specs.Reading.{cleaning_response, reference_response, path_response, reading_response, reading_response_to};
 ghost use Rattle.reading_calls.specs.Reading.{Answerable, Tellable, Tells, GraphAnswered};
 
-use accept::Read;
 use arrays::{
     FEW_EDGES, FEW_VERTICES, MANY_EDGES, MANY_VERTICES, MOST_EDGES, MOST_VERTICES, ReadingClass,
 };
 use calls::Answer;
 use memory::Held;
+use refusal::Refusal;
 use tallies::LAST_CALLER;
 
 // A path has its start vertex here, and its edges in a list beside it.
@@ -25,22 +26,16 @@ pub enum ReadingCall {
     PathBasesBytes(u32),
 }
 
-// Of bytes that are told, or none, what is sent; `missing` is the number for none.
-fn tell(told: Option<usize>, room: usize, missing: u32) -> Answer
+// Of bytes that are told, or none, what is sent; `missing` refuses where there are none.
+fn tell(told: Option<usize>, room: usize, missing: Refusal) -> Answer
     requires { (n : ℕ) → told ≡ Some n → n < 4294967296 }
-    ensures { Tells told room missing result }
+    ensures { Tells told room (number_of_refusal missing) result }
 {
     let Some(len) = told else {
-        return Answer {
-            number: missing,
-            length: 0,
-        };
+        return Answer::from(missing);
     };
     if room < len {
-        return Answer {
-            number: 11,
-            length: 0,
-        };
+        return Answer::from(Refusal::NoRoom);
     }
     Answer {
         number: 0,
@@ -85,7 +80,7 @@ fn reference_in(
 {
     index::build_index(es, held.m, held.n, heads, nexts);
     let told = reference::reference_path_bytes(held, es, vs, p, heads, nexts, nodes, out);
-    tell(told, out.len(), 10)
+    tell(told, out.len(), Refusal::NoReferencePath)
 }
 
 // 9 where the start or the list of edges is no path.
@@ -107,7 +102,7 @@ fn path_in(
 {
     index::build_index(es, held.m, held.n, heads, nexts);
     let told = paths::path_bases_bytes(held, es, vs, p, heads, nexts, start, list, nodes, out);
-    tell(told, out.len(), 9)
+    tell(told, out.len(), Refusal::NotInGraph)
 }
 
 fn answer_graph(
@@ -160,8 +155,8 @@ fn answer_lent(
         out.new }
 {
     let held = match accept::read_sequence_graph(rec, es, vs, heads, nexts, nodes, map) {
-        Read::Graph(held) => held,
-        Read::Refused(number) => return Answer { number, length: 0 },
+        Ok(held) => held,
+        Err(refusal) => return Answer::from(refusal),
     };
     answer_graph(
         call, list, rec, held, out, es, vs, heads, nexts, nodes, map, tried,
@@ -220,10 +215,7 @@ pub fn answer(call: ReadingCall, list: &[u32], rec: &[u8], out: &mut [u8], calle
         out.new }
 {
     if LAST_CALLER < caller {
-        return Answer {
-            number: 18,
-            length: 0,
-        };
+        return Answer::from(Refusal::NoSuchCaller);
     }
     by_class(call, list, rec, out)
 }

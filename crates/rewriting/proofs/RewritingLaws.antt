@@ -17,9 +17,11 @@ use Rattle.load.specs.Loaded.{Poolable, SequencesPooled}
 use Rattle.load.proofs.LoadLaws.{formed-laid, pooled-graph}
 use Rattle.sound.proofs.Accepted.{accepted-early, accepted-layout}
 use Rattle.accept.specs.Accept.{ReadAs}
-use Rattle.accept.specs.declared.Read.{Read}
-use Rattle.accept.specs.declared.Read.TheVariants as read
-use Rattle.accept.proofs.AcceptLaws.{not-both, number-graph, number-refused, same-held, read_none}
+use Rattle.std.specs.Prelude.{Ok, Err}
+use Rattle.std.specs.Prelude as std
+use Rattle.refusal.specs.declared.Refusal.{Refusal}
+use Rattle.refusal.proofs.RefusalLaws.{refused-number, made-number}
+use Rattle.accept.proofs.AcceptLaws.{read_none}
 use Rattle.choice.specs.Choice.{HoldsLean, Cleanable}
 use Rattle.choice.proofs.LeanLaws.{lean-as}
 use Rattle.choice.proofs.ChoiceLaws.{holds-lean-kept}
@@ -71,16 +73,15 @@ is-rewritten {h = h} {es} {vs} {p} {heads} {nexts} {r} {es'} {vs'} {p'} w G =
     subst (λ (y : RewritingCall). GraphRewritten y h es vs p heads nexts r es' vs' p') (sym w) G
 
 -- what was read, its sequences in the pool, is held
-module _ {bs : List ℕ} {x : Read} {es vs : List ℕ} (A : ReadAs bs x es vs) {heads nexts : List ℕ} where
-  pub held-refused : {n : ℕ} → x ≡ read.Refused n → {p : List ℕ} → HeldAs bs heads nexts (read.Refused n) es vs p
+module _ {bs : List ℕ} {x : std.Result Held Refusal} {es vs : List ℕ} (A : ReadAs bs x es vs) {heads nexts : List ℕ} where
+  pub held-refused : {n : Refusal} → x ≡ Err n → {p : List ℕ} → HeldAs bs heads nexts (Err n) es vs p
   held-refused {n} f = record {
-    number = number-refused refl ∙ sym (number-refused f) ∙ A.number;
-    is = λ h q. not-both q refl;
-    holds = λ h q. not-both q refl;
-    refused = λ m q z. A.refused n f (sym (number-refused refl) ∙ number-refused q ∙ z);
+    number = sym (refused-number f) ∙ A.number;
+    is = λ h q. cc;
+    holds = λ h q. cc;
   }
 
-  module _ {h : Held} (ok : x ≡ read.Graph h) {es₀ vs₀ p nodes mp : List ℕ} (Z : LentGraph bs es₀ vs₀ p heads nexts nodes mp) where
+  module _ {h : Held} (ok : x ≡ Ok h) {es₀ vs₀ p nodes mp : List ℕ} (Z : LentGraph bs es₀ vs₀ p heads nexts nodes mp) where
     formed : WellFormed bs
     formed = accepted-layout sequence_only bs (read_none A ok)
 
@@ -97,7 +98,7 @@ module _ {bs : List ℕ} {x : Read} {es vs : List ℕ} (A : ReadAs bs x es vs) {
     }
 
     pub held-pooled : {r : Held} {vs' p' heads' nexts' : List ℕ} → SequencesPooled bs h r vs' p' → length heads' ≡ length heads → length nexts' ≡ length nexts
-        → HeldAs bs heads' nexts' (read.Graph r) es vs' p'
+        → HeldAs bs heads' nexts' (Ok r) es vs' p'
     held-pooled {r} {vs'} {p'} {heads'} {nexts'} P d f =
         let e : graph_of r es vs' p' ≡ decode bs = pooled-graph (A.loaded h ok) P in
         let held : HoldsLean r es vs' p' heads nexts = record {
@@ -106,10 +107,9 @@ module _ {bs : List ℕ} {x : Read} {es vs : List ℕ} (A : ReadAs bs x es vs) {
           used-room = omega (arith, P.used, Z.roomy.weight formed kind);
         } in
         record {
-          number = number-graph refl ∙ sym (number-graph ok) ∙ A.number;
-          is = λ g q. subst (λ (y : Held). graph_of y es vs' p' ≡ decode bs) (same-held q) e;
-          holds = λ g q. subst (λ (y : Held). HoldsLean y es vs' p' heads' nexts') (same-held q) (holds-lean-kept held d f);
-          refused = λ n q. not-both refl q;
+          number = sym (made-number ok) ∙ A.number;
+          is = λ g q. let same : r ≡ g = cc in subst (λ (y : Held). graph_of y es vs' p' ≡ decode bs) same e;
+          holds = λ g q. let same : r ≡ g = cc in subst (λ (y : Held). HoldsLean y es vs' p' heads' nexts') same (holds-lean-kept held d f);
         }
 
 -- what is lent is room enough to rewrite what is held, when it was written to

@@ -1,5 +1,6 @@
 -- What a call that rewrites makes of a graph, and of a record. Assumes nothing.
-use Rattle.std.specs.Prelude.{◌≡◌, List, ℕ}
+use Rattle.std.specs.Prelude.{◌≡◌, Ok, List, ℕ}
+use Rattle.std.specs.Prelude as std
 use Rattle.defs.specs.SeqGraph.{Graph}
 use Rattle.defs.specs.Simplify.{simplify_graph_full, min_tail_suffix_len, end_number}
 use Rattle.defs.specs.Cleanup.{cleanup_seq_graph, status_number}
@@ -7,9 +8,8 @@ use Rattle.defs.specs.Record.{decode}
 use Rattle.defs.specs.Refusals.{sequence_only, record_refusal}
 use Rattle.memory.specs.Memory.{graph_of, Holds}
 use Rattle.memory.specs.declared.Held.{Held}
-use Rattle.accept.specs.Accept.{read_number}
-use Rattle.accept.specs.declared.Read.{Read}
-use Rattle.accept.specs.declared.Read.TheVariants as read
+use Rattle.refusal.specs.Refusals.{refused_by}
+use Rattle.refusal.specs.declared.Refusal.{Refusal}
 use Rattle.choice.specs.Choice.{HoldsLean}
 use Rattle.rewriting.specs.declared.Rewritten.{Rewritten}
 use Rattle.rewriting.specs.declared.RewritingCall.{RewritingCall}
@@ -36,12 +36,11 @@ abbrev pub result_in : Rewritten → List ℕ → List ℕ → List ℕ → Resu
 result_in r es vs p = record { graph = graph_of r.held es vs p; status = r.status; rewrites = r.rewrites; rounds = r.rounds; end = r.end }
 
 -- What is held of a record for rewriting: the number is the definition's; a graph is the record's, with its sequences in the pool, and the room is
--- for it, whatever vertices go; a refusal has a number.
-pub record HeldAs (bs heads nexts : List ℕ) (r : Read) (es vs p : List ℕ) : Type 0 where
-  pub number : read_number r ≡ record_refusal sequence_only bs
-  pub is : (h : Held) → r ≡ read.Graph h → graph_of h es vs p ≡ decode bs
-  pub holds : (h : Held) → r ≡ read.Graph h → HoldsLean h es vs p heads nexts
-  pub refused : (n : ℕ) → r ≡ read.Refused n → n ≡ 0 → ⊥
+-- for it, whatever vertices go.
+pub record HeldAs (bs heads nexts : List ℕ) (r : std.Result Held Refusal) (es vs p : List ℕ) : Type 0 where
+  pub number : refused_by r ≡ record_refusal sequence_only bs
+  pub is : (h : Held) → r ≡ Ok h → graph_of h es vs p ≡ decode bs
+  pub holds : (h : Held) → r ≡ Ok h → HoldsLean h es vs p heads nexts
 
 -- a graph that was rewritten, and is held
 pub record GraphRewritten (call : RewritingCall) (h : Held) (es vs p heads nexts : List ℕ) (r : Rewritten) (es' vs' p' : List ℕ) : Type 0 where

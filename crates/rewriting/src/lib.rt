@@ -10,9 +10,9 @@ ghost use Rattle.cleanup_steps.specs.CleanUp.{cleanup_status_of};
 ghost use Rattle.rewriting.specs.Rewriting.{HeldAs, GraphRewritten};
 ghost use Rattle.rewriting.specs.declared.RewritingCall.TheVariants as call;
 
-use accept::Read;
 use cleanup_steps::SeqGraphCleanupStatus;
 use memory::Held;
+use refusal::Refusal;
 
 #[derive(Clone, Copy)]
 pub enum RewritingCall {
@@ -147,13 +147,10 @@ pub fn read_and_hold(
     nexts: &mut [u32],
     nodes: &mut [u32],
     map: &mut [u32],
-) -> Read
+) -> Result<Held, Refusal>
     requires { LentGraph rec.now es.old vs.old p.old heads.old nexts.old nodes.old map.old }
     ensures { HeldAs rec.now heads.new nexts.new result es.new vs.new p.new }
 {
-    let held = match accept::read_sequence_graph(rec, es, vs, heads, nexts, nodes, map) {
-        Read::Graph(held) => held,
-        Read::Refused(number) => return Read::Refused(number),
-    };
-    Read::Graph(load::load_pool(rec, held, vs, p))
+    let held = accept::read_sequence_graph(rec, es, vs, heads, nexts, nodes, map)?;
+    Ok(load::load_pool(rec, held, vs, p))
 }

@@ -12,9 +12,11 @@ use Rattle.defs.specs.Refusals.{sequence_only, record_causes, record_refusal}
 use Rattle.memory.specs.Memory.{graph_of}
 use Rattle.memory.specs.declared.Held.{Held}
 use Rattle.memory.proofs.RoomLaws.{room-kept}
-use Rattle.accept.specs.declared.Read.{Read}
-use Rattle.accept.specs.declared.Read.TheVariants as read
-use Rattle.accept.proofs.AcceptLaws.{number-graph, number-refused}
+use Rattle.std.specs.Prelude.{Ok, Err}
+use Rattle.std.specs.Prelude as std
+use Rattle.refusal.specs.Refusals.{number_of_refusal}
+use Rattle.refusal.specs.declared.Refusal.{Refusal}
+use Rattle.refusal.proofs.RefusalLaws.{some-number, refused-number, made-number}
 use Rattle.rewriting.specs.Rewriting.{Result, result_of, HeldAs, GraphRewritten}
 use Rattle.rewriting.specs.declared.Rewritten.{Rewritten}
 use Rattle.rewriting.specs.declared.RewritingCall.{RewritingCall}
@@ -47,7 +49,7 @@ result-small CleanupSeqGraph g = status-small (cleanup_seq_graph g).status
 pub lent-answerable : {bs es vs p heads nexts nodes mp starts tried sig es' vs' p' heads' nexts' nodes' mp' : List ℕ}
     → Lent bs es vs p heads nexts nodes mp starts tried sig → length es' ≡ length es → length vs' ≡ length vs → length p' ≡ length p
     → length heads' ≡ length heads → length nexts' ≡ length nexts → length nodes' ≡ length nodes → length mp' ≡ length mp
-    → {x : Read} → HeldAs bs heads' nexts' x es' vs' p' → {h : Held} → x ≡ read.Graph h → {f : Form} → f ≡ form_of bs
+    → {x : std.Result Held Refusal} → HeldAs bs heads' nexts' x es' vs' p' → {h : Held} → x ≡ Ok h → {f : Form} → f ≡ form_of bs
     → HeldAnswerable f h es' vs' p' heads' nexts' nodes' mp' starts tried sig
 lent-answerable Z a b c d e f g A {h} ok form =
     let F = Z.graph.fits in
@@ -94,20 +96,21 @@ module _ {call : RewritingCall} {h : Held} {es vs p heads nexts : List ℕ} {r :
 
 -- ---- a record
 
-module _ {call : RewritingCall} {bs heads nexts : List ℕ} {x : Read} {es vs p : List ℕ} (A : HeldAs bs heads nexts x es vs p) {out : List ℕ} where
-  pub record-refused : {n : ℕ} → x ≡ read.Refused n → {r : RewritingAnswer} → r.sent ≡ record { number = n; length = 0 } → RewritingAnswered call bs out r out
+module _ {call : RewritingCall} {bs heads nexts : List ℕ} {x : std.Result Held Refusal} {es vs p : List ℕ} (A : HeldAs bs heads nexts x es vs p) {out : List ℕ} where
+  pub record-refused : {n : Refusal} → x ≡ Err n → {r : RewritingAnswer} → r.sent ≡ record { number = number_of_refusal n; length = 0 }
+      → RewritingAnswered call bs out r out
   unfolding record_refusal
   record-refused {n} f {r} q =
-      let o = A.refused n f in
-      let e = sym A.number ∙ number-refused f in
+      let o = some-number n in
+      let e = sym A.number ∙ refused-number f in
       record {
-        sent = responds-refused (respond-refused (record_causes sequence_only bs) (length out) _ n e o) q refl;
+        sent = responds-refused (respond-refused (record_causes sequence_only bs) (length out) _ (number_of_refusal n) e o) q refl;
         counted = λ z. absurd (o (sym (ap (λ (y : Answer). y.number) q) ∙ z));
       }
 
-  pub record-answered : {h : Held} → x ≡ read.Graph h → {f : Form} → f ≡ form_of bs → {r : RewritingAnswer} {out' : List ℕ}
+  pub record-answered : {h : Held} → x ≡ Ok h → {f : Form} → f ≡ form_of bs → {r : RewritingAnswer} {out' : List ℕ}
       → HeldAnswered call f h es vs p out r out' → RewritingAnswered call bs out r out'
-  record-answered {h} ok e H = H.is bs e (sym A.number ∙ number-graph ok) (A.is h ok)
+  record-answered {h} ok e H = H.is bs e (sym A.number ∙ made-number ok) (A.is h ok)
 
 -- ---- a class
 

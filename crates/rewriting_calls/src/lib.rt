@@ -5,10 +5,10 @@
 ghost use Rattle.std.specs.Prelude.{◌≡◌, ◌+◌, ◌*◌};
 ghost use Rattle.defs.specs.Forms.{form_of};
 ghost use Rattle.form.specs.Coded.{form_is};
+ghost use Rattle.refusal.specs.Refusals.{number_of_refusal};
 ghost use Rattle.arrays.specs.Sized.{ClassToRewrite, Lent};
 ghost use Rattle.rewriting_calls.specs.Answered.{HeldAnswerable, HeldAnswered, RewritingAnswered, RewritingAnsweredTo};
 
-use accept::Read;
 use arrays::{
     HUGE_EDGES, HUGE_RECORD, HUGE_SIGNATURE, HUGE_VERTICES, LARGE_EDGES, LARGE_SIGNATURE,
     LARGE_VERTICES, MEDIUM_EDGES, MEDIUM_SIGNATURE, MEDIUM_VERTICES, SMALL_EDGES, SMALL_RECORD,
@@ -17,6 +17,7 @@ use arrays::{
 use calls::Answer;
 use form::Form;
 use memory::Held;
+use refusal::Refusal;
 use rewriting::RewritingCall;
 use tallies::LAST_CALLER;
 
@@ -63,11 +64,11 @@ fn answer_held(
     }
 }
 
-fn refusal(number: u32) -> RewritingAnswer
-    ensures { result.sent ≡ record { number = number; length = 0 } }
+fn refused(refusal: Refusal) -> RewritingAnswer
+    ensures { result.sent ≡ record { number = number_of_refusal refusal; length = 0 } }
 {
     RewritingAnswer {
-        sent: Answer { number, length: 0 },
+        sent: Answer::from(refusal),
         status: 0,
         rewrites: 0,
         rounds: 0,
@@ -96,8 +97,8 @@ fn answer_lent(
 {
     let form = form::form_of(rec);
     let held = match rewriting::read_and_hold(rec, es, vs, p, heads, nexts, nodes, map) {
-        Read::Graph(held) => held,
-        Read::Refused(number) => return refusal(number),
+        Ok(held) => held,
+        Err(refusal) => return refused(refusal),
     };
     answer_held(
         call, form, held, out, es, vs, p, heads, nexts, nodes, map, starts, tried, sig,
@@ -179,7 +180,7 @@ pub fn answer(call: RewritingCall, rec: &[u8], out: &mut [u8], caller: u32) -> R
     ensures { RewritingAnsweredTo call rec.now out.old caller result out.new }
 {
     if LAST_CALLER < caller {
-        return refusal(18);
+        return refused(Refusal::NoSuchCaller);
     }
     by_class(call, rec, out)
 }

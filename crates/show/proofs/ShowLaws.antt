@@ -24,8 +24,7 @@ use Rattle.laws.proofs.ListLaws.{clash}
 use Rattle.laws.proofs.Causes.{refusal-absent, refusal-front}
 use Rattle.kmer.specs.declared.KmerSize.{KmerSize}
 use Rattle.kmer.specs.Size.{k_past_limit, size_of}
-use Rattle.kmer.specs.declared.MadeSize.{MadeSize}
-use Rattle.kmer.specs.declared.MadeSize.TheVariants.{Size, Refused}
+use Rattle.std.specs.Prelude.{Option, Some, None}
 use Rattle.kmer.proofs.SizeLaws.{refused-past, made-is}
 use Rattle.pool.specs.Pool.{bytes_in}
 use Rattle.memory.specs.declared.Held.{Held}
@@ -90,12 +89,12 @@ module _ {bs : List ℕ} (R : Recorded bs) where
   unfolding k_past_limit
   past-none k a b = λ i. le-ltb k 2 a i || le-ltb 128 k b i
 
-  pub recorded-size : {m : MadeSize} {X : Type 0} → m ≡ size_of (k_of bs) → m ≡ Refused → X
+  pub recorded-size : {m : Option KmerSize} {X : Type 0} → m ≡ size_of (k_of bs) → m ≡ None → X
   recorded-size q f =
       clash (refused-past (k_of bs) (sym q ∙ f)) (past-none (k_of bs) R.k-least R.k-most)
 
-  pub recorded-loadable : {v e : ℕ} {es vs : List ℕ} → FewShown v e bs → SizedToShow v e es vs → {m : MadeSize} {k : KmerSize}
-      → m ≡ size_of (k_of bs) → m ≡ Size k → (k.0 ≡ k_of bs) × Loadable bs es vs
+  pub recorded-loadable : {v e : ℕ} {es vs : List ℕ} → FewShown v e bs → SizedToShow v e es vs → {m : Option KmerSize} {k : KmerSize}
+      → m ≡ size_of (k_of bs) → m ≡ Some k → (k.0 ≡ k_of bs) × Loadable bs es vs
   recorded-loadable F Y q f = (
     made-is (k_of bs) (sym q ∙ f),
     record {

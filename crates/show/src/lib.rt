@@ -6,7 +6,6 @@ ghost use Rattle.show.specs.Show.{Recorded, FewShown, GraphPut, Printing, Answer
 
 use arrays::{FEW_EDGES, FEW_VERTICES};
 use calls::SimplifyAnswer;
-use kmer::MadeSize;
 
 // The longest record that is read, and the longest answer that is printed.
 pub const RECORD_MOST: usize = 65536;
@@ -34,7 +33,7 @@ fn many_with(
     ensures { GraphPut made rec.now text.old result text.new }
 {
     // The record that a call wrote has a k of 2 to 128, so the other arm is never taken.
-    let MadeSize::Size(k) = record::kmer_size_of(rec) else {
+    let Some(k) = record::kmer_size_of(rec) else {
         return 0;
     };
     let held = load::load_graph(rec, k, es, vs);
@@ -63,7 +62,7 @@ fn few_with(
     ensures { GraphPut made rec.now text.old result text.new }
 {
     // The record that a call wrote has a k of 2 to 128, so the other arm is never taken.
-    let MadeSize::Size(k) = record::kmer_size_of(rec) else {
+    let Some(k) = record::kmer_size_of(rec) else {
         return 0;
     };
     let held = load::load_graph(rec, k, es, vs);

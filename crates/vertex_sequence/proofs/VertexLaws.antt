@@ -22,10 +22,12 @@ use Rattle.record.specs.Headed.{Headed, LengthInside}
 use Rattle.record.specs.Kinds.{takes_of}
 use Rattle.record.specs.declared.Takes.TheVariants.{BothKinds}
 use Rattle.kmer.specs.declared.KmerSize.{KmerSize}
-use Rattle.record.specs.Layout.{WellFormed, layout_of}
-use Rattle.record.specs.declared.Layout.{Layout}
-use Rattle.record.specs.declared.Layout.TheVariants.{Formed, Refused}
-use Rattle.record.proofs.Accepted.{well-formed, formed-none, formed-size, refused-number, refused-some}
+use Rattle.std.specs.Prelude.{Result, Ok, Err}
+use Rattle.refusal.specs.Refusals.{number_of_refusal}
+use Rattle.refusal.specs.declared.Refusal.{Refusal}
+use Rattle.refusal.proofs.RefusalLaws.{some-number}
+use Rattle.record.specs.Layout.{WellFormed, LayoutOf}
+use Rattle.record.proofs.Accepted.{well-formed, formed-none, formed-size, layout-number}
 use Rattle.record.proofs.Fields.{sequence_at-is}
 use Rattle.record.proofs.Sequences.{vertex-is, sequence-inside, length-least, length_most, formed-headed, formed-length}
 use Rattle.store.specs.Store.{edges_in, seqs_in}
@@ -70,14 +72,14 @@ module _ (m n : ℕ) (es vs p : List ℕ) where
 
 -- ---- the record
 
-module _ (bs : List ℕ) {r : Layout} (e : r ≡ layout_of (refusal_of (layout_causes (takes_of BothKinds) bs)) (k_of bs)) where
-  pub number-early : {n : ℕ} → r ≡ Refused n → n ≡ record_refusal both_kinds bs
+module _ (bs : List ℕ) {r : Result KmerSize Refusal} (e : LayoutOf (refusal_of (layout_causes (takes_of BothKinds) bs)) (k_of bs) r) where
+  pub number-early : {n : Refusal} → r ≡ Err n → number_of_refusal n ≡ record_refusal both_kinds bs
   unfolding takes_of
   number-early {n} f =
-      sym (refused-early both_kinds bs (sym (refused-number both_kinds bs e f))
-      (by_order 1 n (λ b. b) (λ b. absurd (refused-some both_kinds bs e f (omega arith)))))
+      sym (refused-early both_kinds bs (sym (layout-number both_kinds bs e f))
+      (by_order 1 (number_of_refusal n) (λ b. b) (λ b. absurd (some-number n (omega arith)))))
 
-  module _ {k : KmerSize} (ok : r ≡ Formed k) where
+  module _ {k : KmerSize} (ok : r ≡ Ok k) where
     layout-none : refusal_of (layout_causes both_kinds bs) ≡ 0
     unfolding takes_of
     layout-none = formed-none both_kinds bs e ok

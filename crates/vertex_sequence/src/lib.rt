@@ -4,6 +4,7 @@
 ghost use Rattle.std.specs.Prelude.{◌≡◌, ◌&&◌, ◌||◌};
 ghost use Rattle.defs.specs.Refusals.{both_kinds, record_refusal, doubled_edge, equal_kmers};
 ghost use Rattle.defs.specs.Calls.{vertex_sequence_number};
+ghost use Rattle.refusal.specs.Refusals.{refused_by};
 ghost use Rattle.store.specs.Store.{edges_in, seqs_in};
 ghost use Rattle.index.specs.Index.{Indexed};
 ghost use Rattle.doubled.specs.Doubled.{Markable};
@@ -18,7 +19,8 @@ use arrays::{
     FEW_EDGES, FEW_VERTICES, MANY_EDGES, MANY_VERTICES, MOST_EDGES, MOST_VERTICES, ReadingClass,
 };
 use memory::Held;
-use record::{Layout, Takes};
+use record::Takes;
+use refusal::Refusal;
 
 // Where a vertex's sequence stands in the record, and how long it is.
 #[derive(Clone, Copy)]
@@ -51,8 +53,8 @@ fn is_doubled(
     doubled::doubled_edge(es, m, n, heads, nexts, scratch)
 }
 
-// 6, 7 or 0 for a graph in slices.
-fn graph_number(
+// 6 and 7, of a graph in slices.
+fn check_graph(
     kmers: bool,
     es: &[u32],
     m: usize,
@@ -64,21 +66,21 @@ fn graph_number(
     order: &mut [u32],
     scratch: &mut [u32],
     place: &mut [u32],
-) -> u32
+) -> Result<(), Refusal>
     requires { Checkable m n es.now vs.now p.now heads.now nexts.now order.old scratch.old place.old }
-    ensures { Checks kmers m n es.now vs.now p.now result }
+    ensures { Checks kmers m n es.now vs.now p.now (refused_by result) }
 {
     if is_doubled(kmers, es, m, n, vs, p, heads, nexts, order, scratch) {
-        return 6;
+        return Err(Refusal::Doubled);
     }
     if cycle::has_cycle(es, m, n, heads, nexts, scratch, place) {
-        return 7;
+        return Err(Refusal::HasCycle);
     }
-    0
+    Ok(())
 }
 
 // The same of the graph that was read of a record.
-fn loaded_number(
+fn check_loaded(
     rec: &[u8],
     held: Held,
     es: &[u32],
@@ -88,12 +90,12 @@ fn loaded_number(
     order: &mut [u32],
     scratch: &mut [u32],
     place: &mut [u32],
-) -> u32
+) -> Result<(), Refusal>
     requires { LoadedToCheck rec.now held es.now vs.now heads.old nexts.old order.old scratch.old place.old }
-    ensures { result ≡ record_refusal both_kinds rec.now }
+    ensures { refused_by result ≡ record_refusal both_kinds rec.now }
 {
     index::build_index(es, held.m, held.n, heads, nexts);
-    graph_number(
+    check_graph(
         rec[4] == 0,
         es,
         held.m,
@@ -108,7 +110,7 @@ fn loaded_number(
     )
 }
 
-// The refusal number of a record, 1 to 7, or 0, which is read into slices that have room for it.
+// 1 to 7, of a record that is read into slices that have room for it.
 fn check_lent(
     rec: &[u8],
     es: &mut [u32],
@@ -118,24 +120,21 @@ fn check_lent(
     order: &mut [u32],
     scratch: &mut [u32],
     place: &mut [u32],
-) -> u32
+) -> Result<(), Refusal>
     requires { RoomToMark rec.now es.old vs.old heads.old nexts.old order.old scratch.old place.old }
-    ensures { result ≡ record_refusal both_kinds rec.now }
+    ensures { refused_by result ≡ record_refusal both_kinds rec.now }
 {
-    let k = match record::check_layout(rec, Takes::BothKinds) {
-        Layout::Formed(k) => k,
-        Layout::Refused(number) => return number,
-    };
+    let k = record::check_layout(rec, Takes::BothKinds)?;
     let held = load::load_graph(rec, k, es, vs);
-    loaded_number(rec, held, es, vs, heads, nexts, order, scratch, place)
+    check_loaded(rec, held, es, vs, heads, nexts, order, scratch, place)
 }
 
 // In the arrays of the class of V vertices and E edges. Never laid into the caller: its frame would have the arrays of all classes, and every record
 // would take them.
 #[inline(never)]
-fn check_in<const V: usize, const E: usize>(rec: &[u8]) -> u32
+fn check_in<const V: usize, const E: usize>(rec: &[u8]) -> Result<(), Refusal>
     requires { ClassToRead V E rec.now }
-    ensures { result ≡ record_refusal both_kinds rec.now }
+    ensures { refused_by result ≡ record_refusal both_kinds rec.now }
 {
     let mut es = [[0u32; 4]; E];
     let mut vs = [[0u32; 2]; V];
@@ -156,8 +155,8 @@ fn check_in<const V: usize, const E: usize>(rec: &[u8]) -> u32
     )
 }
 
-fn checked_record(rec: &[u8]) -> u32
-    ensures { result ≡ record_refusal both_kinds rec.now }
+fn check_record(rec: &[u8]) -> Result<(), Refusal>
+    ensures { refused_by result ≡ record_refusal both_kinds rec.now }
 {
     match arrays::class_to_read(rec) {
         ReadingClass::Small => check_in::<FEW_VERTICES, FEW_EDGES>(rec),
@@ -166,28 +165,25 @@ fn checked_record(rec: &[u8]) -> u32
     }
 }
 
-// The record's number, or 9 where v is no vertex, or 0.
-fn vertex_number(rec: &[u8], v: u32) -> u32
-    ensures { result ≡ vertex_sequence_number rec.now v }
+// 1 to 7, and 9 where v is no vertex.
+fn check_vertex(rec: &[u8], v: u32) -> Result<(), Refusal>
+    ensures { refused_by result ≡ vertex_sequence_number rec.now v }
 {
-    let number = checked_record(rec);
-    if number != 0 {
-        return number;
-    }
+    check_record(rec)?;
     if record::vertex_count(rec, form::form_of(rec)) <= v as usize {
-        return 9;
+        return Err(Refusal::NotInGraph);
     }
-    0
+    Ok(())
 }
 
 pub fn vertex_sequence<'a>(rec: &'a [u8], v: u32, number: &mut u32) -> &'a [u8]
     ensures { Handed rec.now v number.new result.now }
 {
-    let told = vertex_number(rec, v);
-    *number = told;
-    if told != 0 {
+    if let Err(refusal) = check_vertex(rec, v) {
+        *number = refusal.number();
         return &rec[0..0];
     }
+    *number = 0;
     sequence::sequence_part(rec, v as usize)
 }
 
@@ -195,14 +191,14 @@ pub fn vertex_sequence<'a>(rec: &'a [u8], v: u32, number: &mut u32) -> &'a [u8]
 pub fn vertex_sequence_place(rec: &[u8], v: u32, number: &mut u32) -> SequencePlace
     ensures { Placed rec.now v number.new result }
 {
-    let told = vertex_number(rec, v);
-    *number = told;
-    if told != 0 {
+    if let Err(refusal) = check_vertex(rec, v) {
+        *number = refusal.number();
         return SequencePlace {
             offset: 0,
             length: 0,
         };
     }
+    *number = 0;
     let at = sequence::sequence_start(rec, v as usize);
     let len = record::length_at(rec, form::form_of(rec), v as usize);
     SequencePlace {

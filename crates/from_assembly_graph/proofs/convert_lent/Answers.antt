@@ -5,14 +5,14 @@ use Rattle.from_assembly_graph.proofs.convert_lent.Goals as goal
 pub read_overlapping_kmer_graph-requires : goal.read_overlapping_kmer_graph-requires
 read_overlapping_kmer_graph-requires c = c.requires.reading
 
-pub returns-in-Refused : goal.returns-in-Refused
-returns-in-Refused c =
-    refused-sent c.read_overlapping_kmer_graph.ensures c.in-Refused.is
+pub returns-in-Err : goal.returns-in-Err
+returns-in-Err c =
+    refused-sent c.read_overlapping_kmer_graph.ensures c.in-Err.is c.from.ensures
 
 pub convert_held-requires : goal.convert_held-requires
 convert_held-requires c =
     let kept = c.read_overlapping_kmer_graph.auto in
     held-to-convert
     c.read_overlapping_kmer_graph.ensures
-    c.in-Graph.is
+    c.in-Ok.is
     (room-to-convert-kept c.requires kept.es kept.vs kept.heads kept.nexts kept.order kept.scratch kept.place)

@@ -5,7 +5,7 @@ use Rattle.from_assembly_graph.proofs.from_assembly_graph.Goals as goal
 
 pub returns-then-caller-gt-LAST_CALLER : goal.returns-then-caller-gt-LAST_CALLER
 returns-then-caller-gt-LAST_CALLER c =
-    converts-refused _ (λ i. omega (arith, c.type_inv.rec i)) c.if-caller-gt-LAST_CALLER.true
+    converts-refused _ (λ i. omega (arith, c.type_inv.rec i)) c.if-caller-gt-LAST_CALLER.true c.from.ensures
 
 pub returns : goal.returns
 returns c =

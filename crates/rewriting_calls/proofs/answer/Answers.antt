@@ -4,7 +4,7 @@ use Rattle.rewriting_calls.proofs.answer.Goals as goal
 
 pub returns-then-caller-gt-LAST_CALLER : goal.returns-then-caller-gt-LAST_CALLER
 returns-then-caller-gt-LAST_CALLER c =
-    caller-refused c.if-caller-gt-LAST_CALLER.true c.refusal.ensures
+    caller-refused c.if-caller-gt-LAST_CALLER.true c.refused.ensures
 
 pub returns : goal.returns
 returns c =

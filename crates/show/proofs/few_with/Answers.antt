@@ -27,7 +27,7 @@ load_graph-held-requires c =
     c.requires.1.1
     (search rules)
     c.kmer_size_of.ensures
-    c.in-Size.is
+    c.in-Some.is
 
 pub sequence_bytes-b-requires : goal.sequence_bytes-b-requires
 sequence_bytes-b-requires c =

@@ -1,8 +1,8 @@
--- `vertex_sequence::loaded_number` meets its contract.
+-- `vertex_sequence::check_loaded` meets its contract.
 use mathlib.Core.Path.{refl}
 use native.Mathlib.Omega.{arith}
 use Rattle.vertex_sequence.proofs.VertexLaws.{loaded-long, loaded-indexable, loaded-checkable, number-late}
-use Rattle.vertex_sequence.proofs.loaded_number.Goals as goal
+use Rattle.vertex_sequence.proofs.check_loaded.Goals as goal
 
 pub build_index-requires : goal.build_index-requires
 build_index-requires c =
@@ -11,8 +11,8 @@ build_index-requires c =
 pub bounds-rec-4 : goal.bounds-rec-4
 bounds-rec-4 c = omega (arith, loaded-long c.requires)
 
-pub graph_number-requires : goal.graph_number-requires
-graph_number-requires c = loaded-checkable c.requires c.build_index.ensures
+pub check_graph-requires : goal.check_graph-requires
+check_graph-requires c = loaded-checkable c.requires c.build_index.ensures
 
 pub returns : goal.returns
-returns c = number-late c.requires refl c.graph_number.ensures
+returns c = number-late c.requires refl c.check_graph.ensures

@@ -1,8 +1,8 @@
--- `vertex_sequence::graph_number` meets its contract.
+-- `vertex_sequence::check_graph` meets its contract.
 use mathlib.Core.Path.{refl}
 use Rattle.cycle.proofs.PeelLaws.{peelable-kept}
 use Rattle.vertex_sequence.proofs.VertexLaws.{checks-6, checks-7, checks-0}
-use Rattle.vertex_sequence.proofs.graph_number.Goals as goal
+use Rattle.vertex_sequence.proofs.check_graph.Goals as goal
 
 pub returns-then-is_doubled : goal.returns-then-is_doubled
 returns-then-is_doubled c =
