@@ -78,6 +78,7 @@ pub fn has_cycle(
     count_entering(es, m, n, heads, nexts, degrees);
     let mut tail = queue_sources(n, degrees, queue);
     let mut h = 0;
+    // The queue grows while it is gone through, so there is no range for a `for`.
     while h < tail {
         tail = peel(es, m, n, heads, nexts, degrees, queue, h, tail);
         h += 1;

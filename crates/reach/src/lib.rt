@@ -125,6 +125,7 @@ pub fn mark_reached(
     // the queue grows while it is passed through, so that no range has its end
     let mut tail = 1;
     let mut h = 0;
+    // The queue grows while it is gone through, so there is no range for a `for`.
     while h < tail {
         tail = leave_vertex(
             es, m, n, heads, nexts, plain, direction, s, h, marks, queue, tail,
