@@ -5,7 +5,12 @@ use mathlib.Core.List.{List, [], ◌∷◌, map}
 use Prim.Native.Nat.{ℕ, zero, suc, ◌+◌, ◌*◌, ◌≤◌, ◌<◌}
 use native.Mathlib.Nat.{add-zero, zero-add, suc-add, add-suc, not-suc-le-zero}
 use native.Mathlib.Omega.{arith}
-use lib.ListN.{length, get_or}
+use lib.ListN.{length, get_or, take}
+use lib.Seq.{get_or-take, length-take-le}
+use Rattle.std.specs.Bool.{MatchBool}
+use Rattle.std.specs.List.{AllWithin, HoldsAt}
+use Rattle.std.proofs.lemmas.List.{get_or_default}
+use Rattle.compact.specs.Compact.{Below}
 use lib.Dec.{eqb, ltb}
 use borrow.Author.Tests.{eq-eqb, ne_eqb, lt-ltb, le-ltb}
 use Rattle.defs.specs.Lists.{tab, tab_from, all_of}
@@ -88,6 +93,28 @@ module _ {m n : ℕ} {es nodes : List ℕ} {c : ℕ} where
 
   pub tails-is : {r : Bool} → 2 ≤ c → r ≡ all_of (is_tail m es) (nums_in c nodes) → Tails m n es nodes c r
   tails-is h q = record { is = λ k vs p. q ∙ sym (tails-at k n m es vs p nodes c ∙ rw (lt-ltb 1 c (omega arith))) }
+
+-- ---- the first c of a list of vertices
+
+-- each is a vertex
+pub node-below : {nodes : List ℕ} {c n x k : ℕ} → Below nodes c n → k < length (take c nodes) → x ≡ get_or (take c nodes) k x → x < n
+node-below {nodes} {c} {n} {x} {k} B h q =
+    let l = length-take-le c nodes B.room in
+    let b : k < c = omega arith in
+    let e : x ≡ get_or nodes k 0 = q ∙ get_or-take c nodes k x b ∙ get_or_default nodes k x 0 (omega (arith, B.room)) in
+    omega (arith, B.at k b)
+
+-- a test of each: what `all` says of it
+pub all-nodes : (r : Bool) {nodes : List ℕ} {c n : ℕ} → Below nodes c n → (p : ℕ → Bool)
+    → MatchBool r (AllWithin (λ x. p x ≡ true) (take c nodes) 0 (length (take c nodes)))
+    ((k : ℕ) × (k < length (take c nodes)) × HoldsAt (λ x. p x ≡ false) (take c nodes) k) → r ≡ all_of p (nums_in c nodes)
+all-nodes true {nodes} {c} B p h =
+    let l = length-take-le c nodes B.room in
+    sym (all_of-yes p c (λ (i : ℕ). get_or nodes i 0) (λ k b. ap p (sym (get_or-take c nodes k 0 b)) ∙ h k 0 (omega arith) (omega arith)))
+all-nodes false {nodes} {c} B p (k, b, h) =
+    let l = length-take-le c nodes B.room in
+    let b' : k < c = omega arith in
+    sym (all_of-no p c (λ (i : ℕ). get_or nodes i 0) k b' (ap p (sym (get_or-take c nodes k 0 b')) ∙ h 0))
 
 -- ---- counting edges at v, up to c: d are passed, and e is the next
 

@@ -91,12 +91,9 @@ pub fn all_middles(
     requires { Below nodes.now c n × Indexed m n es.now heads.now nexts.now }
     ensures { result ≡ all_of (is_middle m es.now b) (nums_in c nodes.now) }
 {
-    for i in 0..c {
-        if !is_middle(es, m, n, heads, nexts, nodes[i] as usize, b) {
-            return false;
-        }
-    }
-    true
+    nodes[..c]
+        .iter()
+        .all(|v| is_middle(es, m, n, heads, nexts, *v as usize, b))
 }
 
 // Whether the first c of `nodes`, followers of a top, stand above b as a diamond.
@@ -139,12 +136,9 @@ pub fn all_tails(
     requires { Below nodes.now c n × Indexed m n es.now heads.now nexts.now }
     ensures { result ≡ all_of (is_tail m es.now) (nums_in c nodes.now) }
 {
-    for i in 0..c {
-        if !is_tail(es, m, n, heads, nexts, nodes[i] as usize) {
-            return false;
-        }
-    }
-    true
+    nodes[..c]
+        .iter()
+        .all(|v| is_tail(es, m, n, heads, nexts, *v as usize))
 }
 
 // Whether the first c of `nodes`, followers of a top, are tails, two or more.

@@ -59,12 +59,9 @@ fn all_prevs(
     ensures { result ≡ all_of (is_prev m es.now vs.now p.now (get_or nodes.now 0 0))
         (nums_in c nodes.now) }
 {
-    for i in 0..c {
-        if !is_prev(es, m, n, heads, nexts, vs, p, nodes[0], nodes[i]) {
-            return false;
-        }
-    }
-    true
+    nodes[..c]
+        .iter()
+        .all(|v| is_prev(es, m, n, heads, nexts, vs, p, nodes[0], *v))
 }
 
 // Whether the first c of `nodes`, predecessors of a vertex, merge with it.

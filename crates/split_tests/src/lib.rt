@@ -21,12 +21,9 @@ fn all_one_out(
     requires { Below nodes.now c n × Indexed m n es.now heads.now nexts.now }
     ensures { result ≡ all_of (one_out m es.now) (nums_in c nodes.now) }
 {
-    for i in 0..c {
-        if !index::has_one(es, m, n, heads, nexts, 0, nodes[i] as usize) {
-            return false;
-        }
-    }
-    true
+    nodes[..c]
+        .iter()
+        .all(|v| index::has_one(es, m, n, heads, nexts, 0, *v as usize))
 }
 
 // Whether the first reference source among the first c of `nodes` has s bytes.
@@ -58,12 +55,7 @@ fn all_long(vs: &[u32], n: usize, nodes: &[u32], c: usize, s: usize) -> bool
     requires { (2 * n ≤ length vs.now) × Below nodes.now c n }
     ensures { result ≡ all_of (is_long vs.now s) (nums_in c nodes.now) }
 {
-    for i in 0..c {
-        if store::vertex_len(vs, nodes[i]) != s {
-            return false;
-        }
-    }
-    true
+    nodes[..c].iter().all(|v| store::vertex_len(vs, *v) == s)
 }
 
 // The suffix that the first c of `nodes`, predecessors of a vertex, are split by, as its length, or none.

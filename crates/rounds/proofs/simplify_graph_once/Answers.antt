@@ -95,68 +95,6 @@ zip_linear_chains-requires c = (
   ),
 )
 
-pub shape_of-es : goal.shape_of-es
-shape_of-es c =
-    c.zip_linear_chains.auto.es
-    ∙ c.transform_until_complete-d.auto.es
-    ∙ c.split_until_complete-c.auto.es
-    ∙ c.transform_until_complete-b.auto.es
-    ∙ c.transform_until_complete-a.auto.es
-
-pub shape_of-vs : goal.shape_of-vs
-shape_of-vs c =
-    c.zip_linear_chains.auto.vs
-    ∙ c.transform_until_complete-d.auto.vs
-    ∙ c.split_until_complete-c.auto.vs
-    ∙ c.transform_until_complete-b.auto.vs
-    ∙ c.transform_until_complete-a.auto.vs
-
-pub shape_of-p : goal.shape_of-p
-shape_of-p c =
-    c.zip_linear_chains.auto.p
-    ∙ c.transform_until_complete-d.auto.p
-    ∙ c.transform_until_complete-b.auto.p
-    ∙ c.transform_until_complete-a.auto.p
-
-pub shape_of-heads : goal.shape_of-heads
-shape_of-heads c =
-    c.zip_linear_chains.auto.heads
-    ∙ c.transform_until_complete-d.auto.heads
-    ∙ c.split_until_complete-c.auto.heads
-    ∙ c.transform_until_complete-b.auto.heads
-    ∙ c.transform_until_complete-a.auto.heads
-
-pub shape_of-nexts : goal.shape_of-nexts
-shape_of-nexts c =
-    c.zip_linear_chains.auto.nexts
-    ∙ c.transform_until_complete-d.auto.nexts
-    ∙ c.split_until_complete-c.auto.nexts
-    ∙ c.transform_until_complete-b.auto.nexts
-    ∙ c.transform_until_complete-a.auto.nexts
-
-pub shape_of-nodes : goal.shape_of-nodes
-shape_of-nodes c =
-    c.zip_linear_chains.auto.nodes
-    ∙ c.transform_until_complete-d.auto.nodes
-    ∙ c.split_until_complete-c.auto.nodes
-    ∙ c.transform_until_complete-b.auto.nodes
-    ∙ c.transform_until_complete-a.auto.nodes
-
-pub shape_of-map : goal.shape_of-map
-shape_of-map c =
-    c.zip_linear_chains.auto.map
-    ∙ c.transform_until_complete-d.auto.map
-    ∙ c.split_until_complete-c.auto.map
-    ∙ c.transform_until_complete-b.auto.map
-    ∙ c.transform_until_complete-a.auto.map
-
-pub shape_of-starts : goal.shape_of-starts
-shape_of-starts c =
-    c.zip_linear_chains.auto.froms
-
-pub shape_of-tried : goal.shape_of-tried
-shape_of-tried c = c.split_until_complete-c.auto.tried
-
 pub returns : goal.returns
 returns c =
     once

@@ -1,15 +1,21 @@
 -- `split_tests::all_long` meets its contract.
-use native.Mathlib.Omega.{arith}
-use mathlib.Core.Path.{sym, ◌∙◌}
-use borrow.Author.Tests.{ne_eqb}
-use Rattle.diamond.proofs.TestLaws.{all_of-yes, all_of-no}
+use mathlib.Core.Path.{◌≡◌}
+use mathlib.Core.Bool.{true, false}
+use Prim.Native.Nat.{ℕ, ◌<◌}
+use borrow.Author.Rules.{rules}
+use Rattle.std.proofs.lemmas.Iterator.{YieldsList-from_slice, cases_from_all}
+use Rattle.std.proofs.lemmas.Iterator.Adapters.{serves_from_places}
+use Rattle.split_tests.specs.SplitTests.{is_long}
+use Rattle.diamond.proofs.TestLaws.{node-below, all-nodes}
 use Rattle.split_tests.proofs.all_long.Goals as goal
 
-pub returns-then-vertex_len-s : goal.returns-then-vertex_len-s
-returns-then-vertex_len-s c =
-    sym
-    (all_of-no _ _ _ _ (omega arith)
-    (ne_eqb _ _ (λ q. c.if-vertex_len-s.true (c.vertex_len.ensures ∙ q))))
+pub all-requires-clause-callable : goal.all-requires-clause-callable
+all-requires-clause-callable c =
+    serves_from_places (YieldsList-from_slice _ c.iter.ensures.rest) (λ x q r. search rules)
+    (λ x k h e. let b : x.now < c.args.n = node-below c.requires.1 h e in search rules)
 
 pub returns : goal.returns
-returns c = sym (all_of-yes _ _ _ (λ k h. c.loop-i.invariant.1 k (omega arith)))
+returns c =
+    all-nodes c.all.result c.requires.1 (is_long c.args.vs.now c.args.s)
+    (cases_from_all _ _ _ (λ (v : ℕ). is_long c.args.vs.now c.args.s v ≡ true) (λ (v : ℕ). is_long c.args.vs.now c.args.s v ≡ false)
+    c.all.ensures.ran (YieldsList-from_slice _ c.iter.ensures.rest) (λ x q k. search rules) (λ x q k. search rules))

@@ -1,13 +1,21 @@
 -- `split_tests::all_one_out` meets its contract.
-use native.Mathlib.Omega.{arith}
-use mathlib.Core.Path.{sym, ◌∙◌}
-use Rattle.diamond.proofs.TestLaws.{all_of-yes, all_of-no}
+use mathlib.Core.Path.{◌≡◌}
+use mathlib.Core.Bool.{true, false}
+use Prim.Native.Nat.{ℕ, ◌<◌}
+use borrow.Author.Rules.{rules}
+use Rattle.std.proofs.lemmas.Iterator.{YieldsList-from_slice, cases_from_all}
+use Rattle.std.proofs.lemmas.Iterator.Adapters.{serves_from_places}
+use Rattle.split_tests.specs.SplitTests.{one_out}
+use Rattle.diamond.proofs.TestLaws.{node-below, all-nodes}
 use Rattle.split_tests.proofs.all_one_out.Goals as goal
 
-pub returns-then-not-has_one : goal.returns-then-not-has_one
-returns-then-not-has_one c =
-    sym
-    (all_of-no _ _ _ _ (omega arith) (sym c.has_one.ensures ∙ c.if-not-has_one.true))
+pub all-requires-clause-callable : goal.all-requires-clause-callable
+all-requires-clause-callable c =
+    serves_from_places (YieldsList-from_slice _ c.iter.ensures.rest) (λ x q r. search rules)
+    (λ x k h e. let b : x.now < c.args.n = node-below c.requires.0 h e in search rules)
 
 pub returns : goal.returns
-returns c = sym (all_of-yes _ _ _ (λ k h. c.loop-i.invariant.1 k (omega arith)))
+returns c =
+    all-nodes c.all.result c.requires.0 (one_out c.args.m c.args.es.now)
+    (cases_from_all _ _ _ (λ (v : ℕ). one_out c.args.m c.args.es.now v ≡ true) (λ (v : ℕ). one_out c.args.m c.args.es.now v ≡ false)
+    c.all.ensures.ran (YieldsList-from_slice _ c.iter.ensures.rest) (λ x q k. search rules) (λ x q k. search rules))

@@ -1,19 +1,15 @@
 -- `splits::split_until_complete` meets its contract.
 use native.Mathlib.Omega.{arith}
-use mathlib.Core.Path.{refl, ◌∙◌}
 use Rattle.splits.proofs.SplitLaws.{none-marked, doing-start, doing_end, doing-countable, doing-less, doing-indexable, doing-more}
 use Rattle.splits.proofs.split_until_complete.Goals as goal
 
 pub loop-held-init : goal.loop-held-init
-loop-held-init c = (
-  doing-start c.requires.0 (none-marked _ _ c.clear_marks.ensures.none),
-  (refl, (refl, (refl, (refl, (refl, (refl, refl)))))),
-)
+loop-held-init c = doing-start c.requires.0 (none-marked _ _ c.clear_marks.ensures.none)
 
 pub returns : goal.returns
 returns c =
     doing_end
-    c.loop-held.invariant.0
+    c.loop-held.invariant
     c.first_split.ensures
     c.in_default.is
     c.first_split.auto.nodes
@@ -22,7 +18,7 @@ returns c =
 pub build_index-requires : goal.build_index-requires
 build_index-requires c =
     doing-indexable
-    c.loop-held.invariant.0
+    c.loop-held.invariant
     c.first_split.ensures
     c.in-Some.is
     c.first_split.auto.es
@@ -31,7 +27,7 @@ pub overflow_add-w : goal.overflow_add-w
 overflow_add-w c =
     omega (
       arith,
-      doing-countable c.loop-held.invariant.0 c.first_split.ensures
+      doing-countable c.loop-held.invariant c.first_split.ensures
           c.in-Some.is c.requires.1.0,
     )
 
@@ -39,35 +35,14 @@ pub loop-held-smaller : goal.loop-held-smaller
 loop-held-smaller c =
     omega (
       arith,
-      doing-less c.loop-held.invariant.0 c.first_split.ensures c.in-Some.is,
+      doing-less c.loop-held.invariant c.first_split.ensures c.in-Some.is,
       c.build_index.auto,
     )
 
 pub loop-held-preserved : goal.loop-held-preserved
-loop-held-preserved c = (
-  doing-more c.loop-held.invariant.0 c.first_split.ensures c.in-Some.is
-      c.build_index.ensures c.first_split.auto.es
-      c.first_split.auto.vs c.build_index.auto.heads
-      c.build_index.auto.nexts c.first_split.auto.nodes
-      c.first_split.auto.map,
-  (
-    (c.first_split.auto.es ∙ c.loop-held.invariant.1.0),
-    (
-      (c.first_split.auto.vs ∙ c.loop-held.invariant.1.1.0),
-      (
-        (c.build_index.auto.heads ∙ c.loop-held.invariant.1.1.1.0),
-        (
-          (c.build_index.auto.nexts ∙ c.loop-held.invariant.1.1.1.1.0),
-          (
-            (c.first_split.auto.nodes ∙ c.loop-held.invariant.1.1.1.1.1.0),
-            (
-              (c.first_split.auto.map ∙ c.loop-held.invariant.1.1.1.1.1.1.0),
-              (c.first_split.auto.tried
-                  ∙ c.loop-held.invariant.1.1.1.1.1.1.1),
-            ),
-          ),
-        ),
-      ),
-    ),
-  ),
-)
+loop-held-preserved c =
+    doing-more c.loop-held.invariant c.first_split.ensures c.in-Some.is
+    c.build_index.ensures c.first_split.auto.es
+    c.first_split.auto.vs c.build_index.auto.heads
+    c.build_index.auto.nexts c.first_split.auto.nodes
+    c.first_split.auto.map

@@ -1,6 +1,4 @@
 -- What each turn of the loop keeps.
-use mathlib.Core.Path.{◌≡◌}
-use lib.ListN.{length}
 use Rattle.memory.specs.Memory.{graph_of}
 use Rattle.until.proofs.UntilLaws.{measure_of, Transforming}
 use Rattle.until.proofs.transform_until_complete.Given as goal
@@ -8,10 +6,6 @@ use Rattle.until.proofs.transform_until_complete.Given as goal
 abbrev pub invariant-loop-held : goal.invariant-loop-held
 invariant-loop-held g l =
     Transforming g.T.Transform.kind l.least l.initial.w l.initial.es l.initial.vs l.initial.p l.initial.heads l.w l.es l.vs l.p l.heads l.nexts l.nodes l.map
-    ×
-    ((length l.es ≡ length l.initial.es) × ((length l.vs ≡ length l.initial.vs) × ((length l.p ≡ length l.initial.p) × ((length l.heads ≡ length l.initial.heads) ×
-    ((length l.nexts ≡ length l.initial.nexts) × ((length l.nodes ≡ length l.initial.nodes) × (length l.map ≡ length l.initial.map)))))))
 
 abbrev pub decreases-loop-held : goal.decreases-loop-held
-decreases-loop-held g l =
-    measure_of g.T.Transform.kind (graph_of l.w.held l.es l.vs l.p)
+decreases-loop-held g l = measure_of g.T.Transform.kind (graph_of l.w.held l.es l.vs l.p)
