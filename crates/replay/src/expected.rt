@@ -1,7 +1,7 @@
 // The numbers of a stored case, and what an answer must have in common with them.
 
 // Result fields behind the length that a call does not have are 0. The rewrites are those that the tally counts.
-#[derive(Clone, Copy)]
+#[derive(Clone, Copy, Default)]
 pub struct Got {
     pub number: u32,
     pub length: u32,
@@ -13,42 +13,19 @@ pub struct Got {
 
 // The case's number i of 18; 0 where the case is too short.
 pub fn word(case: &[u8], i: usize) -> u32 {
-    if i < 18 {
-        if 72 <= case.len() {
-            return le::u32_at(case, 4 * i);
-        }
+    if i < 18 && 72 <= case.len() {
+        le::u32_at(case, 4 * i)
+    } else {
+        0
     }
-    0
 }
 
 pub fn same_answer(case: &[u8], got: Got) -> bool {
-    if got.number != word(case, 7) {
-        return false;
-    }
-    if got.length != word(case, 8) {
-        return false;
-    }
-    if got.field1 != word(case, 9) {
-        return false;
-    }
-    if got.field2 != word(case, 10) {
-        return false;
-    }
-    got.field3 == word(case, 11)
-}
-
-pub fn begins_with(out: &[u8], expected: &[u8]) -> bool {
-    if out.len() < expected.len() {
-        return false;
-    }
-    let mut i = 0;
-    while i < expected.len() {
-        if out[i] != expected[i] {
-            return false;
-        }
-        i += 1;
-    }
-    true
+    got.number == word(case, 7)
+        && got.length == word(case, 8)
+        && got.field1 == word(case, 9)
+        && got.field2 == word(case, 10)
+        && got.field3 == word(case, 11)
 }
 
 // What each byte of the output holds before a call, so that one written behind the answer is seen.
@@ -60,11 +37,5 @@ fn untouched(out: &[u8]) -> bool {
 }
 
 pub fn same_output(out: &[u8], expected: &[u8]) -> bool {
-    if begins_with(out, expected) {
-        let n = expected.len();
-        if n <= out.len() {
-            return untouched(&out[n..]);
-        }
-    }
-    false
+    out.starts_with(expected) && untouched(&out[expected.len()..])
 }

@@ -12,7 +12,7 @@ use std::io;
 use std::io::Read;
 use std::rt::Files;
 
-#[derive(Clone, Copy)]
+#[derive(Clone, Copy, Default)]
 pub struct Counts {
     pub cases: u32,
     pub refused: u32,
@@ -20,10 +20,10 @@ pub struct Counts {
 }
 
 fn replay_part(buf: &[u8], n: usize) -> Outcome {
-    if n <= buf.len() {
-        return replay(&buf[0..n]);
+    match buf.get(..n) {
+        Some(case) => replay(case),
+        None => Outcome::Differs,
     }
-    Outcome::Differs
 }
 
 // No case is longer.
@@ -38,29 +38,40 @@ fn case_len(file: &[u8]) -> usize {
     le::u32_at(&head, 0) as usize
 }
 
-// Replays the case at the front, and says what stands behind it. A case that is too long or cut short differs.
-fn one_case(file: &[u8]) -> (Outcome, &[u8]) {
+// Replays the case at the front, if there is one, and says what stands behind it. A case that is too long or cut short differs.
+fn one_case(file: &[u8]) -> Option<(Outcome, &[u8])> {
     if file.is_empty() {
-        return (Outcome::End, file);
+        return None;
     }
     let n = case_len(file);
     let rest = file.get(4..).unwrap_or(&[]);
     if CASE_MOST < n {
-        return (Outcome::Differs, rest);
+        return Some((Outcome::Differs, rest));
     }
-    (replay_part(rest, n), rest.get(n..).unwrap_or(&[]))
+    Some((replay_part(rest, n), rest.get(n..).unwrap_or(&[])))
 }
 
 fn report(rt: &impl Print, n: u32) -> io::Result<()> {
     println!(rt; "case {n} differs")
 }
 
-fn counted(c: Counts, refused: u32, differ: u32) -> Counts {
+fn add(c: Counts, d: Counts) -> Counts {
     Counts {
-        cases: edge_data::saturating_add(c.cases, 1),
-        refused: edge_data::saturating_add(c.refused, refused),
-        differ: edge_data::saturating_add(c.differ, differ),
+        cases: c.cases.saturating_add(d.cases),
+        refused: c.refused.saturating_add(d.refused),
+        differ: c.differ.saturating_add(d.differ),
     }
+}
+
+fn counted(c: Counts, refused: u32, differ: u32) -> Counts {
+    add(
+        c,
+        Counts {
+            cases: 1,
+            refused,
+            differ,
+        },
+    )
 }
 
 fn count(rt: &impl Print, c: Counts, outcome: Outcome) -> io::Result<Counts> {
@@ -71,14 +82,6 @@ fn count(rt: &impl Print, c: Counts, outcome: Outcome) -> io::Result<Counts> {
             report(rt, c.cases)?;
             Ok(counted(c, 0, 1))
         }
-        Outcome::End => Ok(c),
-    }
-}
-
-fn is_end(outcome: Outcome) -> bool {
-    match outcome {
-        Outcome::End => true,
-        _ => false,
     }
 }
 
@@ -87,29 +90,16 @@ const CASES_MOST: u32 = 1000000;
 
 // The cases of one file.
 fn all_cases(rt: &impl Print, file: &[u8]) -> io::Result<Counts> {
-    let mut c = Counts {
-        cases: 0,
-        refused: 0,
-        differ: 0,
-    };
+    let mut c = Counts::default();
     let mut left = file;
     for _ in 0..CASES_MOST {
-        let (outcome, rest) = one_case(left);
-        if is_end(outcome) {
+        let Some((outcome, rest)) = one_case(left) else {
             return Ok(c);
-        }
+        };
         c = count(rt, c, outcome)?;
         left = rest;
     }
     Ok(c)
-}
-
-fn add(c: Counts, d: Counts) -> Counts {
-    Counts {
-        cases: edge_data::saturating_add(c.cases, d.cases),
-        refused: edge_data::saturating_add(c.refused, d.refused),
-        differ: edge_data::saturating_add(c.differ, d.differ),
-    }
 }
 
 fn print_count(rt: &impl Print, n: u32, what: &str) -> io::Result<()> {
@@ -144,22 +134,18 @@ fn print_sum(rt: &impl Print, c: Counts) -> io::Result<()> {
 }
 
 fn main(rt: HostRuntime) -> io::Result<()> {
-    let none = Counts {
-        cases: 0,
-        refused: 0,
-        differ: 0,
-    };
-    let c0 = replay_file(&rt, "vertex_sequence.bin", " vertex_sequence, ", none)?;
-    let c1 = replay_file(&rt, "from_assembly_graph.bin", " from_assembly_graph, ", c0)?;
-    let c2 = replay_file(&rt, "simplify_graph.bin", " simplify_graph, ", c1)?;
-    let c3 = replay_file(&rt, "cleanup_seq_graph.bin", " cleanup_seq_graph, ", c2)?;
-    let c4 = replay_file(&rt, "clean_non_ref_paths.bin", " clean_non_ref_paths, ", c3)?;
-    let c5 = replay_file(
-        &rt,
-        "reference_path_bytes.bin",
-        " reference_path_bytes, ",
-        c4,
-    )?;
-    let c6 = replay_file(&rt, "path_bases_bytes.bin", " path_bases_bytes; ", c5)?;
-    print_sum(&rt, c6)
+    let files = [
+        ("vertex_sequence.bin", " vertex_sequence, "),
+        ("from_assembly_graph.bin", " from_assembly_graph, "),
+        ("simplify_graph.bin", " simplify_graph, "),
+        ("cleanup_seq_graph.bin", " cleanup_seq_graph, "),
+        ("clean_non_ref_paths.bin", " clean_non_ref_paths, "),
+        ("reference_path_bytes.bin", " reference_path_bytes, "),
+        ("path_bases_bytes.bin", " path_bases_bytes; "),
+    ];
+    let mut sum = Counts::default();
+    for (path, name) in files {
+        sum = replay_file(&rt, path, name, sum)?;
+    }
+    print_sum(&rt, sum)
 }

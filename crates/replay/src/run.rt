@@ -1,25 +1,21 @@
 // Makes the call of a stored case: its core, and then the table by value. The call under its C name is these two.
-use crate::expected::{BEFORE, Got, begins_with, same_answer, same_output, word};
+use crate::expected::{BEFORE, Got, same_answer, same_output, word};
 use crate::table::same_table;
 use calls::{Answer, CountedCleanup, SimplifyAnswer};
 
-// What a case came to; End: there was none.
+// What a case came to.
 #[derive(Clone, Copy)]
 pub enum Outcome {
     Answered,
     Refused,
     Differs,
-    End,
 }
 
 fn plain(r: Answer) -> Got {
     Got {
         number: r.number,
         length: r.length,
-        field1: 0,
-        field2: 0,
-        field3: 0,
-        rewrites: 0,
+        ..Got::default()
     }
 }
 
@@ -40,74 +36,50 @@ fn cleaned(r: CountedCleanup) -> Got {
         number: a.number,
         length: a.length,
         field1: a.status,
-        field2: 0,
-        field3: 0,
         rewrites: r.rewrites,
+        ..Got::default()
     }
 }
 
 // The core of the call of that number; a number that no case has where there is no such call.
 fn call(call: u32, start: u32, rec: &[u8], list: &[u32], out: &mut [u8], caller: u32) -> Got {
-    if call == 1 {
-        return plain(from_assembly_graph::from_assembly_graph(rec, out, caller));
-    }
-    if call == 2 {
-        return simplified(simplify_graph::simplify_graph(rec, out, caller));
-    }
-    if call == 3 {
-        return cleaned(cleanup_seq_graph::cleanup_seq_graph(rec, out, caller));
-    }
-    if call == 4 {
-        return plain(clean_non_ref_paths::clean_non_ref_paths(rec, out, caller));
-    }
-    if call == 5 {
-        return plain(string_calls::reference_path_bytes(rec, out, caller));
-    }
-    if call == 6 {
-        return plain(string_calls::path_bases_bytes(rec, start, list, out, caller));
-    }
-    Got {
-        number: 4294967295,
-        length: 0,
-        field1: 0,
-        field2: 0,
-        field3: 0,
-        rewrites: 0,
+    match call {
+        1 => plain(from_assembly_graph::from_assembly_graph(rec, out, caller)),
+        2 => simplified(simplify_graph::simplify_graph(rec, out, caller)),
+        3 => cleaned(cleanup_seq_graph::cleanup_seq_graph(rec, out, caller)),
+        4 => plain(clean_non_ref_paths::clean_non_ref_paths(rec, out, caller)),
+        5 => plain(string_calls::reference_path_bytes(rec, out, caller)),
+        6 => plain(string_calls::path_bases_bytes(rec, start, list, out, caller)),
+        _ => Got {
+            number: u32::MAX,
+            ..Got::default()
+        },
     }
 }
 
 fn accepted(number: u32) -> Outcome {
-    if number != 0 {
-        return Outcome::Refused;
+    match number {
+        0 => Outcome::Answered,
+        _ => Outcome::Refused,
     }
-    Outcome::Answered
 }
 
 fn compare(case: &[u8], got: Got, out: &[u8], expected: &[u8]) -> Outcome {
-    let number = got.number;
-    if !same_table(case, number, got.rewrites) {
-        return Outcome::Differs;
+    if same_table(case, got.number, got.rewrites)
+        && same_answer(case, got)
+        && same_output(out, expected)
+    {
+        accepted(got.number)
+    } else {
+        Outcome::Differs
     }
-    if !same_answer(case, got) {
-        return Outcome::Differs;
-    }
-    if !same_output(out, expected) {
-        return Outcome::Differs;
-    }
-    accepted(number)
 }
 
 // Whether this part of the record is handed back, and not another number than that one.
 fn same_part(vertex: u32, rec: &[u8], expected: &[u8], number: u32) -> bool {
     let mut told = 0;
     let part = vertex_sequence::vertex_sequence(rec, vertex, &mut told);
-    if told != number {
-        return false;
-    }
-    if part.len() != expected.len() {
-        return false;
-    }
-    begins_with(part, expected)
+    told == number && part == expected
 }
 
 // A vertex's sequence, as a place for C and as a part of the record.
@@ -115,38 +87,31 @@ fn run_vertex(case: &[u8], rec: &[u8], expected: &[u8]) -> Outcome {
     let mut number = 0;
     let place = sg::sg_vertex_sequence(rec, word(case, 1), &mut number);
     let got = Got {
-        number: number,
+        number,
         length: place.length,
         field1: place.offset,
-        field2: 0,
-        field3: 0,
-        rewrites: 0,
+        ..Got::default()
     };
-    if !same_answer(case, got) {
-        return Outcome::Differs;
+    if same_answer(case, got) && same_part(word(case, 1), rec, expected, number) {
+        accepted(number)
+    } else {
+        Outcome::Differs
     }
-    if !same_part(word(case, 1), rec, expected, number) {
-        return Outcome::Differs;
-    }
-    accepted(number)
 }
 
 // Makes the call with as much of list and room of out as the case says, and compares all that it answers and writes.
 fn run_in(case: &[u8], rec: &[u8], list: &[u32], expected: &[u8], out: &mut [u8]) -> Outcome {
     let count = word(case, 16) as usize;
     let room = word(case, 2) as usize;
-    if list.len() < count {
-        return Outcome::Differs;
-    }
-    if out.len() < room {
+    if list.len() < count || out.len() < room {
         return Outcome::Differs;
     }
     let got = call(
         word(case, 0),
         word(case, 1),
         rec,
-        &list[0..count],
-        &mut out[0..room],
+        &list[..count],
+        &mut out[..room],
         word(case, 3),
     );
     compare(case, got, out, expected)

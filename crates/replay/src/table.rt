@@ -33,43 +33,24 @@ fn other_tally(i: u32) -> Tally
 
 // The table in which the caller has this tally.
 fn table_with(caller: u32, own: Tally) -> Tallies {
-    let none = Tally {
-        answered: 0,
-        refused: 0,
-        rewrites: 0,
-    };
-    let mut t = Tallies {
-        callers: [none; 16],
-    };
+    let mut callers = [own; 16];
     for i in 0..16 {
-        let mut x = own;
         if i != caller {
-            x = other_tally(i);
-        }
-        t.callers[i as usize] = x;
-    }
-    t
-}
-
-fn same_tally(a: Tally, b: Tally) -> bool {
-    if a.answered != b.answered {
-        return false;
-    }
-    if a.refused != b.refused {
-        return false;
-    }
-    a.rewrites == b.rewrites
-}
-
-fn same_tallies(t: Tallies, u: Tallies) -> bool {
-    for i in 0..16 {
-        let a = t.callers[i];
-        let b = u.callers[i];
-        if !same_tally(a, b) {
-            return false;
+            callers[i as usize] = other_tally(i);
         }
     }
-    true
+    Tallies { callers }
+}
+
+fn same_tally(a: &Tally, b: &Tally) -> bool {
+    a.answered == b.answered && a.refused == b.refused && a.rewrites == b.rewrites
+}
+
+fn same_tallies(t: &Tallies, u: &Tallies) -> bool {
+    t.callers
+        .iter()
+        .zip(&u.callers)
+        .all(|(a, b)| same_tally(a, b))
 }
 
 // Whether the table behind a call with that number and so many rewrites is the case's, all sixteen tallies.
@@ -77,5 +58,5 @@ pub fn same_table(case: &[u8], number: u32, rewrites: u32) -> bool {
     let caller = word(case, 3);
     let before = table_with(caller, tally_before(case));
     let behind = tallies::raised(before, caller, number, rewrites);
-    same_tallies(behind, table_with(caller, tally_behind(case)))
+    same_tallies(&behind, &table_with(caller, tally_behind(case)))
 }
