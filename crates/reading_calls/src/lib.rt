@@ -163,8 +163,8 @@ fn answer_lent(
     )
 }
 
-// In the arrays of the class of V vertices and E edges. Never laid into the caller: its frame would have the arrays of all classes, and every record
-// would take them.
+// In the arrays of the class of V vertices and E edges: a few long rows each, since many short ones are cleared twice. Never laid into the caller: its
+// frame would have the arrays of all classes, and every record would take them.
 #[inline(never)]
 fn answer_in<const V: usize, const E: usize>(
     call: ReadingCall,
@@ -176,10 +176,10 @@ fn answer_in<const V: usize, const E: usize>(
     ensures { Responds (reading_response call list.now rec.now (length out.old)) out.old result
         out.new }
 {
-    let mut es = [[0u32; 4]; E];
-    let mut vs = [[0u32; 2]; V];
-    let mut heads = [[0u32; 2]; V];
-    let mut nexts = [[0u32; 2]; E];
+    let mut es = [[0u32; E]; 4];
+    let mut vs = [[0u32; V]; 2];
+    let mut heads = [[0u32; V]; 2];
+    let mut nexts = [[0u32; E]; 2];
     let mut nodes = [0u32; V];
     let mut map = [0u32; V];
     let mut tried = [0u8; V];

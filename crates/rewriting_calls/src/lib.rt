@@ -105,8 +105,8 @@ fn answer_lent(
     )
 }
 
-// In the arrays of the class of V vertices and E edges, with a signature's length as S. Never laid into the caller: its frame would have the arrays of
-// all classes, and every record would take them.
+// In the arrays of the class of V vertices and E edges, with a signature's length as S: a few long rows each, since many short ones are cleared twice.
+// Never laid into the caller: its frame would have the arrays of all classes, and every record would take them.
 #[inline(never)]
 fn answer_in<const V: usize, const E: usize, const S: usize>(
     call: RewritingCall,
@@ -116,13 +116,13 @@ fn answer_in<const V: usize, const E: usize, const S: usize>(
     requires { ClassToRewrite V E rec.now × (S ≡ 2 + 2 * V + 3 * E) }
     ensures { RewritingAnswered call rec.now out.old result out.new }
 {
-    let mut es = [[0u32; 8]; E];
-    let mut vs = [[0u32; 4]; V];
-    let mut p = [[0u8; 3]; V];
-    let mut heads = [[0u32; 2]; V];
-    let mut nexts = [[0u32; 2]; E];
+    let mut es = [[0u32; E]; 8];
+    let mut vs = [[0u32; V]; 4];
+    let mut p = [[0u8; V]; 3];
+    let mut heads = [[0u32; V]; 2];
+    let mut nexts = [[0u32; E]; 2];
     let mut nodes = [0u32; E];
-    let mut map = [[0u32; 2]; V];
+    let mut map = [[0u32; V]; 2];
     let mut starts = [0u32; V];
     let mut tried = [0u8; V];
     let mut sig = [0u32; S];

@@ -129,17 +129,17 @@ fn check_lent(
     check_loaded(rec, held, es, vs, heads, nexts, order, scratch, place)
 }
 
-// In the arrays of the class of V vertices and E edges. Never laid into the caller: its frame would have the arrays of all classes, and every record
-// would take them.
+// In the arrays of the class of V vertices and E edges: a few long rows each, since many short ones are cleared twice. Never laid into the caller: its
+// frame would have the arrays of all classes, and every record would take them.
 #[inline(never)]
 fn check_in<const V: usize, const E: usize>(rec: &[u8]) -> Result<(), Refusal>
     requires { ClassToRead V E rec.now }
     ensures { refused_by result ≡ record_refusal both_kinds rec.now }
 {
-    let mut es = [[0u32; 4]; E];
-    let mut vs = [[0u32; 2]; V];
-    let mut heads = [[0u32; 2]; V];
-    let mut nexts = [[0u32; 2]; E];
+    let mut es = [[0u32; E]; 4];
+    let mut vs = [[0u32; V]; 2];
+    let mut heads = [[0u32; V]; 2];
+    let mut nexts = [[0u32; E]; 2];
     let mut order = [0u32; V];
     let mut scratch = [0u32; V];
     let mut place = [0u32; V];
