@@ -11,12 +11,12 @@ loop-v-init c = numbering_start
 pub loop-v-preserved : goal.loop-v-preserved
 loop-v-preserved c =
     elim c.if-map-v-eq0.branch [
-        then-map-v-eq0 w ↦
-            rw (w.map-is, w.j-is)
-            (numbering-stays c.loop-v.invariant c.loop-v-test.true c.requires.0 w.if-map-v-eq0.true)
-        | else-map-v-eq0 w ↦
-            rw (w.map-is, w.j-is)
-            (numbering-goes c.loop-v.invariant c.loop-v-test.true c.requires.0 w.if-map-v-eq0.false)
+      | then-map-v-eq0 w ↦
+          rw (w.map-is, w.j-is)
+          (numbering-stays c.loop-v.invariant c.loop-v-test.true c.requires.0 w.if-map-v-eq0.true)
+      | else-map-v-eq0 w ↦
+          rw (w.map-is, w.j-is)
+          (numbering-goes c.loop-v.invariant c.loop-v-test.true c.requires.0 w.if-map-v-eq0.false)
     ]
 
 pub returns : goal.returns

@@ -13,6 +13,6 @@ pub returns : goal.returns
 unfolding mark
 returns c =
     elim c.else-rec-ge4.branch [
-        else-rec-ge4-via-then-rec-ge4+else-begins_with w ↦ form-other _ (sym w.begins_with.ensures ∙ w.if-begins_with.false)
-        | else-rec-ge4-via-else-rec-ge4 w ↦ form-short _ w.if-rec-ge4.false
+      | else-rec-ge4-via-then-rec-ge4+else-begins_with w ↦ form-other _ (sym w.begins_with.ensures ∙ w.if-begins_with.false)
+      | else-rec-ge4-via-else-rec-ge4 w ↦ form-short _ w.if-rec-ge4.false
     ]
