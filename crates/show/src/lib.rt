@@ -1,7 +1,7 @@
 // The text of what simplification makes of a record. Nothing is asked of the caller.
 #![tactic(auto)]
 
-ghost use Rattle.std.specs.Prelude.{◌≡◌, ◌≤◌, length};
+ghost use Rattle.std.specs.Prelude.{◌≡◌, ◌<◌, ◌≤◌, length};
 ghost use Rattle.show.specs.Show.{Recorded, FewShown, GraphPut, Printing, AnswerPut, Shown};
 
 use arrays::{FEW_EDGES, FEW_VERTICES};
@@ -19,80 +19,43 @@ const SHOWN_VERTICES: usize = 16375;
 
 const SHOWN_EDGES: usize = 7278;
 
-// The text of the graph that a record holds, which may be past the limits of input, and of what was counted when it was made. Whole arrays, whose lengths are
-// known. The lines are put from here, and not by a function that both classes call: were there fewer calls here, the compiler would lay the arrays into the frame
-// that is there while the graph is simplified, and they would not fit beside it on a stack of 8 MiB.
-fn many_with(
+// The text of the graph that a record holds, which may be past the limits of input, and of what was counted when it was made, in the arrays of the class of V
+// vertices and E edges. Never laid into the caller: its arrays would be in the frame that is there while the graph is simplified, and would not fit beside it on
+// a stack of 8 MiB.
+#[inline(never)]
+fn put_in<const V: usize, const E: usize>(
     text: &mut [u8],
     made: SimplifyAnswer,
     rec: &[u8],
-    es: &mut [u32; 4 * SHOWN_EDGES],
-    vs: &mut [u32; 2 * SHOWN_VERTICES],
 ) -> usize
-    requires { Recorded rec.now × (344000 ≤ length text.old) }
+    requires { Recorded rec.now × ((344000 ≤ length text.old) × (FewShown V E rec.now × ((V < 65536) × (E < 65536)))) }
     ensures { GraphPut made rec.now text.old result text.new }
 {
     // The record that a call wrote has a k of 2 to 128, so the other arm is never taken.
     let Some(k) = record::kmer_size_of(rec) else {
         return 0;
     };
+    let mut edges = [[0u32; 4]; E];
+    let mut vertices = [[0u32; 2]; V];
+    let es = edges.as_flattened_mut();
+    let vs = vertices.as_flattened_mut();
     let held = load::load_graph(rec, k, es, vs);
     let b = write_record::sequence_bytes(vs, held.n);
     let to = graph_text::put_head(text, held, b, made.rewrites, made.rounds, made.end);
     graph_text::put_lines(text, to, held, es, vs, rec)
 }
 
-fn many(text: &mut [u8], made: SimplifyAnswer, rec: &[u8]) -> usize
-    requires { Recorded rec.now × (344000 ≤ length text.old) }
-    ensures { GraphPut made rec.now text.old result text.new }
-{
-    let mut es = [0u32; 4 * SHOWN_EDGES];
-    let mut vs = [0u32; 2 * SHOWN_VERTICES];
-    many_with(text, made, rec, &mut es, &mut vs)
-}
-
-fn few_with(
-    text: &mut [u8],
-    made: SimplifyAnswer,
-    rec: &[u8],
-    es: &mut [u32; 4 * FEW_EDGES],
-    vs: &mut [u32; 2 * FEW_VERTICES],
-) -> usize
-    requires { Recorded rec.now × ((344000 ≤ length text.old) × FewShown 512 512 rec.now) }
-    ensures { GraphPut made rec.now text.old result text.new }
-{
-    // The record that a call wrote has a k of 2 to 128, so the other arm is never taken.
-    let Some(k) = record::kmer_size_of(rec) else {
-        return 0;
-    };
-    let held = load::load_graph(rec, k, es, vs);
-    let b = write_record::sequence_bytes(vs, held.n);
-    let to = graph_text::put_head(text, held, b, made.rewrites, made.rounds, made.end);
-    graph_text::put_lines(text, to, held, es, vs, rec)
-}
-
-fn few(text: &mut [u8], made: SimplifyAnswer, rec: &[u8]) -> usize
-    requires { Recorded rec.now × ((344000 ≤ length text.old) × FewShown 512 512 rec.now) }
-    ensures { GraphPut made rec.now text.old result text.new }
-{
-    let mut es = [0u32; 4 * FEW_EDGES];
-    let mut vs = [0u32; 2 * FEW_VERTICES];
-    few_with(text, made, rec, &mut es, &mut vs)
-}
-
-// In arrays of the class that the counts ask for. The long ones stand behind two tests, for the same reason.
+// In arrays of the class that the counts ask for.
 fn put_record(text: &mut [u8], made: SimplifyAnswer, rec: &[u8]) -> usize
     requires { Recorded rec.now × (344000 ≤ length text.old) }
     ensures { GraphPut made rec.now text.old result text.new }
 {
     let form = form::form_of(rec);
-    if FEW_VERTICES < record::vertex_count(rec, form) {
-        return many(text, made, rec);
+    if FEW_VERTICES < record::vertex_count(rec, form) || FEW_EDGES < record::edge_count(rec, form) {
+        put_in::<SHOWN_VERTICES, SHOWN_EDGES>(text, made, rec)
+    } else {
+        put_in::<FEW_VERTICES, FEW_EDGES>(text, made, rec)
     }
-    if FEW_EDGES < record::edge_count(rec, form) {
-        return many(text, made, rec);
-    }
-    few(text, made, rec)
 }
 
 // The text of an answer, whose record stands at the front of `out`, or of a refusal.
@@ -100,12 +63,10 @@ fn put_answer(text: &mut [u8], made: SimplifyAnswer, out: &[u8]) -> usize
     requires { Printing made out.now × (344000 ≤ length text.old) }
     ensures { AnswerPut made out.now text.old result text.new }
 {
-    let number = made.number;
-    if number != 0 {
-        return graph_text::put_refusal(text, number);
+    if made.number != 0 {
+        return graph_text::put_refusal(text, made.number);
     }
-    let len = made.length as usize;
-    put_record(text, made, &out[..len])
+    put_record(text, made, &out[..made.length as usize])
 }
 
 // Input of more than 65,536 bytes counts as 1, whatever it is. An answer record over 65,536 bytes does not fit `out`, and is told as 11.

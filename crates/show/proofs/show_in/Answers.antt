@@ -1,7 +1,6 @@
 -- `show::show_in` meets its contract.
 use native.Mathlib.Omega.{arith}
 use Rattle.show.proofs.ShowLaws.{long-shown, call-printing, call-shown}
-use borrow.Author.Rules.{rules}
 use Rattle.show.proofs.show_in.Goals as goal
 
 pub returns-then-rec-gt-RECORD_MOST : goal.returns-then-rec-gt-RECORD_MOST
