@@ -109,6 +109,8 @@ fn loaded_number(
 }
 
 // The refusal number of a record, 1 to 7, or 0, which is read into slices that have room for it.
+// Laid into the function that has the arrays: a frame of its own would be on the stack with all that is below.
+#[inline(always)]
 fn check_lent(
     rec: &[u8],
     es: &mut [u32],
