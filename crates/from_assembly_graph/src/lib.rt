@@ -40,6 +40,8 @@ fn convert_held(
 }
 
 // The record read into slices that have room for it, and its graph converted. `order` and `scratch` hold numbers of vertices, then of edges.
+// Laid into the function that has the arrays: a frame of its own would be on the stack with all that is below.
+#[inline(always)]
 fn convert_lent(
     rec: &[u8],
     out: &mut [u8],

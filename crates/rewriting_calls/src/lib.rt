@@ -77,6 +77,8 @@ fn refused(refusal: Refusal) -> RewritingAnswer
 }
 
 // The record read into slices that have room for it, and answered.
+// Laid into the function that has the arrays: a frame of its own would be on the stack with all that is below.
+#[inline(always)]
 fn answer_lent(
     call: RewritingCall,
     rec: &[u8],

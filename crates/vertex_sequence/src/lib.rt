@@ -111,6 +111,8 @@ fn check_loaded(
 }
 
 // 1 to 7, of a record that is read into slices that have room for it.
+// Laid into the function that has the arrays: a frame of its own would be on the stack with all that is below.
+#[inline(always)]
 fn check_lent(
     rec: &[u8],
     es: &mut [u32],

@@ -2,9 +2,6 @@
 use Rattle.from_assembly_graph.proofs.ConvertsLaws.{refused-sent, held-to-convert, room-to-convert-kept}
 use Rattle.from_assembly_graph.proofs.convert_lent.Goals as goal
 
-pub read_overlapping_kmer_graph-requires : goal.read_overlapping_kmer_graph-requires
-read_overlapping_kmer_graph-requires c = c.requires.reading
-
 pub returns-in-Err : goal.returns-in-Err
 returns-in-Err c =
     refused-sent c.read_overlapping_kmer_graph.ensures c.in-Err.is c.from.ensures
