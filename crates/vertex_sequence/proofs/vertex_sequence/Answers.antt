@@ -11,7 +11,8 @@ returns-in-Err c =
     (λ z. some-number _ (sym c.number.ensures ∙ z))
 
 pub sequence_part-requires : goal.sequence_part-requires
-sequence_part-requires c = ?
+sequence_part-requires c = known _ _ (sym (made-number c.in_default.is) ∙ c.check_vertex.ensures) refl
 
 pub returns : goal.returns
-returns c = ?
+returns c =
+    handed-part _ _ (sym (made-number c.in_default.is) ∙ c.check_vertex.ensures) refl c.sequence_part.ensures
