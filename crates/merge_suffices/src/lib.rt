@@ -8,7 +8,8 @@ ghost use Rattle.store.specs.Store.{seq_in, nums_in};
 ghost use Rattle.compact.specs.Compact.{Below, Compactable, Removed};
 ghost use Rattle.index.specs.Index.{Indexed};
 ghost use Rattle.memory.specs.Memory.{Room, Holds, Left, graph_of};
-ghost use Rattle.merge_suffices.specs.Merge.{Comparable, is_prev, MergeTestable, Merges, MergeWritable, MergeWritten, IntoReady, IntoDone, MergeEdgesReady, MergeEdgesDone, Mergeable, Merged};
+ghost use Rattle.merge_suffices.specs.Merge.{Comparable, is_prev, MergeTestable, Merges, MergeWritable, MergeWritten, IntoReady};
+ghost use Rattle.merge_suffices.specs.Merge.{IntoDone, MergeEdgesReady, MergeEdgesDone, Mergeable, Merged};
 
 use compact::Counts;
 use memory::Held;
