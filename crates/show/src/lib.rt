@@ -19,9 +19,9 @@ const SHOWN_VERTICES: usize = 16375;
 
 const SHOWN_EDGES: usize = 7278;
 
-// The text of the graph that a record holds, which may be past the limits of input, and of what was counted when it was made, in the arrays of the class of V
-// vertices and E edges. Never laid into the caller: its arrays would be in the frame that is there while the graph is simplified, and would not fit beside it on
-// a stack of 8 MiB.
+// The text of the graph that a record holds, which may be past the limits of input, and of what was counted when it was made, in the arrays of
+// the class of V vertices and E edges. Never laid into the caller: its arrays would be in the frame that is there while the graph is simplified,
+// and would not fit beside it on a stack of 8 MiB.
 #[inline(never)]
 fn put_in<const V: usize, const E: usize>(
     text: &mut [u8],
