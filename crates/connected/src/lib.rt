@@ -6,7 +6,7 @@ ghost use Rattle.defs.specs.SeqGraph.{Graph};
 ghost use Rattle.defs.specs.Cleanup.{remove_vertices_not_connected_to_ref, remove_paths_not_connected_to_ref};
 ghost use Rattle.compact.specs.Compact.{Compactable};
 ghost use Rattle.index.specs.Index.{Indexed};
-ghost use Rattle.reach.specs.Reach.{kind_of, Walkable};
+ghost use Rattle.reach.specs.Reach.{direction_number, Walkable};
 ghost use Rattle.orphans.specs.Orphans.{Reduced};
 ghost use Rattle.connected.specs.Connected.{Missed, Unreached};
 
@@ -39,7 +39,7 @@ fn mark_unreached(
     tried: &mut [u8],
 )
     requires { (s < n) × ((n ≤ length map.old) × (Indexed m n es.now heads.now nexts.now × Walkable n tried.old nodes.old)) }
-    ensures { Unreached (kind_of direction) m n es.now s map.old map.new }
+    ensures { Unreached (direction_number direction) m n es.now s map.old map.new }
 {
     reach::mark_reached(es, m, n, heads, nexts, false, direction, s, tried, nodes);
     mark_missed(tried, n, map);

@@ -25,14 +25,14 @@ use denote.Enum.Declared.{tag_of}
 use Rattle.reach.specs.contracts.Direction.{the_type}
 use Rattle.reach.specs.declared.Direction.{Direction}
 use Rattle.reach.specs.declared.Direction.TheVariants.{Along, Against, Either}
-use Rattle.reach.specs.Reach.{kind_of, step_of, walk_step, Reached}
+use Rattle.reach.specs.Reach.{direction_number, step_of, walk_step, Reached}
 use Rattle.orphans.specs.Orphans.{Reduced}
 use Rattle.non_ref_paths.specs.CleanNonRef.{stays_by, leads, EdgesKept, EdgesDropped}
 
 -- ---- the marks say which edges go
 
 -- a direction as a number
-pub number-is : (d : Direction) → tag_of the_type d ≡ kind_of d
+pub number-is : (d : Direction) → tag_of the_type d ≡ direction_number d
 number-is Along = refl
 number-is Against = refl
 number-is Either = refl

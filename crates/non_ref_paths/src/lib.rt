@@ -8,7 +8,7 @@ ghost use Rattle.defs.specs.Cleanup.{without_non_ref_edges, clean_non_ref_paths,
 ghost use Rattle.store.specs.Store.{edge_in, EndsBelow};
 ghost use Rattle.compact.specs.Compact.{Compactable};
 ghost use Rattle.index.specs.Index.{Indexed, Indexable};
-ghost use Rattle.reach.specs.Reach.{kind_of, Walkable};
+ghost use Rattle.reach.specs.Reach.{direction_number, Walkable};
 ghost use Rattle.orphans.specs.Orphans.{Reduced};
 ghost use Rattle.non_ref_paths.specs.CleanNonRef.{stays_by, EdgesKept, EdgesDropped};
 
@@ -55,8 +55,8 @@ fn drop_edges(
     nodes: &mut [u32],
     tried: &mut [u8],
 ) -> usize
-    requires { (s < n) × ((kind_of direction ≤ 1) × ((m < 4294967296) × (Indexed m n es.old heads.old nexts.old × Walkable n tried.old nodes.old))) }
-    ensures { EdgesDropped (kind_of direction) m n es.old s result es.new × Indexed result n es.new heads.new nexts.new }
+    requires { (s < n) × ((direction_number direction ≤ 1) × ((m < 4294967296) × (Indexed m n es.old heads.old nexts.old × Walkable n tried.old nodes.old))) }
+    ensures { EdgesDropped (direction_number direction) m n es.old s result es.new × Indexed result n es.new heads.new nexts.new }
 {
     reach::mark_reached(es, m, n, heads, nexts, true, direction, s, tried, nodes);
     let left = keep_edges(es, m, direction as usize, n, tried);

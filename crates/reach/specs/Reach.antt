@@ -11,10 +11,10 @@ use Rattle.reach.specs.declared.Direction.{Direction}
 use Rattle.reach.specs.declared.Direction.TheVariants.{Along, Against, Either}
 
 -- the number of a direction
-abbrev pub kind_of : Direction → ℕ
-kind_of Along = 0
-kind_of Against = 1
-kind_of Either = 2
+abbrev pub direction_number : Direction → ℕ
+direction_number Along = 0
+direction_number Against = 1
+direction_number Either = 2
 
 -- the kinds of walks: 0 along the edges, 1 against them, any other number either way
 unfoldable pub step_of : ℕ → Edge → ℕ → ℕ → Bool

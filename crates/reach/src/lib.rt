@@ -4,7 +4,7 @@
 
 ghost use Rattle.std.specs.Prelude.{◌≡◌, ◌+◌, ◌*◌, ◌<◌, ◌≤◌, length};
 ghost use Rattle.index.specs.Index.{Indexed};
-ghost use Rattle.reach.specs.Reach.{kind_of, takes_end, passable, Walkable, QueueFound, Pushed, VertexLeft, Reached};
+ghost use Rattle.reach.specs.Reach.{direction_number, takes_end, passable, Walkable, QueueFound, Pushed, VertexLeft, Reached};
 
 // Which way a walk goes along the edges.
 #[derive(Clone, Copy)]
@@ -16,7 +16,7 @@ pub enum Direction {
 
 // Whether a walk in this direction takes the edges at the end `off` of a vertex: 0 those that leave it, 1 those that enter it.
 fn takes_end(direction: Direction, off: usize) -> bool
-    ensures { result ≡ takes_end (kind_of direction) off }
+    ensures { result ≡ takes_end (direction_number direction) off }
 {
     match direction {
         Direction::Along => off == 0,
@@ -50,8 +50,8 @@ fn push_steps(
     queued: usize,
 ) -> usize
     requires { (h < queued) × ((off ≤ 1) × (Indexed m n es.now heads.now nexts.now
-        × (Walkable n marks.old queue.old × QueueFound plain (kind_of direction) m n es.now s marks.old queue.old queued))) }
-    ensures { Pushed plain (kind_of direction) off m n es.now s h marks.old queue.old queued marks.new
+        × (Walkable n marks.old queue.old × QueueFound plain (direction_number direction) m n es.now s marks.old queue.old queued))) }
+    ensures { Pushed plain (direction_number direction) off m n es.now s h marks.old queue.old queued marks.new
         queue.new result }
 {
     if !takes_end(direction, off) {
@@ -91,8 +91,8 @@ fn leave_vertex(
     queued: usize,
 ) -> usize
     requires { (h < queued) × (Indexed m n es.now heads.now nexts.now
-        × (Walkable n marks.old queue.old × QueueFound plain (kind_of direction) m n es.now s marks.old queue.old queued)) }
-    ensures { VertexLeft plain (kind_of direction) m n es.now s h marks.old queue.old queued marks.new
+        × (Walkable n marks.old queue.old × QueueFound plain (direction_number direction) m n es.now s marks.old queue.old queued)) }
+    ensures { VertexLeft plain (direction_number direction) m n es.now s h marks.old queue.old queued marks.new
         queue.new result }
 {
     let t = push_steps(
@@ -117,7 +117,7 @@ pub fn mark_reached(
     queue: &mut [u32],
 )
     requires { (s < n) × (Indexed m n es.now heads.now nexts.now × Walkable n marks.old queue.old) }
-    ensures { Reached plain (kind_of direction) m n es.now s marks.new }
+    ensures { Reached plain (direction_number direction) m n es.now s marks.new }
 {
     compact::clear_marks(marks, 0, n);
     marks[s] = 1;
