@@ -1,4 +1,4 @@
-// Reading a record of kind 1: the number of its refusal, 1 to 7, or the graph in the slices, its sequences in the record itself.
+// Reading a record of kind 1: its refusal, of number 1 to 7, or the graph in the slices, its sequences in the record itself.
 #![tactic(auto)]
 
 ghost use Rattle.accept.specs.Accept.{RoomToRead, ReadAs};

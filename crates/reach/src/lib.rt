@@ -122,7 +122,6 @@ pub fn mark_reached(
     compact::clear_marks(marks, 0, n);
     marks[s] = 1;
     queue[0] = s as u32;
-    // the queue grows while it is passed through, so that no range has its end
     let mut tail = 1;
     let mut h = 0;
     // The queue grows while it is gone through, so there is no range for a `for`.

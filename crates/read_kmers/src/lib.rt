@@ -1,4 +1,4 @@
-// Reading a record of kind 0, a k-mer graph: the number of its refusal, or the graph in the slices, its k-mers in the record itself, indexed, with
+// Reading a record of kind 0, a k-mer graph: its refusal, or the graph in the slices, its k-mers in the record itself, indexed, with
 // the vertices in the order of their k-mers. What is asked behind 6 depends on the call: conversion asks 15, whether the k-mers overlap, and then 7.
 #![tactic(auto)]
 

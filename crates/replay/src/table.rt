@@ -42,15 +42,8 @@ fn table_with(caller: u32, own: Tally) -> Tallies {
     Tallies { callers }
 }
 
-fn same_tally(a: &Tally, b: &Tally) -> bool {
-    a.answered == b.answered && a.refused == b.refused && a.rewrites == b.rewrites
-}
-
 fn same_tallies(t: &Tallies, u: &Tallies) -> bool {
-    t.callers
-        .iter()
-        .zip(&u.callers)
-        .all(|(a, b)| same_tally(a, b))
+    t.callers.iter().zip(&u.callers).all(|(a, b)| *a == *b)
 }
 
 // Whether the table behind a call with that number and so many rewrites is the case's, all sixteen tallies.

@@ -137,7 +137,7 @@ pub fn rewrite(
     }
 }
 
-// A record's graph, with its sequences in the pool, or the number of the refusal.
+// A record's graph, with its sequences in the pool, or its refusal.
 pub fn read_and_hold(
     rec: &[u8],
     es: &mut [u32],

@@ -35,8 +35,8 @@ fn put_in<const V: usize, const E: usize>(
     let Some(k) = record::kmer_size_of(rec) else {
         return 0;
     };
-    let mut edges = [[0u32; 4]; E];
-    let mut vertices = [[0u32; 2]; V];
+    let mut edges = [[0u32; E]; 4];
+    let mut vertices = [[0u32; V]; 2];
     let es = edges.as_flattened_mut();
     let vs = vertices.as_flattened_mut();
     let held = load::load_graph(rec, k, es, vs);
