@@ -107,8 +107,9 @@ fn answer_lent(
     )
 }
 
-// In the arrays of the class of V vertices and E edges, with a signature's length as S: a few long rows each, since many short ones are cleared twice.
-// Never laid into the caller: its frame would have the arrays of all classes, and every record would take them.
+// In the arrays of the class of V vertices and E edges, with a signature's length as S: a few long rows each, since many short ones are cleared twice,
+// and rows that are copied, since a row written out would be on the stack beside them. Never laid into the caller: its frame would have the arrays of all
+// classes, and every record would take them.
 #[inline(never)]
 fn answer_in<const V: usize, const E: usize, const S: usize>(
     call: RewritingCall,
@@ -118,15 +119,15 @@ fn answer_in<const V: usize, const E: usize, const S: usize>(
     requires { ClassToRewrite V E rec.now × (S ≡ 2 + 2 * V + 3 * E) }
     ensures { RewritingAnswered call rec.now out.old result out.new }
 {
-    let mut es = [[0u32; E]; 8];
-    let mut vs = [[0u32; V]; 4];
-    let mut p = [[0u8; V]; 3];
-    let mut heads = [[0u32; V]; 2];
-    let mut nexts = [[0u32; E]; 2];
     let mut nodes = [0u32; E];
-    let mut map = [[0u32; V]; 2];
     let mut starts = [0u32; V];
     let mut tried = [0u8; V];
+    let mut es = [nodes; 8];
+    let mut vs = [starts; 4];
+    let mut p = [tried; 3];
+    let mut heads = [starts; 2];
+    let mut nexts = [nodes; 2];
+    let mut map = [starts; 2];
     let mut sig = [0u32; S];
     answer_lent(
         call,
