@@ -20,8 +20,8 @@ pub returns-then-e-le-FEW_EDGES : goal.returns-then-e-le-FEW_EDGES
 unfolding vertices_to_read edges_to_read
 returns-then-e-le-FEW_EDGES c =
     counted-to-read _
-    (omega (arith, c.vertex_count-v.ensures.0, c.if-v-le-FEW_VERTICES.true))
-    (omega (arith, c.edge_count-e.ensures.0, c.if-e-le-FEW_EDGES.true))
+    (omega (arith, c.vertex_count-v.ensures.0))
+    (omega (arith, c.edge_count-e.ensures.0))
     (omega arith)
     (omega arith)
     (omega arith)
@@ -34,8 +34,8 @@ pub returns-in-Sgr2 : goal.returns-in-Sgr2
 unfolding vertices_to_read edges_to_read
 returns-in-Sgr2 c =
     counted-to-read _
-    (omega (arith, c.vertex_count-v.ensures.0, c.if-v-le-MANY_VERTICES.true))
-    (omega (arith, c.edge_count-e.ensures.0, c.if-e-le-MANY_EDGES.true))
+    (omega (arith, c.vertex_count-v.ensures.0))
+    (omega (arith, c.edge_count-e.ensures.0))
     (omega arith)
     (omega arith)
     (omega arith)
