@@ -21,8 +21,8 @@ unfolding vertices_to_read edges_to_read
 returns-then-e-le-FEW_EDGES c =
     class-to-read
     (counted-to-read _
-    (omega (arith, c.vertex_count-v.ensures.0, c.if-v-le-FEW_VERTICES.true))
-    (omega (arith, c.edge_count-e.ensures.0, c.if-e-le-FEW_EDGES.true)))
+    (omega (arith, c.vertex_count-v.ensures.0))
+    (omega (arith, c.edge_count-e.ensures.0)))
     (omega arith)
     (omega arith)
     (omega arith)
@@ -36,8 +36,8 @@ unfolding vertices_to_read edges_to_read
 returns-in-Sgr2 c =
     class-to-read
     (counted-to-read _
-    (omega (arith, c.vertex_count-v.ensures.0, c.if-v-le-MANY_VERTICES.true))
-    (omega (arith, c.edge_count-e.ensures.0, c.if-e-le-MANY_EDGES.true)))
+    (omega (arith, c.vertex_count-v.ensures.0))
+    (omega (arith, c.edge_count-e.ensures.0)))
     (omega arith)
     (omega arith)
     (omega arith)
