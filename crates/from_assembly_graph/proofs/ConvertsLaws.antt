@@ -89,26 +89,26 @@ convert-runs bs small none =
 -- ---- what is sent
 
 -- the same graph, or the number of the refusal
-record Numbered (r : Result Held Refusal) (sent : Result Held ℕ) : Type 0 where
+record ByNumber (r : Result Held Refusal) (sent : Result Held ℕ) : Type 0 where
   number : made_number sent ≡ refused_by r
   graph : (h : Held) → sent ≡ Ok h → r ≡ Ok h
   some : (n : ℕ) → sent ≡ Err n → n ≡ 0 → ⊥
 
-numbered : (r : Result Held Refusal) (sent : Result Held ℕ) → MatchResult r (λ h. sent ≡ Ok h) (λ e. IsErrAnd sent (λ n. n ≡ number_of_refusal e)) → Numbered r sent
+by-number : (r : Result Held Refusal) (sent : Result Held ℕ) → MatchResult r (λ h. sent ≡ Ok h) (λ e. IsErrAnd sent (λ n. n ≡ number_of_refusal e)) → ByNumber r sent
 unfolding made_number
-numbered (Ok h) sent q = record {
+by-number (Ok h) sent q = record {
   number = ap made_number q;
   graph = λ g p. let w : ◌≡◌ {A = Result Held ℕ} (Ok h) (Ok g) = sym q ∙ p in let same : h ≡ g = cc in ap Ok same;
   some = λ n p z. let w : ◌≡◌ {A = Result Held ℕ} (Ok h) (Err n) = sym q ∙ p in absurd (let y : ◌≡◌ {A = ℕ} 0 1 = cc in omega arith);
 }
-numbered (Err e) (Ok h) q = absurd q
-numbered (Err e) (Err m) q = record {
+by-number (Err e) (Ok h) q = absurd q
+by-number (Err e) (Err m) q = record {
   number = q;
   graph = λ g p. absurd (some-number e (sym q ∙ ap made_number p));
   some = λ n p z. some-number e (sym q ∙ ap made_number p ∙ z);
 }
 
-module _ {bs : List ℕ} {r : Result Held Refusal} {sent : Result Held ℕ} {sorted vs : List ℕ} (C : ConvertedAs bs r sorted vs) (N : Numbered r sent) {f : Form}
+module _ {bs : List ℕ} {r : Result Held Refusal} {sent : Result Held ℕ} {sorted vs : List ℕ} (C : ConvertedAs bs r sorted vs) (N : ByNumber r sent) {f : Form}
     (form : f ≡ form_of bs) where
   converted-sent : {out out' : List ℕ} {s : Answer} → SendsGraph f 0 sent sorted vs bs out s out' → Responds (conversion_response bs (length out)) out s out'
   converted-sent S = S.is (conversion_causes bs) (D.converted_record bs)
@@ -122,7 +122,7 @@ module _ {bs : List ℕ} {r : Result Held Refusal} {sent : Result Held ℕ} {sor
 module _ {bs : List ℕ} {r : Result Held Refusal} {es vs heads nexts order : List ℕ} (A : KmersRead (overlapping_causes bs) bs r es vs heads nexts order) where
   pub refused-sent : {n : Refusal} → r ≡ Err n → {s : Answer} → s ≡ record { number = number_of_refusal n; length = 0 } → {out : List ℕ}
       → Responds (conversion_response bs (length out)) out s out
-  refused-sent {n} f a = converted-sent (refused A {es₂ = []} {vs₂ = []} f) (numbered (Err n) (Err (number_of_refusal n)) refl) refl (sends-refused refl a)
+  refused-sent {n} f a = converted-sent (refused A {es₂ = []} {vs₂ = []} f) (by-number (Err n) (Err (number_of_refusal n)) refl) refl (sends-refused refl a)
 
   pub held-to-convert : {h : Held} → r ≡ Ok h → {scratch place sorted : List ℕ} → RoomToConvert bs es vs heads nexts order scratch place sorted
       → HeldToConvert bs h es vs heads nexts order scratch place sorted
@@ -140,11 +140,11 @@ module _ {bs : List ℕ} {h : Held} {es vs heads nexts order scratch place sorte
     module _ {sent : Result Held ℕ} (M : MatchResult made (λ h. sent ≡ Ok h) (λ e. IsErrAnd sent (λ n. n ≡ number_of_refusal e))) where
       pub made-sendable : GraphSendable f 0 sent sorted' vs' bs
       made-sendable =
-          let N = numbered made sent M in
+          let N = by-number made sent M in
           subst (λ (g : Form). GraphSendable g 0 sent sorted' vs' bs) (sym form) record { sendable = λ h ok. made_as.sendable h (N.graph h ok) }
 
       pub made-sent : {out out' : List ℕ} {s : Answer} → SendsGraph f 0 sent sorted' vs' bs out s out' → Responds (conversion_response bs (length out)) out s out'
-      made-sent S = converted-sent made_as (numbered made sent M) form S
+      made-sent S = converted-sent made_as (by-number made sent M) form S
 
 -- ---- the whole call
 
