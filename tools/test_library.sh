@@ -9,6 +9,12 @@ made=target/tests
 mkdir -p "$made"
 
 if command -v gcc >/dev/null 2>&1; then
+    # what the archive asks of the program that links it
+    asked=$(nm -u target/staticlib/libsg.a | awk '$1 == "U" { print $2 }' | sort | xargs)
+    if [ "$asked" != "memcpy memset" ]; then
+        echo "the archive asks for: $asked"
+        exit 1
+    fi
     for name in calls stack; do
         gcc -std=c11 -O2 -Wall -Wextra -Werror -o "$made/$name" "tests/c/$name.c" target/staticlib/libsg.a -lpthread
         "$made/$name"

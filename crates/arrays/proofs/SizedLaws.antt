@@ -25,7 +25,7 @@ unfolding limits
 first-limits e = (ap (λ (g : Form). (limits g).vertices) e, ap (λ (g : Form). (limits g).edges) e, ap (λ (g : Form). (limits g).bytes) e)
 
 -- so many vertices and edges are a class to read
-class-to-read : {v e : ℕ} {bs : List ℕ} → FewToRead v e bs → v ≤ e → v ≤ 32768 → e ≤ 65536 → ClassToRead v e bs
+pub class-to-read : {v e : ℕ} {bs : List ℕ} → FewToRead v e bs → v ≤ e → v ≤ 32768 → e ≤ 65536 → ClassToRead v e bs
 class-to-read F more vertices edges = record { few = F; more_edges = more; vertices-most = vertices; edges-most = edges }
 
 module _ (bs : List ℕ) where
@@ -85,8 +85,8 @@ module _ (bs : List ℕ) where
   pub counts-read : {v e b : ℕ} → v ≡ vertices_of bs → e ≡ edges_of bs → b ≡ bytes_of bs → CountedAt (v + b) (e + b / 4) bs
   counts-read v e b = record { weight_is = λ i. v i + b i; surplus-is = λ i. e i + b i / 4 }
 
-  pub counted-to-read : {v e : ℕ} → vertices_of bs ≤ v → edges_of bs ≤ e → v ≤ e → v ≤ 32768 → e ≤ 65536 → ClassToRead v e bs
-  counted-to-read v e = class-to-read record { vertices = λ W. v; edges = λ W. e }
+  pub counted-to-read : {v e : ℕ} → vertices_of bs ≤ v → edges_of bs ≤ e → FewToRead v e bs
+  counted-to-read v e = record { vertices = λ W. v; edges = λ W. e }
 
   pub counted-to-rewrite : {w s v e : ℕ} → CountedAt w s bs → w < v → s + v ≤ e → FewToRewrite v e bs
   counted-to-rewrite {w} {s} C v e =
@@ -118,10 +118,10 @@ module _ {c : ReadingClass} {bs : List ℕ} (C : ClassToRead (vertices_to_read c
 
 -- ---- the arrays
 
-module _ {v e : ℕ} {bs es vs heads nexts nodes mp : List ℕ} (C : ClassToRead v e bs) where
-  room-to-read : SizedToRead v e es vs heads nexts nodes mp → RoomToRead bs es vs heads nexts nodes mp
+module _ {v e : ℕ} {bs es vs heads nexts nodes mp : List ℕ} (F : FewToRead v e bs) where
+  pub room-to-read : SizedToRead v e es vs heads nexts nodes mp → RoomToRead bs es vs heads nexts nodes mp
   room-to-read Z = record {
-    room = λ W. let a = C.few.vertices W in let b = C.few.edges W in record {
+    room = λ W. let a = F.vertices W in let b = F.edges W in record {
       es-room = omega (arith, b, Z.es-is);
       vs-room = omega (arith, a, Z.vs-is);
       heads-room = omega (arith, a, Z.heads-is);
@@ -132,7 +132,7 @@ module _ {v e : ℕ} {bs es vs heads nexts nodes mp : List ℕ} (C : ClassToRead
   }
 
   pub room-to-mark : {marks : List ℕ} → SizedToMark v e es vs heads nexts nodes mp marks → RoomToMark bs es vs heads nexts nodes mp marks
-  room-to-mark Z = record { reading = room-to-read Z.reading; marks-room = λ W. omega (arith, C.few.vertices W, Z.marks-is) }
+  room-to-mark Z = record { reading = room-to-read Z.reading; marks-room = λ W. omega (arith, F.vertices W, Z.marks-is) }
 
 -- the same slices when they were written to: still as long
 pub room-to-mark-kept : {bs es vs heads nexts nodes mp marks es' vs' heads' nexts' nodes' mp' marks' : List ℕ}

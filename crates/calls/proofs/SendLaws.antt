@@ -13,11 +13,8 @@ use Rattle.memory.specs.declared.Held.{Held}
 use Rattle.memory.proofs.RoomLaws.{held-vertices, held-edges, held-ends, fit-bytes}
 use Rattle.pool.specs.Pool.{bytes_in}
 use Rattle.std.specs.Prelude.{Result, Ok, Err}
-use Rattle.refusal.specs.Refusals.{number_of_refusal}
-use Rattle.refusal.specs.declared.Refusal.{Refusal}
-use Rattle.refusal.proofs.RefusalLaws.{some-number, refused-number, made-number}
 use Rattle.write_record.specs.Written.{Measured, RecordWritable, RecordWritten}
-use Rattle.calls.specs.Sending.{fits, Sendable, RoomFits, Responds, SendsGraph}
+use Rattle.calls.specs.Sending.{fits, Sendable, RoomFits, Responds, made_number, SendsGraph}
 use Rattle.calls.proofs.ResponseLaws.{fits-short, fits-enough, respond-refused, respond-fits}
 use Rattle.store.specs.Store.{Within}
 use Rattle.write_record.proofs.WriteLaws.{bytes-are, encode-length}
@@ -102,17 +99,25 @@ module _ {f : Form} {status : ℕ} {h : Held} {es vs p : List ℕ} (S : Sendable
   send-small W = omega (arith, W.long, long, q, S.measured.small)
 
 -- a number where a cause is present, else the record where it fits
-module _ {r : Result Held Refusal} {es vs p : List ℕ} where
-  pub sends-refused : {n : Refusal} → r ≡ Err n → {f : Form} {status : ℕ} {out : List ℕ} {s : Answer}
-      → s ≡ record { number = number_of_refusal n; length = 0 } → SendsGraph f status r es vs p out s out
+number-sent : {r : Result Held ℕ} {n : ℕ} → r ≡ Err n → made_number r ≡ n
+unfolding made_number
+number-sent q = ap made_number q
+
+number-none : {r : Result Held ℕ} {h : Held} → r ≡ Ok h → made_number r ≡ 0
+unfolding made_number
+number-none q = ap made_number q
+
+module _ {r : Result Held ℕ} {es vs p : List ℕ} where
+  pub sends-refused : {n : ℕ} → r ≡ Err n → {f : Form} {status : ℕ} {out : List ℕ} {s : Answer}
+      → s ≡ record { number = n; length = 0 } → SendsGraph f status r es vs p out s out
   sends-refused {n} q {f} {status} {out} a = record {
     is = λ causes result M.
-        responds-refused (respond-refused causes (length out) result (number_of_refusal n) (sym M.number ∙ refused-number q) (some-number n)) a refl;
+        responds-refused (respond-refused causes (length out) result n (sym M.number ∙ number-sent q) (M.refused n q)) a refl;
   }
 
   pub sends-graph : {h : Held} → r ≡ Ok h → {f : Form} {status : ℕ} {out : List ℕ} {s : Answer} {out' : List ℕ}
       → Responds (fits (length out) (encode f sequence_graph status (graph_of h es vs p))) out s out' → SendsGraph f status r es vs p out s out'
   sends-graph {h} ok {f} {status} {out} S = record {
     is = λ causes result M.
-        responds-as (respond-fits causes (length out) result M.numbered (sym M.number ∙ made-number ok) ∙ ap (fits (length out)) (sym (M.is h ok))) S;
+        responds-as (respond-fits causes (length out) result M.numbered (sym M.number ∙ number-none ok) ∙ ap (fits (length out)) (sym (M.is h ok))) S;
   }

@@ -1,5 +1,5 @@
 -- A record that is written where it fits. Assumes nothing.
-use Rattle.std.specs.Prelude.{◌≡◌, Result, Ok, List, [], ◌∷◌, ◌++◌, ℕ, ◌≤◌, ◌<◌, length}
+use Rattle.std.specs.Prelude.{◌≡◌, Result, Ok, Err, List, [], ◌∷◌, ◌++◌, ℕ, ◌≤◌, ◌<◌, length}
 use Rattle.defs.specs.Forms.{Form}
 use Rattle.defs.specs.Record.{whole_length, sequence_graph, encode}
 use Rattle.defs.specs.Refusals.{Cause, refusal_of}
@@ -10,8 +10,6 @@ use Rattle.pool.specs.Pool.{bytes_in}
 use Rattle.form.specs.Coded.{word_limit}
 use Rattle.memory.specs.Memory.{graph_of, vertex_room, edge_room}
 use Rattle.memory.specs.declared.Held.{Held}
-use Rattle.refusal.specs.Refusals.{refused_by}
-use Rattle.refusal.specs.declared.Refusal.{Refusal}
 use Rattle.write_record.specs.Written.{Measured, RecordWritable}
 use Rattle.calls.specs.declared.Answer.{Answer}
 
@@ -41,17 +39,23 @@ pub record Responds (x : Response) (out : List ℕ) (s : Answer) (out' : List �
   pub size : s.length ≡ length_of x
   pub written : out' ≡ written_of x out
 
--- What was made of a record, by the causes but for 11: a refusal, or a graph in the slices whose record, with this status, is the
--- result.
-pub record Makes (f : Form) (causes : List Cause) (status : ℕ) (result : List ℕ) (r : Result Held Refusal) (es vs p : List ℕ) : Type 0 where
-  pub numbered : CausesNumbered causes
-  pub number : refused_by r ≡ refusal_of causes
-  pub is : (h : Held) → r ≡ Ok h → encode f sequence_graph status (graph_of h es vs p) ≡ result
+-- the number of the refusal; 0 where there is a graph
+unfoldable pub made_number : Result Held ℕ → ℕ
+made_number (Ok h) = 0
+made_number (Err n) = n
 
-pub record GraphSendable (f : Form) (status : ℕ) (r : Result Held Refusal) (es vs p : List ℕ) : Type 0 where
+-- What was made of a record, by the causes but for 11: a refusal's number, which is not 0, or a graph in the slices whose record, with this
+-- status, is the result.
+pub record Makes (f : Form) (causes : List Cause) (status : ℕ) (result : List ℕ) (r : Result Held ℕ) (es vs p : List ℕ) : Type 0 where
+  pub numbered : CausesNumbered causes
+  pub number : made_number r ≡ refusal_of causes
+  pub is : (h : Held) → r ≡ Ok h → encode f sequence_graph status (graph_of h es vs p) ≡ result
+  pub refused : (n : ℕ) → r ≡ Err n → n ≡ 0 → ⊥
+
+pub record GraphSendable (f : Form) (status : ℕ) (r : Result Held ℕ) (es vs p : List ℕ) : Type 0 where
   pub sendable : (h : Held) → r ≡ Ok h → Sendable f status h es vs p
 
 -- what is sent responds to the causes, whatever they are, and 11 behind them, with that record
-pub record SendsGraph (f : Form) (status : ℕ) (r : Result Held Refusal) (es vs p out : List ℕ) (s : Answer) (out' : List ℕ) : Type 0 where
+pub record SendsGraph (f : Form) (status : ℕ) (r : Result Held ℕ) (es vs p out : List ℕ) (s : Answer) (out' : List ℕ) : Type 0 where
   pub is : (causes : List Cause) (result : List ℕ) → Makes f causes status result r es vs p
       → Responds (respond (with_output causes (length out) result) result) out s out'

@@ -132,9 +132,10 @@ pub fn send_record(
     }
 }
 
-// What was made of a record: its graph, which the slices hold, or its refusal.
+// What was made of a record: its graph, which the slices hold, or the number of its refusal. It takes every number, also one that none of the
+// library's refusals has.
 pub fn send(
-    made: Result<Held, Refusal>,
+    made: Result<Held, u32>,
     form: Form,
     status: u32,
     out: &mut [u8],
@@ -147,6 +148,6 @@ pub fn send(
 {
     match made {
         Ok(held) => send_record(out, form, status, held, es, vs, p),
-        Err(refusal) => Answer::from(refusal),
+        Err(number) => Answer { number, length: 0 },
     }
 }

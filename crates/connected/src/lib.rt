@@ -41,7 +41,8 @@ fn mark_unreached(
     requires { (s < n) × ((n ≤ length map.old) × (Indexed m n es.now heads.now nexts.now × Walkable n tried.old nodes.old)) }
     ensures { Unreached (direction_number direction) m n es.now s map.old map.new }
 {
-    reach::mark_reached(es, m, n, heads, nexts, false, direction, s, tried, nodes);
+    let kind = direction as u32;
+    reach::mark_reached(es, m, n, heads, nexts, false, kind, s, tried, nodes);
     mark_missed(tried, n, map);
 }
 

@@ -1,5 +1,5 @@
 -- The promise of from_assembly_graph. Assumes nothing.
-use mathlib.Core.Path.{◌≡◌, refl, sym, ◌∙◌, subst}
+use mathlib.Core.Path.{◌≡◌, refl, sym, ap, ◌∙◌, subst}
 use mathlib.Core.List.{List, [], ◌∷◌}
 use Prim.Native.Nat.{ℕ, ◌≤◌, ◌<◌}
 use native.Mathlib.Omega.{arith}
@@ -21,19 +21,20 @@ use Rattle.reread.specs.Recordable.{SequenceInput, KmerInput}
 use Rattle.reread.proofs.Graphs.{input-reaccepted}
 use Rattle.reread.proofs.Read.{Bytes, kmer-input}
 use Rattle.convert.proofs.SortLaws.{of-sort, length-sort, single-sort}
-use Rattle.calls.specs.Sending.{Responds, GraphSendable, SendsGraph}
+use Rattle.calls.specs.Sending.{Responds, made_number, GraphSendable, SendsGraph}
 use Rattle.calls.specs.declared.Answer.{Answer}
 use Rattle.calls.proofs.SendLaws.{sends-refused}
 use Rattle.calls.proofs.ResponseLaws.{answered-holds, room-enough}
 use Rattle.calls.proofs.CallerLaws.{caller-other, caller-none, sends-above, sends-within}
 use Rattle.overlap.proofs.Runs.{order-converted, sources-hold-kmers, runs-are-kmers}
-use Rattle.arrays.specs.Sized.{ClassToRead}
+use Rattle.arrays.specs.Sized.{FewToRead}
 use Rattle.arrays.proofs.SizedLaws.{room-to-mark-kept}
 use Rattle.memory.specs.declared.Held.{Held}
 use Rattle.accept.specs.Accept.{RoomToMark}
-use Rattle.std.specs.Prelude.{Result, Ok, Err}
-use Rattle.refusal.specs.Refusals.{number_of_refusal}
+use Rattle.std.specs.Prelude.{Result, Ok, Err, MatchResult, IsErrAnd}
+use Rattle.refusal.specs.Refusals.{number_of_refusal, refused_by}
 use Rattle.refusal.specs.declared.Refusal.{Refusal}
+use Rattle.refusal.proofs.RefusalLaws.{some-number}
 use Rattle.read_kmers.specs.Kmers.{overlapping_causes, KmersRead}
 use Rattle.from_kmers.specs.Conversion.{RoomToConvert, ConvertedAs, ConvertibleKmers, KmersConverted}
 use Rattle.from_kmers.proofs.ConversionLaws.{conversion-numbered, none-early, none-late, all-overlap, refused, convertible, converted_as}
@@ -87,19 +88,41 @@ convert-runs bs small none =
 
 -- ---- what is sent
 
-module _ {bs : List ℕ} {r : Result Held Refusal} {sorted vs : List ℕ} (C : ConvertedAs bs r sorted vs) {f : Form} (form : f ≡ form_of bs) where
-  converted-sent : {out out' : List ℕ} {s : Answer} → SendsGraph f 0 r sorted vs bs out s out' → Responds (conversion_response bs (length out)) out s out'
+-- the same graph, or the number of the refusal
+record ByNumber (r : Result Held Refusal) (sent : Result Held ℕ) : Type 0 where
+  number : made_number sent ≡ refused_by r
+  graph : (h : Held) → sent ≡ Ok h → r ≡ Ok h
+  some : (n : ℕ) → sent ≡ Err n → n ≡ 0 → ⊥
+
+by-number : (r : Result Held Refusal) (sent : Result Held ℕ) → MatchResult r (λ h. sent ≡ Ok h) (λ e. IsErrAnd sent (λ n. n ≡ number_of_refusal e)) → ByNumber r sent
+unfolding made_number
+by-number (Ok h) sent q = record {
+  number = ap made_number q;
+  graph = λ g p. let w : ◌≡◌ {A = Result Held ℕ} (Ok h) (Ok g) = sym q ∙ p in let same : h ≡ g = cc in ap Ok same;
+  some = λ n p z. let w : ◌≡◌ {A = Result Held ℕ} (Ok h) (Err n) = sym q ∙ p in absurd (let y : ◌≡◌ {A = ℕ} 0 1 = cc in omega arith);
+}
+by-number (Err e) (Ok h) q = absurd q
+by-number (Err e) (Err m) q = record {
+  number = q;
+  graph = λ g p. absurd (some-number e (sym q ∙ ap made_number p));
+  some = λ n p z. some-number e (sym q ∙ ap made_number p ∙ z);
+}
+
+module _ {bs : List ℕ} {r : Result Held Refusal} {sent : Result Held ℕ} {sorted vs : List ℕ} (C : ConvertedAs bs r sorted vs) (N : ByNumber r sent) {f : Form}
+    (form : f ≡ form_of bs) where
+  converted-sent : {out out' : List ℕ} {s : Answer} → SendsGraph f 0 sent sorted vs bs out s out' → Responds (conversion_response bs (length out)) out s out'
   converted-sent S = S.is (conversion_causes bs) (D.converted_record bs)
       record {
         numbered = conversion-numbered bs;
-        number = C.number;
-        is = λ h ok i. encode (form i) sequence_graph 0 (C.is h ok i);
+        number = N.number ∙ C.number;
+        is = λ h ok i. encode (form i) sequence_graph 0 (C.is h (N.graph h ok) i);
+        refused = N.some;
       }
 
 module _ {bs : List ℕ} {r : Result Held Refusal} {es vs heads nexts order : List ℕ} (A : KmersRead (overlapping_causes bs) bs r es vs heads nexts order) where
   pub refused-sent : {n : Refusal} → r ≡ Err n → {s : Answer} → s ≡ record { number = number_of_refusal n; length = 0 } → {out : List ℕ}
       → Responds (conversion_response bs (length out)) out s out
-  refused-sent f a = converted-sent (refused A {es₂ = []} {vs₂ = []} f) refl (sends-refused refl a)
+  refused-sent {n} f a = converted-sent (refused A {es₂ = []} {vs₂ = []} f) (by-number (Err n) (Err (number_of_refusal n)) refl) refl (sends-refused refl a)
 
   pub held-to-convert : {h : Held} → r ≡ Ok h → {scratch place sorted : List ℕ} → RoomToConvert bs es vs heads nexts order scratch place sorted
       → HeldToConvert bs h es vs heads nexts order scratch place sorted
@@ -114,11 +137,14 @@ module _ {bs : List ℕ} {h : Held} {es vs heads nexts order scratch place sorte
     made_as : ConvertedAs bs made sorted' vs'
     made_as = converted_as H.read refl form K
 
-    pub made-sendable : GraphSendable f 0 made sorted' vs' bs
-    made-sendable = subst (λ (g : Form). GraphSendable g 0 made sorted' vs' bs) (sym form) record { sendable = made_as.sendable }
+    module _ {sent : Result Held ℕ} (M : MatchResult made (λ h. sent ≡ Ok h) (λ e. IsErrAnd sent (λ n. n ≡ number_of_refusal e))) where
+      pub made-sendable : GraphSendable f 0 sent sorted' vs' bs
+      made-sendable =
+          let N = by-number made sent M in
+          subst (λ (g : Form). GraphSendable g 0 sent sorted' vs' bs) (sym form) record { sendable = λ h ok. made_as.sendable h (N.graph h ok) }
 
-    pub made-sent : {out out' : List ℕ} {s : Answer} → SendsGraph f 0 made sorted' vs' bs out s out' → Responds (conversion_response bs (length out)) out s out'
-    made-sent S = converted-sent made_as form S
+      pub made-sent : {out out' : List ℕ} {s : Answer} → SendsGraph f 0 sent sorted' vs' bs out s out' → Responds (conversion_response bs (length out)) out s out'
+      made-sent S = converted-sent made_as (by-number made sent M) form S
 
 -- ---- the whole call
 
@@ -166,29 +192,29 @@ module _ (bs : List ℕ) {caller : ℕ} {out : List ℕ} (small : Bytes bs) wher
 
 -- ---- room
 
-module _ {v e : ℕ} {bs es vs heads nexts order scratch place : List ℕ} (C : ClassToRead v e bs) where
-  room-to-read-kmers : SizedToReadKmers v e es vs heads nexts order scratch place → RoomToMark bs es vs heads nexts order scratch place
+module _ {v e : ℕ} {bs es vs heads nexts order scratch place : List ℕ} (F : FewToRead v e bs) (more : v ≤ e) where
+  pub room-to-read-kmers : SizedToReadKmers v e es vs heads nexts order scratch place → RoomToMark bs es vs heads nexts order scratch place
   room-to-read-kmers Z = record {
     reading = record {
-      room = λ W. let a = C.few.vertices W in let b = C.few.edges W in record {
+      room = λ W. let a = F.vertices W in let b = F.edges W in record {
         es-room = omega (arith, b, Z.es-is);
         vs-room = omega (arith, a, Z.vs-is);
         heads-room = omega (arith, a, Z.heads-is);
         nexts-room = omega (arith, b, Z.nexts-is);
-        nodes-room = omega (arith, a, C.more_edges, Z.order_is);
-        mp-room = omega (arith, a, C.more_edges, Z.scratch-is);
+        nodes-room = omega (arith, a, more, Z.order_is);
+        mp-room = omega (arith, a, more, Z.scratch-is);
       };
     };
-    marks-room = λ W. omega (arith, C.few.vertices W, Z.place_is);
+    marks-room = λ W. omega (arith, F.vertices W, Z.place_is);
   }
 
   pub room-to-convert : {sorted : List ℕ} → SizedToConvert v e es vs heads nexts order scratch place sorted
       → RoomToConvert bs es vs heads nexts order scratch place sorted
   room-to-convert Z = record {
     reading = room-to-read-kmers Z.reading;
-    order-room = λ W. omega (arith, C.few.edges W, Z.reading.order_is);
-    scratch-room = λ W. omega (arith, C.few.edges W, Z.reading.scratch-is);
-    sorted-room = λ W. omega (arith, C.few.edges W, Z.sorted-is);
+    order-room = λ W. omega (arith, F.edges W, Z.reading.order_is);
+    scratch-room = λ W. omega (arith, F.edges W, Z.reading.scratch-is);
+    sorted-room = λ W. omega (arith, F.edges W, Z.sorted-is);
   }
 
 -- the same slices when a graph was read into them: still as long

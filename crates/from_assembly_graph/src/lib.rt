@@ -33,9 +33,10 @@ fn convert_held(
     ensures { Responds (conversion_response rec.now (length out.old)) out.old result out.new }
 {
     let form = form::form_of(rec);
-    let made = from_kmers::convert(
+    let converted = from_kmers::convert(
         form, held, es, vs, heads, nexts, order, scratch, place, sorted,
     );
+    let made = converted.map_err(Refusal::number);
     calls::send(made, form, 0, out, sorted, vs, rec)
 }
 

@@ -43,7 +43,7 @@ fn load_bytes(rec: &[u8], p: &mut [u8], at: usize, b: usize)
     requires { (at + b ≤ length rec.now) × (b ≤ length p.old) }
     ensures { BytesRead rec.now at b p.new }
 {
-    p[..b].copy_from_slice(&rec[at..at + b]);
+    copies::copy(&mut p[..b], &rec[at..at + b]);
 }
 
 // The size k is the one that the check of the layout made. The bytes in use are the whole record's.

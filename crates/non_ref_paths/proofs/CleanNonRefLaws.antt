@@ -21,21 +21,11 @@ use Rattle.refs.specs.Refs.{FirstSource, FirstSink}
 use Rattle.std.specs.Prelude as prelude
 use Rattle.std.specs.Prelude.{Some, None}
 use Rattle.refs.proofs.RefLaws.{source-found, source-missing, sink-found, sink-missing}
-use denote.Enum.Declared.{tag_of}
-use Rattle.reach.specs.contracts.Direction.{the_type}
-use Rattle.reach.specs.declared.Direction.{Direction}
-use Rattle.reach.specs.declared.Direction.TheVariants.{Along, Against, Either}
-use Rattle.reach.specs.Reach.{direction_number, step_of, walk_step, Reached}
+use Rattle.reach.specs.Reach.{step_of, walk_step, Reached}
 use Rattle.orphans.specs.Orphans.{Reduced}
 use Rattle.non_ref_paths.specs.CleanNonRef.{stays_by, leads, EdgesKept, EdgesDropped}
 
 -- ---- the marks say which edges go
-
--- a direction as a number
-pub number-is : (d : Direction) → tag_of the_type d ≡ direction_number d
-number-is Along = refl
-number-is Against = refl
-number-is Either = refl
 
 end_below : (off n m : ℕ) (es : List ℕ) → EndsBelow n m es → (e : Edge) → Memᴰ e (edges_in m es) → end_at off e < n
 unfolding end_at

@@ -58,7 +58,8 @@ fn drop_edges(
     requires { (s < n) × ((direction_number direction ≤ 1) × ((m < 4294967296) × (Indexed m n es.old heads.old nexts.old × Walkable n tried.old nodes.old))) }
     ensures { EdgesDropped (direction_number direction) m n es.old s result es.new × Indexed result n es.new heads.new nexts.new }
 {
-    reach::mark_reached(es, m, n, heads, nexts, true, direction, s, tried, nodes);
+    let kind = direction as u32;
+    reach::mark_reached(es, m, n, heads, nexts, true, kind, s, tried, nodes);
     let left = keep_edges(es, m, direction as usize, n, tried);
     index::build_index(es, left, n, heads, nexts);
     left

@@ -20,6 +20,38 @@ use Rattle.pool.specs.Pool.{Apart, Moved, bytes_in, Packable, Packed}
 pub part-cut : (p : List ℕ) (a n : ℕ) → take (a + n - a) (drop a p) ≡ part p a n
 part-cut p a n = ap (λ (k : ℕ). take k (drop a p)) (omega arith)
 
+-- ---- copying
+
+pub record Copying (p₀ : List ℕ) (to from n : ℕ) (p : List ℕ) (i : ℕ) : Type 0 where
+  pub high : i ≤ n
+  pub len : length p ≡ length p₀
+  pub done : (j : ℕ) → j < i → get_or p (to + j) 0 ≡ get_or p₀ (from + j) 0
+  pub before : (k : ℕ) → k < to → get_or p k 0 ≡ get_or p₀ k 0
+  pub behind : (k : ℕ) → to + i ≤ k → get_or p k 0 ≡ get_or p₀ k 0
+
+module _ {p₀ : List ℕ} {to from n : ℕ} where
+  pub copying-start : Copying p₀ to from n p₀ 0
+  copying-start = record { high = omega arith; len = refl; done = λ j h. absurd (omega arith); before = λ k h. refl; behind = λ k h. refl }
+
+  pub copying-more : {p : List ℕ} {i : ℕ} → Apart p₀ to from n → Copying p₀ to from n p i → i < n
+      → Copying p₀ to from n (set p (to + i) (get_or p (from + i) 0)) (i + 1)
+  copying-more {p} {i} A C h = record {
+    high = omega arith;
+    len = length-set p _ _ ∙ C.len;
+    done = λ j b. elim (ℕ_discrete j i) [
+      | yes q ↦ rw q (get_or-set_same p (to + i) _ 0 (omega (arith, C.len, A.to_room)) ∙ source)
+      | no ne ↦ get_or-set_other p (to + i) (to + j) _ 0 (λ z. ne (omega arith)) ∙ C.done j (omega arith)
+    ];
+    before = λ k b. get_or-set_other p (to + i) k _ 0 (λ z. omega arith) ∙ C.before k b;
+    behind = λ k b. get_or-set_other p (to + i) k _ 0 (λ z. omega arith) ∙ C.behind k (omega arith);
+  }
+    where
+      source : get_or p (from + i) 0 ≡ get_or p₀ (from + i) 0
+      source = ⊎_elim (λ a. C.before (from + i) (omega arith)) (λ a. C.behind (from + i) (omega arith)) A.apart
+
+  pub copying-end : {p : List ℕ} {i : ℕ} → Copying p₀ to from n p i → n ≤ i → Moved p₀ to from n p
+  copying-end C h = record { copied = λ i b. C.done i (omega (arith, C.high)); before = C.before; behind = λ k b. C.behind k (omega (arith, C.high)) }
+
 -- ---- sums of lengths
 
 pub bytes_in-more : (v : ℕ) (vs : List ℕ) → bytes_in (v + 1) vs ≡ bytes_in v vs + get_or vs (2 * v + 1) 0

@@ -19,7 +19,9 @@ pub fn copy_within(p: &mut [u8], to: usize, from: usize, n: usize)
     requires { Apart p.old to from n }
     ensures { Moved p.old to from n p.new }
 {
-    p.copy_within(from..from + n, to);
+    for i in 0..n {
+        p[to + i] = p[from + i];
+    }
 }
 
 // Copies the sequences of n vertices, in order, to `base` on, and notes where each then starts behind `base`; how many bytes they are.

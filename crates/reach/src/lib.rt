@@ -103,8 +103,8 @@ fn leave_vertex(
     )
 }
 
-// Marks of n vertices what is reached from s, and nothing else.
-pub fn mark_reached(
+// Marks of n vertices what a walk in this direction reaches from s, and nothing else.
+fn walk(
     es: &[u32],
     m: usize,
     n: usize,
@@ -131,4 +131,29 @@ pub fn mark_reached(
         );
         h += 1;
     }
+}
+
+// Marks of n vertices what is reached from s, and nothing else. Kind 0 goes along the edges, 1 against them, any other either way. The kind
+// stays a number: docs/PROMISES.md names this function, and it takes every number.
+pub fn mark_reached(
+    es: &[u32],
+    m: usize,
+    n: usize,
+    heads: &[u32],
+    nexts: &[u32],
+    plain: bool,
+    kind: u32,
+    s: usize,
+    marks: &mut [u8],
+    queue: &mut [u32],
+)
+    requires { (s < n) × (Indexed m n es.now heads.now nexts.now × Walkable n marks.old queue.old) }
+    ensures { Reached plain kind m n es.now s marks.new }
+{
+    let direction = match kind {
+        0 => Direction::Along,
+        1 => Direction::Against,
+        _ => Direction::Either,
+    };
+    walk(es, m, n, heads, nexts, plain, direction, s, marks, queue);
 }

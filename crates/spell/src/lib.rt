@@ -12,7 +12,7 @@ fn put_sequence(vs: &[u32], p: &[u8], v: u32, out: &mut [u8], at: usize) -> usiz
 {
     let start = store::vertex_start(vs, v);
     let len = store::vertex_len(vs, v);
-    out[at..at + len].copy_from_slice(&p[start..start + len]);
+    copies::copy(&mut out[at..at + len], &p[start..start + len]);
     at + len
 }
 

@@ -1,5 +1,5 @@
 -- Rewrites by kind, and what doing one until no vertex allows it leaves. Assumes nothing.
-use Rattle.std.specs.Prelude.{◌≡◌, List, ℕ, ◌+◌, ◌≤◌}
+use Rattle.std.specs.Prelude.{◌≡◌, Bool, true, false, List, ℕ, ◌+◌, ◌≤◌}
 use Rattle.std.proofs.Math.Option.{Option, none}
 use Rattle.defs.specs.SeqGraph.{Graph}
 use Rattle.defs.specs.Rewrites.{try_merge_diamond, try_merge_tails, try_merge_common_suffices}
@@ -14,6 +14,14 @@ rewrite_of diamond least g v = try_merge_diamond g v
 rewrite_of tails least g v = try_merge_tails least g v
 rewrite_of split least g v = none
 rewrite_of merge least g v = try_merge_common_suffices g v
+
+-- whether a vertex alone allows a rewrite of this kind
+abbrev pub is_transform : RewriteKind → Bool
+is_transform zip = false
+is_transform diamond = true
+is_transform tails = true
+is_transform split = false
+is_transform merge = true
 
 -- the rewrites of the kind
 pub record Completed (kind : RewriteKind) (least : ℕ) (w : Work) (es vs p : List ℕ) (r : Work) (es' vs' p' heads' nexts' nodes' mp' : List ℕ) : Type 0 where

@@ -1,17 +1,21 @@
 // A rewrite at the first vertex that allows it, and until no vertex allows it.
 #![tactic(auto)]
 
-ghost use Rattle.std.specs.Prelude.{◌≡◌, ℕ, ◌+◌, ◌*◌, ◌<◌, ◌≤◌, length};
+ghost use Rattle.std.specs.Prelude.{◌≡◌, refl, true, ℕ, ◌+◌, ◌*◌, ◌<◌, ◌≤◌, length};
 ghost use Rattle.defs.specs.SeqGraph.{node_count};
-ghost use Rattle.defs.specs.Simplify.{RewriteKind, diamond, tails, merge, first_at};
+ghost use Rattle.defs.specs.Simplify.{RewriteKind, diamond, tails, merge, rewrite_kind_number, first_at};
 ghost use Rattle.memory.specs.Memory.{graph_of, Ready, Counted, Left};
-ghost use Rattle.until.specs.Until.{rewrite_of, Completed};
+ghost use Rattle.until.specs.Until.{rewrite_of, is_transform, Completed};
 
 use memory::{Held, Work};
 
 // A kind of rewrite that a vertex alone allows. Zips take whole chains, and splits have marks.
 pub trait Transform {
     ghost kind: { RewriteKind };
+
+    // The number that the method gives the kind.
+    fn number() -> u32
+        ensures { result ≡ rewrite_kind_number kind };
 
     // The rewrite at v.
     fn try_at(
@@ -29,12 +33,21 @@ pub trait Transform {
         requires { Ready least held es.old vs.old p.old heads.now nexts.now nodes.old map.old × (v < held.n) }
         ensures { Left (rewrite_of kind least (graph_of held es.old vs.old p.old) v) es.old
             vs.old p.old heads.now nexts.now result es.new vs.new p.new };
+
+    // What each `impl` must prove: a vertex alone allows the kind, which is diamond, tails or merge.
+    ghost allowed: { is_transform kind ≡ true };
 }
 
 pub struct Diamonds;
 
 impl Transform for Diamonds {
     ghost kind = { diamond };
+
+    ghost allowed = { refl };
+
+    fn number() -> u32 {
+        1
+    }
 
     fn try_at(
         least: usize,
@@ -57,6 +70,12 @@ pub struct Tails;
 impl Transform for Tails {
     ghost kind = { tails };
 
+    ghost allowed = { refl };
+
+    fn number() -> u32 {
+        2
+    }
+
     fn try_at(
         least: usize,
         held: Held,
@@ -77,6 +96,12 @@ pub struct Merges;
 
 impl Transform for Merges {
     ghost kind = { merge };
+
+    ghost allowed = { refl };
+
+    fn number() -> u32 {
+        4
+    }
 
     fn try_at(
         least: usize,

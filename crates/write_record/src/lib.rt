@@ -119,7 +119,7 @@ fn put_sequence(out: &mut [u8], at: usize, p: &[u8], start: usize, len: usize)
     requires { (at + len ≤ length out.old) × (start + len ≤ length p.now) }
     ensures { out.new ≡ sets out.old at (part p.now start len) }
 {
-    out[at..at + len].copy_from_slice(&p[start..start + len]);
+    copies::copy(&mut out[at..at + len], &p[start..start + len]);
 }
 
 fn put_sequences(out: &mut [u8], at: usize, vs: &[u32], n: usize, p: &[u8])

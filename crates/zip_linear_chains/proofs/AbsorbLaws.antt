@@ -116,17 +116,18 @@ module _ {m n : ℕ} {es vs p heads nexts nodes rest froms : List ℕ} {t : Abso
           within-absorbed : Within end n (put_vertex vs s t.at (end - t.at))
           within-absorbed = within-written R.below R.vs-room R.within at-pool W
 
-          pub absorb-done : {vs₁ nodes₁ froms₁ : List ℕ} → vs₁ ≡ put_vertex vs s t.at (end - t.at)
-              → NodesAppended t.gone c nodes rest' nodes₁ → froms₁ ≡ set froms (get_or rest' (c - 1) 0) s
-              → AbsorbedAt m n es vs p nodes froms t s record { at = end; gone = t.gone + c; chains = t.chains + 1 } vs₁ p' nodes₁ froms₁
-          absorb-done {vs₁} {nodes₁} {froms₁} put A led = record {
+          pub absorb-done : {vs₁ nodes₁ froms₁ : List ℕ} {k g : ℕ} → vs₁ ≡ put_vertex vs s t.at (end - t.at)
+              → NodesAppended t.gone k nodes rest' nodes₁ → froms₁ ≡ set froms (get_or rest' (c - 1) 0) s → k ≡ c → g ≡ t.gone + c
+              → AbsorbedAt m n es vs p nodes froms t s record { at = end; gone = g; chains = t.chains + 1 } vs₁ p' nodes₁ froms₁
+          absorb-done {vs₁} {nodes₁} {froms₁} put A led whole counted = record {
             none = λ e. absurd (omega (arith, some-c, ap length (sym chain-is ∙ e), length-tab c (λ (i : ℕ). get_or rest' i 0)));
             some = λ y ys f. let z : nums_in c rest' ≡ y ∷ ys = sym chain-is ∙ f in record {
               verts = ap (λ (x : List ℕ). seqs_in n x p') put ∙ (verts-absorbed
                   ∙ ap (λ (x : List ℕ). set (seqs_in n vs p) s (concat (map (seq_in vs p) (s ∷ x)))) z);
               within = subst (λ (x : List ℕ). Within end n x) (sym put) within-absorbed;
               at-is = omega (arith, W.end, size_is, ap (λ (x : List ℕ). length (concat (map (seq_in vs p) (s ∷ x)))) z);
-              gone-is = A.is ∙ ap (λ (x : List ℕ). nums_in t.gone nodes ++ x) z;
+              gone-is = ap (λ (x : ℕ). nums_in x nodes₁) counted ∙ (subst (λ (x : ℕ). NodesAppended t.gone x nodes rest' nodes₁) whole A).is
+                  ∙ ap (λ (x : List ℕ). nums_in t.gone nodes ++ x) z;
               handed = led ∙ ap (λ (x : ℕ). set froms x s) (sym (last-of s c (λ (i : ℕ). get_or rest' i 0) some-c) ∙ ap (last_of s) z);
               chains-is = refl;
             };

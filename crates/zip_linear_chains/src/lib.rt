@@ -38,7 +38,7 @@ fn append_nodes(dst: &mut [u32], k: usize, src: &[u32], c: usize)
     requires { (k + c ≤ length dst.old) × (c ≤ length src.now) }
     ensures { NodesAppended k c dst.old src.now dst.new }
 {
-    dst[k..k + c].copy_from_slice(&src[..c]);
+    copies::copy(&mut dst[k..k + c], &src[..c]);
 }
 
 // The edges out of the vertex at `last` of `rest` will leave s.

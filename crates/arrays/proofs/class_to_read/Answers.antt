@@ -3,7 +3,7 @@ use mathlib.Core.Path.{sym, ◌∙◌}
 use native.Mathlib.Omega.{arith}
 use Rattle.form.proofs.FormLaws.{is-1}
 use Rattle.arrays.specs.Classes.{vertices_to_read, edges_to_read}
-use Rattle.arrays.proofs.SizedLaws.{all-to-read, first-to-read, short-to-read, counted-to-read, long-headed}
+use Rattle.arrays.proofs.SizedLaws.{all-to-read, first-to-read, short-to-read, counted-to-read, class-to-read, long-headed}
 use Rattle.arrays.proofs.class_to_read.Goals as goal
 
 pub returns-then-rec-le-SMALL_RECORD : goal.returns-then-rec-le-SMALL_RECORD
@@ -19,9 +19,10 @@ edge_count-e-requires c = long-headed _ c.form_of-form.ensures c.if-rec-le-SMALL
 pub returns-then-e-le-FEW_EDGES : goal.returns-then-e-le-FEW_EDGES
 unfolding vertices_to_read edges_to_read
 returns-then-e-le-FEW_EDGES c =
-    counted-to-read _
-    (omega (arith, c.vertex_count-v.ensures.0, c.if-v-le-FEW_VERTICES.true))
-    (omega (arith, c.edge_count-e.ensures.0, c.if-e-le-FEW_EDGES.true))
+    class-to-read
+    (counted-to-read _
+    (omega (arith, c.vertex_count-v.ensures.0))
+    (omega (arith, c.edge_count-e.ensures.0)))
     (omega arith)
     (omega arith)
     (omega arith)
@@ -33,9 +34,10 @@ returns-in-Sgr1 c = first-to-read _ (sym c.form_of-form.ensures ∙ is-1 _ c.in-
 pub returns-in-Sgr2 : goal.returns-in-Sgr2
 unfolding vertices_to_read edges_to_read
 returns-in-Sgr2 c =
-    counted-to-read _
-    (omega (arith, c.vertex_count-v.ensures.0, c.if-v-le-MANY_VERTICES.true))
-    (omega (arith, c.edge_count-e.ensures.0, c.if-e-le-MANY_EDGES.true))
+    class-to-read
+    (counted-to-read _
+    (omega (arith, c.vertex_count-v.ensures.0))
+    (omega (arith, c.edge_count-e.ensures.0)))
     (omega arith)
     (omega arith)
     (omega arith)

@@ -1,11 +1,11 @@
 -- `calls::send` meets its contract.
 use Rattle.calls.proofs.SendLaws.{sends-refused, sends-graph}
-use borrow.Author.Rules.{rules}
+use mathlib.Core.Path.{refl}
 use Rattle.calls.proofs.send.Goals as goal
 
 pub returns-in-Err : goal.returns-in-Err
 returns-in-Err c =
-    sends-refused c.in-Err.is c.from.ensures
+    sends-refused c.in-Err.is refl
 
 pub send_record-requires : goal.send_record-requires
 send_record-requires c =

@@ -1,7 +1,8 @@
 -- `connected::mark_unreached` meets its contract.
+use Rattle.reach.proofs.Directions.{number-is}
 use Rattle.connected.proofs.ConnectedLaws.{unreached}
 use Rattle.connected.proofs.mark_unreached.Goals as goal
 
 pub returns : goal.returns
 returns c =
-    unreached c.mark_reached.ensures c.mark_missed.ensures
+    unreached (rw (number-is c.args.direction) at c.mark_reached.ensures) c.mark_missed.ensures

@@ -1,6 +1,7 @@
 -- `non_ref_paths::drop_edges` meets its contract.
 use native.Mathlib.Omega.{arith}
-use Rattle.non_ref_paths.proofs.CleanNonRefLaws.{number-is, dropped, kept-indexable}
+use Rattle.reach.proofs.Directions.{number-is}
+use Rattle.non_ref_paths.proofs.CleanNonRefLaws.{dropped, kept-indexable}
 use Rattle.non_ref_paths.proofs.drop_edges.Goals as goal
 
 pub mark_reached-requires : goal.mark_reached-requires
@@ -29,6 +30,7 @@ build_index-requires c =
 
 pub returns : goal.returns
 returns c = (
-  dropped c.requires.1.1.1.0.ends c.mark_reached.ensures (rw (number-is c.args.direction) at c.keep_edges-left.ensures),
+  dropped c.requires.1.1.1.0.ends (rw (number-is c.args.direction) at c.mark_reached.ensures)
+      (rw (number-is c.args.direction) at c.keep_edges-left.ensures),
   c.build_index.ensures,
 )

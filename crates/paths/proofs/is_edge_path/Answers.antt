@@ -24,4 +24,4 @@ loop-rest-preserved c =
     (sym (and_then _ (eq-eqb _ _ c.if-a-at.false)) ∙ sym c.has_edge.ensures ∙ c.if-not-has_edge.false)
 
 pub returns : goal.returns
-returns c = rw c.is_empty.ensures (following-end c.loop-rest.rest.now c.loop-rest.invariant c.in_default.len_below)
+returns c = rw (sym c.is_empty.ensures) at (following-end c.loop-rest.rest.now c.loop-rest.invariant c.in_default.len_below)

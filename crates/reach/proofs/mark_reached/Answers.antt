@@ -1,19 +1,12 @@
 -- `reach::mark_reached` meets its contract.
 use native.Mathlib.Omega.{arith}
-use Rattle.reach.proofs.ReachLaws.{found-most, walking-more, walking-end}
+use Rattle.reach.proofs.Directions.{reached-either}
+use Rattle.reach.proofs.mark_reached.Goals.{in-0, in-1, in_default}
 use Rattle.reach.proofs.mark_reached.Goals as goal
 
-pub loop-h-smaller : goal.loop-h-smaller
-loop-h-smaller c = omega (arith, found-most c.loop-h.invariant.found, c.loop-h-test.true)
-
-pub loop-h-preserved : goal.loop-h-preserved
-loop-h-preserved c =
-    walking-more
-    c.loop-h.invariant
-    c.loop-h-test.true
-    c.leave_vertex-tail.ensures
-    c.leave_vertex-tail.auto.marks
-    c.leave_vertex-tail.auto.queue
-
 pub returns : goal.returns
-returns c = walking-end c.requires.1.0.ends c.requires.0 c.loop-h.invariant c.loop-h-test.false
+returns c = elim c.match-kind.branch [
+  | in-0 w ↦ rw w.in-0.is (rw w.direction-is at c.walk.ensures)
+  | in-1 w ↦ rw w.in-1.is (rw w.direction-is at c.walk.ensures)
+  | in_default w ↦ reached-either c.args.plain c.args.kind (omega arith) (rw w.direction-is at c.walk.ensures)
+]

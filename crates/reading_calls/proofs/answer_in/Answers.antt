@@ -4,4 +4,4 @@ use borrow.Author.Rules.{rules}
 use Rattle.reading_calls.proofs.answer_in.Goals as goal
 
 pub answer_lent-requires : goal.answer_lent-requires
-answer_lent-requires g c = room-to-mark c.requires (search rules)
+answer_lent-requires g c = room-to-mark c.requires.few (search rules)

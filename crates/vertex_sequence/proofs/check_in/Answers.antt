@@ -4,4 +4,4 @@ use borrow.Author.Rules.{rules}
 use Rattle.vertex_sequence.proofs.check_in.Goals as goal
 
 pub check_lent-requires : goal.check_lent-requires
-check_lent-requires g c = room-to-mark c.requires (search rules)
+check_lent-requires g c = room-to-mark c.requires.few (search rules)

@@ -11,6 +11,6 @@ pub returns : goal.returns
 returns c =
     put_mid-sets _ _ _ _
     (part c.args.p.now c.args.start c.args.len)
-    (c.copy_from_slice.ensures.after ∙ part-cut c.args.p.now c.args.start c.args.len)
+    (c.copy.ensures ∙ part-cut c.args.p.now c.args.start c.args.len)
     (omega (arith, part-long c.args.p.now c.args.start c.args.len c.requires.1))
     (omega arith)

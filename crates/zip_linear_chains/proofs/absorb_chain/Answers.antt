@@ -76,3 +76,5 @@ returns c =
     c.put_vertex.ensures
     c.append_nodes.ensures
     c.hand_over.ensures
+    (omega arith)
+    (omega arith)

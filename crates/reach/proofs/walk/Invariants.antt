@@ -2,7 +2,7 @@
 use Prim.Native.Nat.{◌-◌}
 use Rattle.reach.specs.Reach.{direction_number}
 use Rattle.reach.proofs.ReachLaws.{WalkingQueue}
-use Rattle.reach.proofs.mark_reached.Given as goal
+use Rattle.reach.proofs.walk.Given as goal
 
 abbrev pub invariant-loop-h : goal.invariant-loop-h
 invariant-loop-h l = WalkingQueue l.plain (direction_number l.direction) l.m l.n l.es l.s l.initial.marks l.initial.queue l.marks l.queue l.tail l.h

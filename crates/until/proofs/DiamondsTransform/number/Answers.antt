@@ -1,0 +1,8 @@
+-- `until::DiamondsTransform::number` meets its contract.
+use mathlib.Core.Path.{refl}
+use Rattle.defs.specs.Simplify.{rewrite_kind_number}
+use Rattle.until.proofs.DiamondsTransform.number.Goals as goal
+
+pub returns : goal.returns
+unfolding rewrite_kind_number
+returns c = refl
