@@ -6,7 +6,7 @@ ghost use Rattle.memory.specs.Memory.{graph_of, signature_room, Room, Holds, Rea
 ghost use Rattle.rounds.specs.Rounds.{ended, Once, Whole, Full};
 
 use memory::{Held, Work};
-use until::{Diamonds, Merges, Tails, transform_until_complete};
+use until::{Diamonds, Merges, Tails, vertex_transform_until_complete};
 
 // The least common suffix of tails that is split off (`Simplify.min_tail_suffix_len`).
 pub const MIN_TAIL_SUFFIX_LEN: usize = 10;
@@ -50,10 +50,14 @@ pub fn simplify_graph_once(
     ensures { Once least work es.old vs.old p.old result es.new vs.new
         p.new heads.new nexts.new nodes.new map.new }
 {
-    let a = transform_until_complete::<Diamonds>(least, work, es, vs, p, heads, nexts, nodes, map);
-    let b = transform_until_complete::<Tails>(least, a, es, vs, p, heads, nexts, nodes, map);
+    let a = vertex_transform_until_complete::<Diamonds>(
+        least, work, es, vs, p, heads, nexts, nodes, map,
+    );
+    let b = vertex_transform_until_complete::<Tails>(least, a, es, vs, p, heads, nexts, nodes, map);
     let c = splits::split_until_complete(b, es, vs, p, heads, nexts, nodes, map, tried);
-    let d = transform_until_complete::<Merges>(least, c, es, vs, p, heads, nexts, nodes, map);
+    let d = vertex_transform_until_complete::<Merges>(
+        least, c, es, vs, p, heads, nexts, nodes, map,
+    );
     zip_linear_chains::zip_linear_chains(d, es, vs, p, heads, nexts, nodes, map, starts)
 }
 

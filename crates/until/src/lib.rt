@@ -9,13 +9,9 @@ ghost use Rattle.until.specs.Until.{rewrite_of, is_transform, Completed};
 
 use memory::{Held, Work};
 
-// A kind of rewrite that a vertex alone allows. Zips take whole chains, and splits have marks.
+// A kind of rewrite, tried at a vertex.
 pub trait Transform {
     ghost kind: { RewriteKind };
-
-    // The number that the method gives the kind.
-    fn number() -> u32
-        ensures { result ≡ rewrite_kind_number kind };
 
     // The rewrite at v.
     fn try_at(
@@ -33,21 +29,22 @@ pub trait Transform {
         requires { Ready least held es.old vs.old p.old heads.now nexts.now nodes.old map.old × (v < held.n) }
         ensures { Left (rewrite_of kind least (graph_of held es.old vs.old p.old) v) es.old
             vs.old p.old heads.now nexts.now result es.new vs.new p.new };
+}
+
+// A kind that a vertex alone allows. Zips take whole chains, and splits have marks.
+pub trait VertexTransform: Transform {
+    // The number that the method gives the kind.
+    fn number() -> u32
+        ensures { result ≡ rewrite_kind_number Self.kind };
 
     // What each `impl` must prove: a vertex alone allows the kind, which is diamond, tails or merge.
-    ghost allowed: { is_transform kind ≡ true };
+    ghost allowed: { is_transform Self.kind ≡ true };
 }
 
 pub struct Diamonds;
 
 impl Transform for Diamonds {
     ghost kind = { diamond };
-
-    ghost allowed = { refl };
-
-    fn number() -> u32 {
-        1
-    }
 
     fn try_at(
         least: usize,
@@ -65,16 +62,18 @@ impl Transform for Diamonds {
     }
 }
 
+impl VertexTransform for Diamonds {
+    ghost allowed = { refl };
+
+    fn number() -> u32 {
+        1
+    }
+}
+
 pub struct Tails;
 
 impl Transform for Tails {
     ghost kind = { tails };
-
-    ghost allowed = { refl };
-
-    fn number() -> u32 {
-        2
-    }
 
     fn try_at(
         least: usize,
@@ -92,16 +91,18 @@ impl Transform for Tails {
     }
 }
 
+impl VertexTransform for Tails {
+    ghost allowed = { refl };
+
+    fn number() -> u32 {
+        2
+    }
+}
+
 pub struct Merges;
 
 impl Transform for Merges {
     ghost kind = { merge };
-
-    ghost allowed = { refl };
-
-    fn number() -> u32 {
-        4
-    }
 
     fn try_at(
         least: usize,
@@ -116,6 +117,14 @@ impl Transform for Merges {
         v: usize,
     ) -> Option<Held> {
         merge_suffices::try_merge_common_suffices(held, es, vs, p, heads, nexts, nodes, map, v)
+    }
+}
+
+impl VertexTransform for Merges {
+    ghost allowed = { refl };
+
+    fn number() -> u32 {
+        4
     }
 }
 
@@ -169,4 +178,24 @@ pub fn transform_until_complete<T: Transform>(
         };
     }
     w
+}
+
+// The same of a kind that a vertex alone allows: no other can be handed over.
+pub fn vertex_transform_until_complete<T: VertexTransform>(
+    least: usize,
+    work: Work,
+    es: &mut [u32],
+    vs: &mut [u32],
+    p: &mut [u8],
+    heads: &mut [u32],
+    nexts: &mut [u32],
+    nodes: &mut [u32],
+    map: &mut [u32],
+) -> Work
+    requires { Ready least work.held es.old vs.old p.old heads.old nexts.old nodes.old map.old
+        × Counted work.rewrites heads.old }
+    ensures { Completed T.kind least work es.old vs.old p.old result es.new vs.new
+        p.new heads.new nexts.new nodes.new map.new }
+{
+    transform_until_complete::<T>(least, work, es, vs, p, heads, nexts, nodes, map)
 }

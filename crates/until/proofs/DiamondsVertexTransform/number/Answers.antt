@@ -1,7 +1,7 @@
--- `until::MergesTransform::number` meets its contract.
+-- `until::DiamondsVertexTransform::number` meets its contract.
 use mathlib.Core.Path.{refl}
 use Rattle.defs.specs.Simplify.{rewrite_kind_number}
-use Rattle.until.proofs.MergesTransform.number.Goals as goal
+use Rattle.until.proofs.DiamondsVertexTransform.number.Goals as goal
 
 pub returns : goal.returns
 unfolding rewrite_kind_number

@@ -1,7 +1,7 @@
--- `until::DiamondsTransform::number` meets its contract.
+-- `until::MergesVertexTransform::number` meets its contract.
 use mathlib.Core.Path.{refl}
 use Rattle.defs.specs.Simplify.{rewrite_kind_number}
-use Rattle.until.proofs.DiamondsTransform.number.Goals as goal
+use Rattle.until.proofs.MergesVertexTransform.number.Goals as goal
 
 pub returns : goal.returns
 unfolding rewrite_kind_number

@@ -1,7 +1,7 @@
--- `until::TailsTransform::number` meets its contract.
+-- `until::TailsVertexTransform::number` meets its contract.
 use mathlib.Core.Path.{refl}
 use Rattle.defs.specs.Simplify.{rewrite_kind_number}
-use Rattle.until.proofs.TailsTransform.number.Goals as goal
+use Rattle.until.proofs.TailsVertexTransform.number.Goals as goal
 
 pub returns : goal.returns
 unfolding rewrite_kind_number
