@@ -1,1 +1,2 @@
 pub mod UntilLaws
+pub mod OneVertex

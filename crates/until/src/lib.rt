@@ -199,3 +199,6 @@ pub fn vertex_transform_until_complete<T: VertexTransform>(
 {
     transform_until_complete::<T>(least, work, es, vs, p, heads, nexts, nodes, map)
 }
+
+#[cfg(test)]
+mod tests;
