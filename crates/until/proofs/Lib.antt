@@ -1,2 +1,2 @@
 pub mod UntilLaws
-pub mod OneVertex
+mod OneVertex
